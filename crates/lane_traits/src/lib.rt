@@ -1,0 +1,8 @@
+//! The traits at the library's edges: the device that holds a region, and the words of a structure.
+#![tactic(auto)]
+
+mod device;
+mod words;
+
+pub use device::{Device, Done};
+pub use words::{Pair, Reads, Words, WordsRefusal};

@@ -1,0 +1,62 @@
+ghost use Rattle.std.specs.Prelude.{◌≡◌, ◌↔◌, ℕ, OnOk, OnErr, IfOk, Err, []};
+ghost use Rattle.lane_traits.specs.Space.{Space, IsDataWord, IsOwn, IsTaken, AreSpare, written, given};
+
+/// Why the words of a structure weren't changed.
+#[derive(Clone, Copy, Debug, PartialEq, Eq)]
+pub enum WordsRefusal {
+    /// No block can be taken.
+    HeapFull = 1,
+    NoMemory = 2,
+}
+
+/// A key of a map and its value.
+#[derive(Clone, Copy, Debug, PartialEq, Eq)]
+pub struct Pair {
+    pub key: u64,
+    pub value: u64,
+}
+
+/// Words that can be read.
+pub trait Reads {
+    /// The words, whose the blocks are, and which can be taken: none for a plain reader.
+    ghost space: { Self → Space };
+
+    /// The addresses that can be read.
+    ghost readable: { Self → ℕ → Type 0 };
+
+    /// The word at this address. Nothing changes.
+    fn read(&mut self, a: u32) -> u64
+        requires { readable self.old a }
+        ensures value { result ≡ (space self.old).word a }
+        ensures same { space self.new ≡ space self.old }
+        ensures readable { (b : ℕ) → readable self.old b → readable self.new b };
+}
+
+/// The words of one structure. A refusal changes nothing.
+pub trait Words: Reads {
+    /// The word is then this value. It is refused for want of memory alone.
+    fn write(&mut self, a: u32, v: u64) -> Result<(), WordsRefusal>
+        requires { IsDataWord (Self.space self.old).land a }
+        ensures made { OnOk result (Self.space self.new ≡ written a v (Self.space self.old)) }
+        ensures refused { OnErr result (Self.space self.new ≡ Self.space self.old) }
+        ensures memory { OnErr result (result ≡ Err WordsRefusal.NoMemory) };
+
+    /// One of the blocks that can be taken is then the structure's. Its data words are as they were.
+    fn take(&mut self) -> Result<u32, WordsRefusal>
+        ensures full { (result ≡ Err WordsRefusal.HeapFull) ↔ ((Self.space self.old).spare ≡ []) }
+        ensures taken { IfOk result (λ b. IsTaken (Self.space self.old) b (Self.space self.new)) }
+        ensures refused { OnErr result (Self.space self.new ≡ Self.space self.old) };
+
+    /// The block is no longer the structure's, and can't be taken. It is refused for want of memory alone.
+    fn give(&mut self, block: u32) -> Result<(), WordsRefusal>
+        requires { IsOwn (Self.space self.old).land block }
+        ensures given { OnOk result (Self.space self.new ≡ given block (Self.space self.old)) }
+        ensures refused { OnErr result (Self.space self.new ≡ Self.space self.old) }
+        ensures memory { OnErr result (result ≡ Err WordsRefusal.NoMemory) };
+
+    /// The data words of the structure's blocks can be read.
+    ghost own_readable: { (words : Self) (a : ℕ) → IsDataWord (Self.space words).land a → Self.readable words a };
+
+    /// What can be taken are blocks of nobody, each once.
+    ghost spare_apart: { (words : Self) → AreSpare (Self.space words) };
+}

@@ -1,0 +1,5 @@
+pub mod Closing
+pub mod Recovery
+pub mod Recovering
+pub mod Parts
+pub mod Appending

@@ -1,0 +1,35 @@
+//! What holds of a log's records, as functions that do nothing: the clause is the law.
+#![tactic(auto)]
+
+ghost use Rattle.log_laws.specs.Recovery.{RecoveryKeeps, RunsKeep, RecoveryEnds};
+ghost use Rattle.log_laws.specs.Recovering.{EachImageKeeps, StoresGoOn, FencesGoOn};
+
+/// Each step of recovery keeps a sound state sound, with its standing values.
+pub fn recovery_keeps()
+    ensures { RecoveryKeeps }
+{}
+
+/// So do all the steps that were made, wherever a stop came.
+pub fn recoveries_keep()
+    ensures { RunsKeep }
+{}
+
+/// Each image of a region in which recovery is at work is sound, with the standing values with which it began.
+pub fn each_image_keeps()
+    ensures { EachImageKeeps }
+{}
+
+/// A store to a word whose standing value a record decides goes on with recovery.
+pub fn stores_go_on()
+    ensures { StoresGoOn }
+{}
+
+/// A fence goes on with recovery.
+pub fn fences_go_on()
+    ensures { FencesGoOn }
+{}
+
+/// From any sound state the steps of recovery lead to one without records, whose words are the standing ones.
+pub fn recovery_ends()
+    ensures { RecoveryEnds }
+{}

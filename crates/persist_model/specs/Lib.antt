@@ -1,0 +1,15 @@
+pub mod Region
+pub mod Law
+pub mod Pick
+pub mod Progress
+pub mod ProgressLaws
+pub mod Runs
+pub mod Records
+pub mod Standing
+pub mod Order
+pub mod Shape
+pub mod ImageRecords
+pub mod Need
+pub mod State
+pub mod Chain
+pub mod Sound
