@@ -1,5 +1,5 @@
 -- The words of different things are different words.
-use Rattle.std.specs.Prelude.{◌≡◌, ◌⊎◌, ℕ, ◌+◌, ◌*◌, ◌<◌, ◌≤◌}
+use Rattle.std.specs.Prelude.{◌≡◌, ◌⊎◌, ℕ, ◌+◌, ◌<◌, ◌≤◌}
 use Rattle.persist_model.specs.Shape.{Shape, bucket, bucket_size, block, words_of_shape, IsHeapWord, first_bucket, count_buckets, part_of}
 use Rattle.persist_model.specs.ImageRecords.{cell_address}
 use Rattle.region_layout.specs.Layout.{IsAllowed}
