@@ -16,3 +16,5 @@ pub mod Parts
 pub mod Passes
 pub mod Finishing
 pub mod Committing
+pub mod SameLists
+pub mod Views
