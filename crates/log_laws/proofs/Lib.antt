@@ -19,3 +19,5 @@ pub mod Committing
 pub mod Moving
 pub mod MoveNeeds
 pub mod MoveRooms
+pub mod SameLists
+pub mod Views
