@@ -1,0 +1,4 @@
+pub mod PlanEvents
+pub mod Closing
+pub mod ClosedStates
+pub mod ClosingImages
