@@ -1,4 +1,6 @@
 pub mod Deciding
+pub mod Tries
+pub mod Visits
 pub mod Standings
 pub mod Closings
 pub mod Growing
