@@ -1,6 +1,8 @@
 pub mod Deciding
 pub mod Tries
 pub mod Visits
+pub mod AddressLists
+pub mod ListFaults
 pub mod Standings
 pub mod Closings
 pub mod Growing
