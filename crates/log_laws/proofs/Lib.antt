@@ -3,6 +3,7 @@ pub mod Tries
 pub mod Visits
 pub mod AddressLists
 pub mod ListFaults
+pub mod SoundLists
 pub mod Standings
 pub mod Closings
 pub mod Growing

@@ -21,10 +21,10 @@ walk_none w xs e = let on : (w TO_APPEND == 0) ≡ true = grind (arith, nat_test
 pub walk_some : (w : Words) (xs : List ℕ) → w TO_APPEND ≢ 0 → walk_from w xs ≡ xs ++ w TO_APPEND ∷ []
 walk_some w xs ne = let off : (w TO_APPEND == 0) ≡ false = grind (arith, nat_tests) in rw off refl
 
-links_at_none : (w : Words) (a : ℕ) → w a ≡ 0 → links_at w a ≡ []
+pub links_at_none : (w : Words) (a : ℕ) → w a ≡ 0 → links_at w a ≡ []
 links_at_none w a e = let on : (w a == 0) ≡ true = grind (arith, nat_tests) in rw on refl
 
-links_at_some : (w : Words) (a : ℕ) → w a ≢ 0 → links_at w a ≡ next_of (w a) ∷ prev_of (w a) ∷ []
+pub links_at_some : (w : Words) (a : ℕ) → w a ≢ 0 → links_at w a ≡ next_of (w a) ∷ prev_of (w a) ∷ []
 links_at_some w a ne = let off : (w a == 0) ≡ false = grind (arith, nat_tests) in rw off refl
 
 -- the view behind the header
@@ -195,13 +195,13 @@ points_some shape base w visited beyond R next go =
             back_some w _ 0 (chain_from w visited) _ (λ h5.
               tried_some _ R 6 (base + 1) next (decide_or_excepted w TAIL (last_or 0 (chain_from w visited))) (λ h6. go))))))
 
-points_none : (shape : Shape) (base : ℕ) (w : Words) (visited : List ℕ) (beyond : ℕ) (next : ℕ → ℕ → Type 0) → PointsHold shape w visited beyond (Unit {0}) → Excludes next →
+pub points_none : (shape : Shape) (base : ℕ) (w : Words) (visited : List ℕ) (beyond : ℕ) (next : ℕ → ℕ → Type 0) → PointsHold shape w visited beyond (Unit {0}) → Excludes next →
     Excludes (TryPoints shape base w visited beyond next)
 points_none shape base w visited beyond next h ex =
     tried_none _ 6 (base + 4) _ h.0 (tried_none _ 6 base _ h.1.0 (tried_none _ 6 (base + 2) _ h.1.1.0 (tried_none _ 6 (base + 4) _ h.1.1.1.0
         (back_none w 0 (chain_from w visited) _ h.1.1.1.1.0 (tried_none _ 6 (base + 1) next h.1.1.1.1.1.0 ex)))))
 
-points_one : (shape : Shape) (base : ℕ) (w : Words) (visited : List ℕ) (beyond : ℕ) (next others : ℕ → ℕ → Type 0) → AreOne next others →
+pub points_one : (shape : Shape) (base : ℕ) (w : Words) (visited : List ℕ) (beyond : ℕ) (next others : ℕ → ℕ → Type 0) → AreOne next others →
     AreOne (TryPoints shape base w visited beyond next) (TryPoints shape base w visited beyond others)
 points_one shape base w visited beyond next others one =
     tried_one _ _ 6 (base + 4) _ _ (alike _) (tried_one _ _ 6 base _ _ (alike _) (tried_one _ _ 6 (base + 2) _ _ (alike _) (tried_one _ _ 6 (base + 4) _ _ (alike _)
