@@ -4,6 +4,7 @@ pub mod Visits
 pub mod AddressLists
 pub mod ListFaults
 pub mod SoundLists
+pub mod RecordSorting
 pub mod Standings
 pub mod Closings
 pub mod Growing
