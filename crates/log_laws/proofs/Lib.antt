@@ -5,6 +5,8 @@ pub mod AddressLists
 pub mod ListFaults
 pub mod SoundLists
 pub mod RecordSorting
+pub mod LogFaults
+pub mod Soundness
 pub mod Standings
 pub mod Closings
 pub mod Growing

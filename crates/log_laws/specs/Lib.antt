@@ -3,3 +3,4 @@ pub mod Recovery
 pub mod Recovering
 pub mod Parts
 pub mod Appending
+pub mod Soundness
