@@ -7,6 +7,7 @@ pub mod SoundLists
 pub mod RecordSorting
 pub mod LogFaults
 pub mod Soundness
+pub mod Verdicts
 pub mod Standings
 pub mod Closings
 pub mod Growing

@@ -5,7 +5,7 @@ use Rattle.persist_model.specs.Region.{Words}
 use Rattle.persist_model.specs.Shape.{Shape, IsBucketOf, list_words}
 use Rattle.persist_model.specs.ImageRecords.{cell_address}
 use Rattle.persist_model.specs.Chain.{HEAD, TAIL, TO_APPEND, LAST_TAIL, TO_REMOVE, view, out_address, next_of, prev_of, word_behind, word_before, IsLink, Each, AreBuckets, IsAbsent, HasNoRepeats, first_or, last_or, without, Links, IsWholeWalk, IsCutWalk, IsWalk, HasLinks, AddressRule, AppendRule, IsBefore, RemoveRule, IsExcepted, LinksBackBut, ListRules}
-use Rattle.persist_model.specs.Visit.{IsCutAt, IsUncut, IsVisit, HasArrived, walk_from, chain_from, links_of, links_at, address_words}
+use Rattle.persist_model.specs.Visit.{IsCutAt, IsUncut, IsVisit, HasArrived, link_behind, walk_from, chain_from, links_of, links_at, address_words}
 use Rattle.persist_model.specs.Sound.{IsClosedBucket, IsListOf}
 use Rattle.persist_model.specs.Faults.{Tried, TriedEach, TryAddressesOf, TryLinksBack, MayAppend, MayRemove, TryPoints, TryListOf, TryAddresses, TryLists, NoFault}
 use Rattle.log_laws.proofs.Deciding.{IsDecided, decide_equal, decide_not, decide_either, decide_both, decide_implies, decide_as, decide_all, decide_absent}
@@ -42,10 +42,10 @@ unfoldable pub decide_link : (shape : Shape) (p b : ℕ) → IsDecided (IsLink (
 unfolding decide_either decide_equal decide_bucket
 decide_link shape p b = decide_either _ _ (decide_equal b 0) (decide_bucket shape p b)
 
-unfoldable pub decide_arrived : (w : Words) (visited : List ℕ) (beyond : ℕ) → IsDecided (HasArrived w visited beyond)
+unfoldable pub decide_arrived : (w : Words) (visited : List ℕ) → IsDecided (HasArrived w visited)
 unfolding decide_either decide_both decide_equal decide_not
-decide_arrived w visited beyond =
-    decide_either _ _ (decide_both _ _ (decide_equal (w TO_APPEND) 0) (decide_equal beyond 0))
+decide_arrived w visited =
+    decide_either _ _ (decide_both _ _ (decide_equal (w TO_APPEND) 0) (decide_equal (link_behind w visited) 0))
     (decide_both _ _ (decide_not _ (decide_equal (w TO_APPEND) 0)) (decide_equal (last_or 0 visited) (w LAST_TAIL)))
 
 abbrev AppendFacts : Words → ℕ → Type 0
@@ -178,31 +178,31 @@ back_one w before (x ∷ xs) next others one = tried_one _ _ 6 (prev_of x) (TryL
 abbrev pub AddressesHold : Shape → Words → ℕ → List ℕ → Type 0
 AddressesHold shape z p visited = Each (λ b. IsLink (IsBucketOf shape p) (view p z b)) (address_words (view p z) visited)
 
-abbrev pub PointsHold : Shape → Words → List ℕ → ℕ → Type 0 → Type 0
-PointsHold shape w visited beyond R =
-    ((w TO_APPEND ≡ 0) ⊎ (w TO_REMOVE ≡ 0)) × (HasArrived w visited beyond × ((w TO_APPEND ≢ 0 → MayAppend w visited (w TO_APPEND))
+abbrev pub PointsHold : Shape → Words → List ℕ → Type 0 → Type 0
+PointsHold shape w visited R =
+    ((w TO_APPEND ≡ 0) ⊎ (w TO_REMOVE ≡ 0)) × (HasArrived w visited × ((w TO_APPEND ≢ 0 → MayAppend w visited (w TO_APPEND))
         × ((w TO_REMOVE ≢ 0 → MayRemove shape w (chain_from w visited) (w TO_REMOVE)) × (LinksBackBut w 0 (chain_from w visited)
             × (((w TAIL ≡ last_or 0 (chain_from w visited)) ⊎ IsExcepted w TAIL) × R)))))
 
-unfoldable pub points_some : (shape : Shape) (base : ℕ) (w : Words) (visited : List ℕ) (beyond : ℕ) (R : Type 0) (next : ℕ → ℕ → Type 0) → CanFail R next →
-    CanFail (PointsHold shape w visited beyond R) (TryPoints shape base w visited beyond next)
+unfoldable pub points_some : (shape : Shape) (base : ℕ) (w : Words) (visited : List ℕ) (R : Type 0) (next : ℕ → ℕ → Type 0) → CanFail R next →
+    CanFail (PointsHold shape w visited R) (TryPoints shape base w visited next)
 unfolding tried_some back_some decide_either decide_equal decide_arrived decide_implies decide_not decide_may_append decide_may_remove decide_or_excepted
-points_some shape base w visited beyond R next go =
+points_some shape base w visited R next go =
     tried_some _ _ 6 (base + 4) _ (decide_either _ _ (decide_equal (w TO_APPEND) 0) (decide_equal (w TO_REMOVE) 0)) (λ h1.
-      tried_some _ _ 6 base _ (decide_arrived w visited beyond) (λ h2.
+      tried_some _ _ 6 base _ (decide_arrived w visited) (λ h2.
         tried_some _ _ 6 (base + 2) _ (decide_implies _ _ (decide_not _ (decide_equal (w TO_APPEND) 0)) (λ k. decide_may_append w visited (w TO_APPEND))) (λ h3.
           tried_some _ _ 6 (base + 4) _ (decide_implies _ _ (decide_not _ (decide_equal (w TO_REMOVE) 0)) (λ k. decide_may_remove shape w (chain_from w visited) (w TO_REMOVE))) (λ h4.
             back_some w _ 0 (chain_from w visited) _ (λ h5.
               tried_some _ R 6 (base + 1) next (decide_or_excepted w TAIL (last_or 0 (chain_from w visited))) (λ h6. go))))))
 
-pub points_none : (shape : Shape) (base : ℕ) (w : Words) (visited : List ℕ) (beyond : ℕ) (next : ℕ → ℕ → Type 0) → PointsHold shape w visited beyond (Unit {0}) → Excludes next →
-    Excludes (TryPoints shape base w visited beyond next)
-points_none shape base w visited beyond next h ex =
+pub points_none : (shape : Shape) (base : ℕ) (w : Words) (visited : List ℕ) (next : ℕ → ℕ → Type 0) → PointsHold shape w visited (Unit {0}) → Excludes next →
+    Excludes (TryPoints shape base w visited next)
+points_none shape base w visited next h ex =
     tried_none _ 6 (base + 4) _ h.0 (tried_none _ 6 base _ h.1.0 (tried_none _ 6 (base + 2) _ h.1.1.0 (tried_none _ 6 (base + 4) _ h.1.1.1.0
         (back_none w 0 (chain_from w visited) _ h.1.1.1.1.0 (tried_none _ 6 (base + 1) next h.1.1.1.1.1.0 ex)))))
 
-pub points_one : (shape : Shape) (base : ℕ) (w : Words) (visited : List ℕ) (beyond : ℕ) (next others : ℕ → ℕ → Type 0) → AreOne next others →
-    AreOne (TryPoints shape base w visited beyond next) (TryPoints shape base w visited beyond others)
-points_one shape base w visited beyond next others one =
+pub points_one : (shape : Shape) (base : ℕ) (w : Words) (visited : List ℕ) (next others : ℕ → ℕ → Type 0) → AreOne next others →
+    AreOne (TryPoints shape base w visited next) (TryPoints shape base w visited others)
+points_one shape base w visited next others one =
     tried_one _ _ 6 (base + 4) _ _ (alike _) (tried_one _ _ 6 base _ _ (alike _) (tried_one _ _ 6 (base + 2) _ _ (alike _) (tried_one _ _ 6 (base + 4) _ _ (alike _)
         (back_one w 0 (chain_from w visited) _ _ (tried_one _ _ 6 (base + 1) next others (alike _) one)))))

@@ -4,7 +4,7 @@ use Rattle.persist_model.specs.Region.{Words}
 use Rattle.persist_model.specs.Shape.{Shape, IsBucketOf, list_words}
 use Rattle.persist_model.specs.ImageRecords.{cell_address}
 use Rattle.persist_model.specs.Chain.{HEAD, TAIL, TO_APPEND, LAST_TAIL, TO_REMOVE, view, out_address, next_of, prev_of, IsLink, Each, AreBuckets, IsAbsent, HasNoRepeats, last_or, without, Links, IsWholeWalk, IsCutWalk, IsWalk, HasLinks, AddressRule, RemoveRule, IsExcepted, LinksBackBut, ListRules}
-use Rattle.persist_model.specs.Visit.{IsCutAt, IsUncut, IsVisit, HasArrived, walk_from, chain_from, links_of, links_at, address_words}
+use Rattle.persist_model.specs.Visit.{IsCutAt, IsUncut, IsVisit, HasArrived, link_behind, walk_from, chain_from, links_of, links_at, address_words}
 use Rattle.persist_model.specs.Sound.{IsClosedBucket, IsListOf}
 use Rattle.persist_model.specs.Faults.{TriedEach, TryAddressesOf, TryPoints, TryListOf, TryAddresses, TryLists}
 use Rattle.log_laws.proofs.Deciding.{IsDecided, decide_equal}
@@ -26,7 +26,7 @@ named_links : (shape : Shape) (p : ℕ) (w : Words) (a : ℕ) → Each (λ b. Is
 named_links shape p w a h ne = let k = subst (λ l. Each (λ b. IsLink (IsBucketOf shape p) (w b)) l) (links_at_some w a ne) h in (k.0, k.1.0)
 
 pub sound_of_points : (shape : Shape) (p : ℕ) (z : Words) (visited : List ℕ) (visit : IsVisit (IsBucketOf shape p) (view p z) visited) →
-    AddressesHold shape z p visited → PointsHold shape (view p z) visited visit.beyond (Unit {0}) → IsListOf shape p z (chain_from (view p z) visited)
+    AddressesHold shape z p visited → PointsHold shape (view p z) visited (Unit {0}) → IsListOf shape p z (chain_from (view p z) visited)
 sound_of_points shape p z visited visit links points = record {
   rules = record {
     walk = walk_from w visited;
@@ -85,11 +85,11 @@ sound_of_points shape p z visited visit links points = record {
     far : w TO_REMOVE ≢ 0 → (c : ℕ) → 12 < cell_address (w TO_REMOVE) c
     far = far_of (registers TO_REMOVE (omega arith) (omega arith))
 
-    whole : HasArrived w visited visit.beyond → w TO_APPEND ≡ 0 → visit.beyond ≡ 0
+    whole : HasArrived w visited → w TO_APPEND ≡ 0 → link_behind w visited ≡ 0
     whole (inl k) e = k.1
     whole (inr k) e = absurd (k.0 e)
 
-    cut : HasArrived w visited visit.beyond → w TO_APPEND ≢ 0 → last_or 0 visited ≡ w LAST_TAIL
+    cut : HasArrived w visited → w TO_APPEND ≢ 0 → last_or 0 visited ≡ w LAST_TAIL
     cut (inl k) ne = absurd (ne k.0)
     cut (inr k) ne = k.1
 
@@ -102,7 +102,7 @@ sound_of_points shape p z visited visit links points = record {
       | inr ne ↦ inr (record {
         to_append = ne;
         front = visited;
-        beyond = visit.beyond;
+        beyond = link_behind w visited;
         links = visit.links;
         ends = cut points.1.0 ne;
         walk_is = walk_some w visited ne;
@@ -129,12 +129,12 @@ uncut_front w before (x ∷ xs) e absent once =
     ((λ c. each_last (λ z. before ≢ z) x xs absent.0 absent.1 (sym c.1 ∙ sym e)), uncut_front w x xs e once.0 once.1)
 
 -- the walk of a sound list is the one that is visited, and it arrives
-record IsSame (w : Words) (visited : List ℕ) (beyond : ℕ) (walk : List ℕ) : Type 0 where
+record IsSame (w : Words) (visited walk : List ℕ) : Type 0 where
   walk_is : walk_from w visited ≡ walk
-  arrived : HasArrived w visited beyond
+  arrived : HasArrived w visited
 
 visited_walk : (shape : Shape) (p : ℕ) (w : Words) (chain visited : List ℕ) (visit : IsVisit (IsBucketOf shape p) w visited) (rules : ListRules (IsBucketOf shape p) w chain) →
-    IsSame w visited visit.beyond rules.walk
+    IsSame w visited rules.walk
 visited_walk shape p w chain visited visit rules = elim rules.is_walk [ inl k ↦ whole k | inr k ↦ cut k ]
   where
     B : ℕ → Type 0
@@ -143,23 +143,25 @@ visited_walk shape p w chain visited visit rules = elim rules.is_walk [ inl k �
     head : IsLink B (w HEAD)
     head = rules.addresses.registers HEAD (omega arith) (omega arith)
 
-    whole : IsWholeWalk w rules.walk → IsSame w visited visit.beyond rules.walk
+    whole : IsWholeWalk w rules.walk → IsSame w visited rules.walk
     whole k = record {
       walk_is = walk_none w visited k.to_append ∙ same;
-      arrived = inl (k.to_append, sym (links_last w HEAD visited visit.beyond visit.links) ∙ ap (λ ws. w (last_or HEAD ws)) same ∙ links_last w HEAD rules.walk 0 k.links);
+      arrived = inl (k.to_append, ap (λ ws. w (last_or HEAD ws)) same ∙ links_last w HEAD rules.walk 0 k.links);
     }
       where
+        ends : link_behind w rules.walk ≡ 0
+        ends = links_last w HEAD rules.walk 0 k.links
+
         same : visited ≡ rules.walk
         same = visit_one B w visited rules.walk visit (record {
-          beyond = 0;
-          links = k.links;
+          links = subst (λ b. Links w HEAD rules.walk b) (sym ends) k.links;
           buckets = buckets_of B w HEAD rules.walk 0 head k.links rules.addresses.visited;
           no_repeats = rules.no_repeats;
           uncut = uncut_whole w 0 rules.walk k.to_append;
-          stops = inr (inl (no_bucket_0 shape p));
+          stops = inr (inl (λ b. no_bucket_0 shape p (subst B ends b)));
         })
 
-    cut : IsCutWalk w rules.walk → IsSame w visited visit.beyond rules.walk
+    cut : IsCutWalk w rules.walk → IsSame w visited rules.walk
     cut k = record {
       walk_is = walk_some w visited k.to_append ∙ ap (λ ws. ws ++ w TO_APPEND ∷ []) same ∙ sym k.walk_is;
       arrived = inr (k.to_append, ap (last_or 0) same ∙ k.ends);
@@ -173,8 +175,7 @@ visited_walk shape p w chain visited visit rules = elim rules.is_walk [ inl k �
 
         same : visited ≡ k.front
         same = visit_one B w visited k.front visit (record {
-          beyond = k.beyond;
-          links = k.links;
+          links = subst (λ b. Links w HEAD k.front b) (sym (links_last w HEAD k.front k.beyond k.links)) k.links;
           buckets = buckets_of B w HEAD k.front k.beyond head k.links each;
           no_repeats = once;
           uncut = uncut_front w 0 k.front k.ends (links_nonzero w HEAD k.front k.beyond k.links) once;
@@ -228,7 +229,7 @@ addresses_of_sound shape p z chain visited visit h =
     ]
 
 pub points_of_sound : (shape : Shape) (p : ℕ) (z : Words) (chain visited : List ℕ) (visit : IsVisit (IsBucketOf shape p) (view p z) visited) → IsListOf shape p z chain →
-    PointsHold shape (view p z) visited visit.beyond (Unit {0})
+    PointsHold shape (view p z) visited (Unit {0})
 points_of_sound shape p z chain visited visit h = (
   rules.one_at_a_time,
   (same.arrived, ((λ ne. (absent ne, rules.appending ne)), ((λ ne. (subst (λ c. RemoveRule w c (w TO_REMOVE) (w (prev_of (w TO_REMOVE))) (w (next_of (w TO_REMOVE)))) chain_is (rules.removing ne), closed ne)), (
@@ -243,7 +244,7 @@ points_of_sound shape p z chain visited visit h = (
     rules : ListRules (IsBucketOf shape p) w chain
     rules = h.rules
 
-    same : IsSame w visited visit.beyond rules.walk
+    same : IsSame w visited rules.walk
     same = visited_walk shape p w chain visited visit rules
 
     chain_is : chain ≡ chain_from w visited
@@ -270,13 +271,7 @@ abbrev pub HasAddresses : Shape → Words → ℕ → Type 0
 HasAddresses shape z p = AddressesHold shape z p (visit_some shape p (view p z)).0
 
 abbrev pub HasPoints : Shape → Words → ℕ → Type 0
-HasPoints shape z p = PointsHold shape (view p z) (visit_some shape p (view p z)).0 (visit_some shape p (view p z)).1.beyond (Unit {0})
-
-pub sound_parts : (shape : Shape) (z : Words) (ps : List ℕ) → Each (HasAddresses shape z) ps → Each (HasPoints shape z) ps → Each (IsSoundPart shape z) ps
-sound_parts shape z [] h k = tt
-sound_parts shape z (p ∷ ps) h k =
-    let v = visit_some shape p (view p z) in
-    ((chain_from (view p z) v.0, sound_of_points shape p z v.0 v.1 h.0 k.0), sound_parts shape z ps h.1 k.1)
+HasPoints shape z p = PointsHold shape (view p z) (visit_some shape p (view p z)).0 (Unit {0})
 
 unfoldable pub addresses_some : (shape : Shape) (z : Words) (ps : List ℕ) (R : Type 0) (next : ℕ → ℕ → Type 0) → CanFail R next → CanFail (Each (HasAddresses shape z) ps × R) (TryAddresses shape z ps next)
 unfolding visit_some each_some decide_link
@@ -290,16 +285,16 @@ addresses_some shape z (p ∷ ps) R next go =
         ]
 
 -- the facts of a partition with those of the rest behind them
-points_with : (shape : Shape) (w : Words) (visited : List ℕ) (beyond : ℕ) (R : Type 0) → PointsHold shape w visited beyond R → PointsHold shape w visited beyond (Unit {0}) × R
-points_with shape w visited beyond R h = ((h.0, (h.1.0, (h.1.1.0, (h.1.1.1.0, (h.1.1.1.1.0, (h.1.1.1.1.1.0, tt)))))), h.1.1.1.1.1.1)
+points_with : (shape : Shape) (w : Words) (visited : List ℕ) (R : Type 0) → PointsHold shape w visited R → PointsHold shape w visited (Unit {0}) × R
+points_with shape w visited R h = ((h.0, (h.1.0, (h.1.1.0, (h.1.1.1.0, (h.1.1.1.1.0, (h.1.1.1.1.1.0, tt)))))), h.1.1.1.1.1.1)
 
 unfoldable pub lists_some : (shape : Shape) (z : Words) (ps : List ℕ) (R : Type 0) (next : ℕ → ℕ → Type 0) → CanFail R next → CanFail (Each (HasPoints shape z) ps × R) (TryLists shape z ps next)
 unfolding visit_some points_some points_with
 lists_some shape z [] R next go = elim go [ inl r ↦ inl (tt, r) | inr f ↦ inr f ]
 lists_some shape z (p ∷ ps) R next go =
     let v = visit_some shape p (view p z) in
-    elim (points_some shape (list_words p) (view p z) v.0 v.1.beyond (Each (HasPoints shape z) ps × R) (TryLists shape z ps next) (lists_some shape z ps R next go)) [
-      | inl h ↦ (let k = points_with shape (view p z) v.0 v.1.beyond (Each (HasPoints shape z) ps × R) h in inl ((k.0, k.1.0), k.1.1))
+    elim (points_some shape (list_words p) (view p z) v.0 (Each (HasPoints shape z) ps × R) (TryLists shape z ps next) (lists_some shape z ps R next go)) [
+      | inl h ↦ (let k = points_with shape (view p z) v.0 (Each (HasPoints shape z) ps × R) h in inl ((k.0, k.1.0), k.1.1))
       | inr f ↦ inr (f.0, f.1, (v.0, v.1, f.2))
     ]
 
@@ -312,7 +307,7 @@ addresses_none shape z (p ∷ ps) next h ex i a k =
 pub lists_none : (shape : Shape) (z : Words) (ps : List ℕ) (next : ℕ → ℕ → Type 0) → Each (IsSoundPart shape z) ps → Excludes next → Excludes (TryLists shape z ps next)
 lists_none shape z [] next h ex i a k = ex i a k
 lists_none shape z (p ∷ ps) next h ex i a k =
-    points_none shape (list_words p) (view p z) k.0 k.1.beyond (TryLists shape z ps next) (points_of_sound shape p z h.0.0 k.0 k.1 h.0.1) (lists_none shape z ps next h.1 ex) i a k.2
+    points_none shape (list_words p) (view p z) k.0 (TryLists shape z ps next) (points_of_sound shape p z h.0.0 k.0 k.1 h.0.1) (lists_none shape z ps next h.1 ex) i a k.2
 
 pub addresses_one : (shape : Shape) (z : Words) (ps : List ℕ) (next others : ℕ → ℕ → Type 0) → AreOne next others → AreOne (TryAddresses shape z ps next) (TryAddresses shape z ps others)
 addresses_one shape z [] next others one i a j b h k = one i a j b h k
@@ -328,9 +323,6 @@ lists_one shape z [] next others one i a j b h k = one i a j b h k
 lists_one shape z (p ∷ ps) next others one i a j b h k =
     let w : Words = view p z in
     let same = visit_one (IsBucketOf shape p) w k.0 h.0 k.1 h.1 in
-    let beyond : k.1.beyond ≡ h.1.beyond = sym (links_last w HEAD k.0 k.1.beyond k.1.links) ∙ ap (λ xs. w (last_or HEAD xs)) same ∙ links_last w HEAD h.0 h.1.beyond h.1.links in
-    let moved : TryPoints shape (list_words p) w h.0 k.1.beyond (TryLists shape z ps others) j b =
-        subst (λ xs. TryPoints shape (list_words p) w xs k.1.beyond (TryLists shape z ps others) j b) same k.2 in
-    let further : TryPoints shape (list_words p) w h.0 h.1.beyond (TryLists shape z ps others) j b =
-        subst (λ x. TryPoints shape (list_words p) w h.0 x (TryLists shape z ps others) j b) beyond moved in
-    points_one shape (list_words p) w h.0 h.1.beyond (TryLists shape z ps next) (TryLists shape z ps others) (lists_one shape z ps next others one) i a j b h.2 further
+    let moved : TryPoints shape (list_words p) w h.0 (TryLists shape z ps others) j b =
+        subst (λ xs. TryPoints shape (list_words p) w xs (TryLists shape z ps others) j b) same k.2 in
+    points_one shape (list_words p) w h.0 (TryLists shape z ps next) (TryLists shape z ps others) (lists_one shape z ps next others one) i a j b h.2 moved

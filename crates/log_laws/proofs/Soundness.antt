@@ -13,8 +13,10 @@ use Rattle.persist_model.specs.Faults.{IsShapeFault, IsListFault, IsLogFault, pa
 use Rattle.log_laws.specs.Soundness.{SoundOrFaulty, SoundHasNoFault, FirstFaultIsOne, StandingIsOne}
 use Rattle.log_laws.proofs.Deciding.{IsDecided, decide_equal, decide_less, decide_at_most, decide_either, decide_both, decide_implies}
 use Rattle.log_laws.proofs.Tries.{CanFail, Excludes, AreOne, alike, none_fails, none_excluded, none_one, tried_some, tried_none, tried_one, each_some, each_none, each_one, each_alike}
+use Rattle.persist_model.specs.Visit.{chain_from}
+use Rattle.log_laws.proofs.Visits.{visit_some}
 use Rattle.log_laws.proofs.AddressLists.{each_in_range, of_range}
-use Rattle.log_laws.proofs.SoundLists.{chain_is_one, IsSoundPart, HasAddresses, HasPoints, sound_parts, addresses_some, lists_some, addresses_none, lists_none, addresses_one, lists_one}
+use Rattle.log_laws.proofs.SoundLists.{chain_is_one, IsSoundPart, HasAddresses, HasPoints, sound_of_points, addresses_some, lists_some, addresses_none, lists_none, addresses_one, lists_one}
 use Rattle.log_laws.proofs.RecordLists.{records_one}
 use Rattle.log_laws.proofs.RecordSorting.{log_of, records_some}
 use Rattle.log_laws.proofs.LogFaults.{decide_three, LogHolds, log_some, sound_of_holds, holds_of_sound, log_none, log_one}
@@ -85,9 +87,6 @@ unfoldable pub parts_some : (shape : Shape) (z : Words) → CanFail (ListsHold s
 unfolding addresses_some lists_some none_fails
 parts_some shape z = addresses_some shape z (parts shape) _ _ (lists_some shape z (parts shape) (Unit {0}) _ none_fails)
 
-pub parts_sound : (shape : Shape) (z : Words) → ListsHold shape z → (p : ℕ) → p < shape.partitions → IsSoundPart shape z p
-parts_sound shape z h p lt = of_range (IsSoundPart shape z) 0 shape.partitions (sound_parts shape z (parts shape) h.0 h.1.0) p (omega arith) (omega (arith, lt))
-
 each_part_sound : (shape : Shape) (w : Words) (chains : ℕ → List ℕ) → HaveChains shape w chains → Each (IsSoundPart shape (log_words shape w)) (parts shape)
 each_part_sound shape w chains h = each_in_range (IsSoundPart shape (log_words shape w)) 0 shape.partitions (λ p le lt. (chains p, h p (omega (arith, lt))))
 
@@ -99,22 +98,17 @@ parts_one shape z = addresses_one shape z (parts shape) _ _ (lists_one shape z (
 
 -- ---- the state of an image
 
--- the chains that the sound lists have, and none behind the last partition
-unfoldable pub chain_by : (shape : Shape) (z : Words) (p : ℕ) → ListsHold shape z → IsDecided (p < shape.partitions) → List ℕ
-chain_by shape z p h (inl lt) = (parts_sound shape z h p lt).0
-chain_by shape z p h (inr nl) = []
+-- the chains that follow from what the walks visit
+unfoldable pub chains_in : (shape : Shape) (z : Words) → ℕ → List ℕ
+unfolding visit_some
+chains_in shape z p = chain_from (view p z) (visit_some shape p (view p z)).0
 
-unfoldable pub chains_in : (shape : Shape) (z : Words) → ListsHold shape z → ℕ → List ℕ
-unfolding chain_by decide_less
-chains_in shape z h p = chain_by shape z p h (decide_less p shape.partitions)
-
-pub chains_are : (shape : Shape) (z : Words) (h : ListsHold shape z) (p : ℕ) → p < shape.partitions → IsListOf shape p z (chains_in shape z h p)
+pub chains_are : (shape : Shape) (z : Words) → ListsHold shape z → (p : ℕ) → p < shape.partitions → IsListOf shape p z (chains_in shape z p)
 unfolding chains_in
-chains_are shape z h p lt = by (decide_less p shape.partitions)
-  where
-    by : (d : IsDecided (p < shape.partitions)) → IsListOf shape p z (chain_by shape z p h d)
-    by (inl k) = (parts_sound shape z h p k).1
-    by (inr nl) = absurd (nl lt)
+chains_are shape z h p lt =
+    let v = visit_some shape p (view p z) in
+    sound_of_points shape p z v.0 v.1 (of_range (HasAddresses shape z) 0 shape.partitions h.0 p (omega arith) (omega (arith, lt)))
+    (of_range (HasPoints shape z) 0 shape.partitions h.1.0 p (omega arith) (omega (arith, lt)))
 
 unfoldable pub state_with : (shape : Shape) (w : Words) (chains : ℕ → List ℕ) → State
 unfolding log_of
@@ -172,7 +166,7 @@ unfoldable pub list_fault : (size : ℕ) (w : Words) → IsShape size w → CanF
 unfolding log_fault log_some state_with chains_in
 list_fault size w shape (inr f) = inr (f.0, f.1, in_lists shape f.2)
 list_fault size w shape (inl h) =
-    let chains = chains_in (shape_of w) (log_words (shape_of w) w) h in
+    let chains = chains_in (shape_of w) (log_words (shape_of w) w) in
     let s = state_with (shape_of w) w chains in
     log_fault size w shape s (has_state_with (shape_of w) w chains (chains_are (shape_of w) (log_words (shape_of w) w) h)) (log_some (shape_of w) s)
 

@@ -10,13 +10,12 @@ use Rattle.log_laws.proofs.Deciding.{IsDecided, decide_equal, decide_not, decide
 
 -- what the walk visits from here on: seen are the buckets that it visited, the last of them is before, and from names the next
 pub record IsRest (B : ℕ → Type 0) (w : Words) (seen : List ℕ) (before from : ℕ) (xs : List ℕ) : Type 0 where
-  pub beyond : ℕ
-  pub links : Links w from xs beyond
+  pub links : Links w from xs (w (last_or from xs))
   pub buckets : AreBuckets B xs
   pub no_repeats : HasNoRepeats xs
   pub fresh : Each (λ x. IsAbsent x seen) xs
   pub uncut : IsUncut w before xs
-  pub stops : IsCutAt w (last_or before xs) ⊎ (B beyond → ⊥) ⊎ IsAmong seen beyond ⊎ IsAmong xs beyond
+  pub stops : IsCutAt w (last_or before xs) ⊎ (B (w (last_or from xs)) → ⊥) ⊎ IsAmong seen (w (last_or from xs)) ⊎ IsAmong xs (w (last_or from xs))
 
 -- ---- some
 
@@ -54,18 +53,16 @@ stops_on B w seen x last beyond xs (inr (inr (inr m))) = inr (inr (inr (inr m)))
 pub rest_on : (B : ℕ → Type 0) (w : Words) (seen : List ℕ) (before from : ℕ) (xs : List ℕ) → (B 0 → ⊥) → (IsCutAt w before → ⊥) → B (w from) → IsAbsent (w from) seen →
     IsRest B w (w from ∷ seen) (w from) (w from) xs → IsRest B w seen before from (w from ∷ xs)
 rest_on B w seen before from xs nonzero uncut b new h = record {
-  beyond = h.beyond;
   links = (refl, (λ e. nonzero (subst B e b)), h.links);
   buckets = (b, h.buckets);
   no_repeats = ((each_flipped (w from) seen xs h.fresh).0, h.no_repeats);
   fresh = (new, (each_flipped (w from) seen xs h.fresh).1);
   uncut = (uncut, h.uncut);
-  stops = stops_on B w seen (w from) (last_or (w from) xs) h.beyond xs h.stops;
+  stops = stops_on B w seen (w from) (last_or (w from) xs) (w (last_or (w from) xs)) xs h.stops;
 }
 
 pub rest_none : (B : ℕ → Type 0) (w : Words) (seen : List ℕ) (before from : ℕ) → IsCutAt w before ⊎ (B (w from) → ⊥) ⊎ IsAmong seen (w from) → IsRest B w seen before from []
 rest_none B w seen before from h = record {
-  beyond = w from;
   links = refl;
   buckets = tt;
   no_repeats = tt;
@@ -119,7 +116,6 @@ rest_some B w decide nonzero (suc n) left seen before from le all = elim (decide
 
 rest_back : (B : ℕ → Type 0) (w : Words) (seen : List ℕ) (before from x : ℕ) (xs : List ℕ) → IsRest B w seen before from (x ∷ xs) → IsRest B w (x ∷ seen) x x xs
 rest_back B w seen before from x xs h = record {
-  beyond = h.beyond;
   links = h.links.2;
   buckets = h.buckets.1;
   no_repeats = h.no_repeats.1;
@@ -132,8 +128,8 @@ rest_back B w seen before from x xs h = record {
     back [] a f = tt
     back (y ∷ ys) a f = (((λ e. a.0 (sym e)), f.0), back ys a.1 f.1)
 
-    stops_back : IsCutAt w (last_or x xs) ⊎ (B h.beyond → ⊥) ⊎ IsAmong seen h.beyond ⊎ IsAmong (x ∷ xs) h.beyond →
-        IsCutAt w (last_or x xs) ⊎ (B h.beyond → ⊥) ⊎ IsAmong (x ∷ seen) h.beyond ⊎ IsAmong xs h.beyond
+    stops_back : IsCutAt w (last_or x xs) ⊎ (B (w (last_or x xs)) → ⊥) ⊎ IsAmong seen (w (last_or x xs)) ⊎ IsAmong (x ∷ xs) (w (last_or x xs)) →
+        IsCutAt w (last_or x xs) ⊎ (B (w (last_or x xs)) → ⊥) ⊎ IsAmong (x ∷ seen) (w (last_or x xs)) ⊎ IsAmong xs (w (last_or x xs))
     stops_back (inl c) = inl c
     stops_back (inr (inl n)) = inr (inl n)
     stops_back (inr (inr (inl m))) = inr (inr (inl (inr m)))
@@ -144,10 +140,10 @@ rest_back B w seen before from x xs h = record {
 no_more : (B : ℕ → Type 0) (w : Words) (seen : List ℕ) (before from y : ℕ) (ys : List ℕ) → IsRest B w seen before from [] → IsRest B w seen before from (y ∷ ys) → ⊥
 no_more B w seen before from y ys h k = by h.stops
   where
-    same : h.beyond ≡ y
-    same = sym h.links ∙ k.links.0
+    same : w from ≡ y
+    same = k.links.0
 
-    by : IsCutAt w before ⊎ (B h.beyond → ⊥) ⊎ IsAmong seen h.beyond ⊎ IsAmong [] h.beyond → ⊥
+    by : IsCutAt w before ⊎ (B (w from) → ⊥) ⊎ IsAmong seen (w from) ⊎ IsAmong [] (w from) → ⊥
     by (inl c) = k.uncut.0 c
     by (inr (inl n)) = n (subst B (sym same) k.buckets.0)
     by (inr (inr (inl m))) = absent_not seen y k.fresh.0 (subst (λ b. IsAmong seen b) same m)
@@ -171,7 +167,6 @@ none_seen (x ∷ xs) = (tt, none_seen xs)
 
 pub visit_of_rest : (B : ℕ → Type 0) (w : Words) (xs : List ℕ) → IsRest B w [] 0 HEAD xs → IsVisit B w xs
 visit_of_rest B w xs h = record {
-  beyond = h.beyond;
   links = h.links;
   buckets = h.buckets;
   no_repeats = h.no_repeats;
@@ -181,7 +176,6 @@ visit_of_rest B w xs h = record {
 
 pub rest_of_visit : (B : ℕ → Type 0) (w : Words) (xs : List ℕ) → IsVisit B w xs → IsRest B w [] 0 HEAD xs
 rest_of_visit B w xs h = record {
-  beyond = h.beyond;
   links = h.links;
   buckets = h.buckets;
   no_repeats = h.no_repeats;

@@ -80,18 +80,17 @@ MayRemove shape w chain n = RemoveRule w chain n (w (prev_of n)) (w (next_of n))
 
 -- The list of a partition, whose view is w and whose HEAD stands at base: not both TO_APPEND and TO_REMOVE are set; the walk
 -- arrives; what is put in and what is taken out may be; and each PREV and TAIL name the bucket before.
-abbrev pub TryPoints : Shape → ℕ → Words → List ℕ → ℕ → (ℕ → ℕ → Type 0) → ℕ → ℕ → Type 0
-TryPoints shape base w visited beyond next =
+abbrev pub TryPoints : Shape → ℕ → Words → List ℕ → (ℕ → ℕ → Type 0) → ℕ → ℕ → Type 0
+TryPoints shape base w visited next =
     Tried ((w TO_APPEND ≡ 0) ⊎ (w TO_REMOVE ≡ 0)) 6 (base + 4) (
-    Tried (HasArrived w visited beyond) 6 base (
+    Tried (HasArrived w visited) 6 base (
     Tried (w TO_APPEND ≢ 0 → MayAppend w visited (w TO_APPEND)) 6 (base + 2) (
     Tried (w TO_REMOVE ≢ 0 → MayRemove shape w (chain_from w visited) (w TO_REMOVE)) 6 (base + 4) (
     TryLinksBack w 0 (chain_from w visited) (
     Tried ((w TAIL ≡ last_or 0 (chain_from w visited)) ⊎ IsExcepted w TAIL) 6 (base + 1) next)))))
 
 abbrev pub TryListOf : Shape → Words → ℕ → (ℕ → ℕ → Type 0) → ℕ → ℕ → Type 0
-TryListOf shape w p next fault a = (visited : List ℕ) × (visit : IsVisit (IsBucketOf shape p) (view p w) visited) ×
-    TryPoints shape (list_words p) (view p w) visited visit.beyond next fault a
+TryListOf shape w p next fault a = (visited : List ℕ) × IsVisit (IsBucketOf shape p) (view p w) visited × TryPoints shape (list_words p) (view p w) visited next fault a
 
 abbrev pub TryAddresses : Shape → Words → List ℕ → (ℕ → ℕ → Type 0) → ℕ → ℕ → Type 0
 TryAddresses shape w [] next = next
