@@ -8,6 +8,7 @@ pub mod RecordSorting
 pub mod LogFaults
 pub mod Soundness
 pub mod Verdicts
+mod ExampleImages
 pub mod Standings
 pub mod Closings
 pub mod Growing
