@@ -7,6 +7,7 @@ pub mod SoundLists
 pub mod RecordSorting
 pub mod LogFaults
 pub mod Soundness
+pub mod Naming
 pub mod Verdicts
 mod ExampleImages
 pub mod Standings

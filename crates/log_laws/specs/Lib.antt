@@ -4,3 +4,4 @@ pub mod Recovering
 pub mod Parts
 pub mod Appending
 pub mod Soundness
+pub mod Naming

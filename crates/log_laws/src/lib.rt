@@ -2,6 +2,7 @@
 #![tactic(auto)]
 
 ghost use Rattle.log_laws.specs.Soundness.{SoundOrFaulty, SoundHasNoFault, FirstFaultIsOne, StandingIsOne};
+ghost use Rattle.log_laws.specs.Naming.{StackIsUnnamed};
 ghost use Rattle.log_laws.specs.Recovery.{RecoveryKeeps, RunsKeep, RecoveryEnds};
 ghost use Rattle.log_laws.specs.Recovering.{EachImageKeeps, StoresGoOn, FencesGoOn};
 
@@ -23,6 +24,11 @@ pub fn first_fault_is_one()
 /// A sound image determines the standing value of each of its words.
 pub fn standing_is_one()
     ensures { StandingIsOne }
+{}
+
+/// In a sound state the stack of a running transaction is the list of its updates that no compensation names.
+pub fn stack_is_unnamed()
+    ensures { StackIsUnnamed }
 {}
 
 /// Each step of recovery keeps a sound state sound, with its standing values.
