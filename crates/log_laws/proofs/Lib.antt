@@ -9,7 +9,6 @@ pub mod LogFaults
 pub mod Soundness
 pub mod Naming
 pub mod Verdicts
-mod ExampleImages
 pub mod Standings
 pub mod Closings
 pub mod Growing
@@ -19,7 +18,6 @@ pub mod Needs
 pub mod ClosingNeeds
 pub mod Keeping
 pub mod Applying
-pub mod Examples
 pub mod RecordLists
 pub mod Clearing
 pub mod Recovering
@@ -27,3 +25,4 @@ pub mod Parts
 pub mod Passes
 pub mod Finishing
 pub mod Committing
+mod Examples

@@ -6,7 +6,9 @@ use Rattle.persist_model.specs.Records.{Log}
 use Rattle.persist_model.specs.Shape.{Shape, shape_of, log_words, heap_words, IsShape}
 use Rattle.persist_model.specs.State.{State, IsSoundState}
 use Rattle.persist_model.specs.ImageRecords.{AreRecords}
-use Rattle.persist_model.specs.Sound.{HaveChains, room_of, HasState, IsSound}
+use Rattle.persist_model.specs.Sound.{HaveChains, room_of, HasState, IsSound, StandsIn}
+use Rattle.persist_model.specs.Standing.{Stands}
+use Rattle.log_laws.proofs.Standings.{stands_some}
 use Rattle.persist_model.specs.Faults.{IsShapeFault, IsListFault, IsLogFault, IsFirstFault, in_header, in_lists, in_log}
 use Rattle.log_laws.proofs.Tries.{CanFail}
 use Rattle.log_laws.proofs.RecordSorting.{log_of, records_some}
@@ -107,3 +109,14 @@ is_sound size w shape log is header lists log_is e = record {
   where
     has : HasState shape w (state_at shape w log)
     has = has_state_at shape w log lists log_is
+
+-- ---- standing words
+
+-- v is what the standing value computes to
+pub stands_at : (size : ℕ) (w : Words) (shape : Shape) (log : Log) (a v : ℕ) → shape_of w ≡ shape → ListsAreSound shape w → LogIs shape w log →
+    (stands_some shape.policy log (heap_words shape w) a).0 ≡ v → StandsIn w a v
+stands_at size w shape log a v is lists log_is e = (
+  state_at shape w log,
+  subst (λ s. HasState s w (state_at shape w log)) (sym is) (has_state_at shape w log lists log_is),
+  subst (λ s. Stands s.policy log (heap_words shape w) a v) (sym is) (subst (λ x. Stands shape.policy log (heap_words shape w) a x) e (stands_some shape.policy log (heap_words shape w) a).1),
+)
