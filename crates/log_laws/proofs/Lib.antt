@@ -26,3 +26,6 @@ pub mod Passes
 pub mod Finishing
 pub mod Committing
 mod Examples
+pub mod Moving
+pub mod MoveNeeds
+pub mod MoveRooms

@@ -5,3 +5,5 @@ pub mod Parts
 pub mod Appending
 pub mod Soundness
 pub mod Naming
+pub mod Moves
+pub mod MoveRoom
