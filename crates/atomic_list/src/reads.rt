@@ -53,7 +53,7 @@ fn read_after<W: Look>(words: &W, node: u32) -> u32
     linked_after(words, node)
 }
 
-/// The chain's next bucket, the first for 0, and 0 at the end.
+/// The chain's next bucket, the first for 0, and 0 at the end, in all words that have the same log.
 pub fn after<W: Look>(words: &W, node: u32) -> u32
     requires list { HasList (length (W.words words.now)) (slice_index (W.words words.now)) }
     requires node { IsInChain (slice_index (W.words words.now)) node }
