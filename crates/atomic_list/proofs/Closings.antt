@@ -154,9 +154,13 @@ insertion_removes_none shape part w v xs a k can r =
         AreAllowed (λ u. u ≡ 0) 12 (PStore node 0 ∷ PStore (node + 1) tail ∷ PStore 11 tail ∷ Fence ∷ PStore 10 node ∷ Fence ∷ PStore link node ∷ PStore 9 node ∷ Fence ∷ PStore 10 0 ∷ Fence ∷ [])
     allowed node link tail n1 n2 n3 = (
       (λ e. absurd (n1 e)),
-      ((λ e. absurd (n2 e)),
-      ((λ e. absurd (omega arith)),
-      (tt, ((λ e. absurd (omega arith)), (tt, ((λ e. absurd (n3 e)), ((λ e. absurd (omega arith)), (tt, ((λ e. absurd (omega arith)), (tt, tt)))))))))),
+      (
+        (λ e. absurd (n2 e)),
+        (
+          (λ e. absurd (omega arith)),
+          (tt, ((λ e. absurd (omega arith)), (tt, ((λ e. absurd (n3 e)), ((λ e. absurd (omega arith)), (tt, ((λ e. absurd (omega arith)), (tt, tt)))))))),
+        ),
+      ),
     )
 
 pub removed_stays_closed : (shape : Shape) (part : ℕ) (w v : Words) (front rest : List ℕ) (r : Remove) (k : ℕ) → CanRemove shape part w front rest r →

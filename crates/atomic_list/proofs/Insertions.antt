@@ -153,9 +153,19 @@ module _ (shape : Shape) (part : ℕ) (w : Words) (xs : List ℕ) (a : Insert) (
   insertion_is_on_list =
       let five = register shape part in
       let link = link_word shape part (word_behind a.tail) a_link.high in
-      list_plan shape part (insertion a)
-      (next_word shape part a.node can.bucket,
-      (prev_word shape part a.node can.bucket,
-      (five 11 (omega arith) (omega arith),
-      (tt, (five 10 (omega arith) (omega arith),
-      (tt, (link, (five 9 (omega arith) (omega arith), (tt, (five 10 (omega arith) (omega arith), (tt, tt)))))))))))
+      list_plan shape part (insertion a) (
+        next_word shape part a.node can.bucket,
+        (
+          prev_word shape part a.node can.bucket,
+          (
+            five 11 (omega arith) (omega arith),
+            (
+              tt,
+              (
+                five 10 (omega arith) (omega arith),
+                (tt, (link, (five 9 (omega arith) (omega arith), (tt, (five 10 (omega arith) (omega arith), (tt, tt)))))),
+              ),
+            ),
+          ),
+        ),
+      )
