@@ -1,7 +1,7 @@
 -- The definitions on a small region: four buckets of one cell, at 32, 48, 64 and 80.
-use Rattle.std.proofs.Common.{◌≡◌, ◌≢◌, inl, inr, ℕ, ◌+◌, ◌*◌, ◌<◌, ◌≤◌, ◌==◌, if◌then◌else◌, List, [], ◌∷◌, ◌++◌, Some, refl, arith}
-use Rattle.std.specs.Prelude.{slice_get, None}
-use Rattle.persist_model.specs.declared.event.Event.TheVariants.{PStore, Fence}
+use Rattle.std.proofs.Common.{◌≡◌, inl, inr, ℕ, ◌==◌, if◌then◌else◌, [], ◌∷◌, Some, refl, arith}
+use Rattle.std.specs.Prelude.{slice_get}
+use Rattle.persist_model.specs.declared.event.Event.TheVariants.{PStore}
 use Rattle.persist_model.specs.Region.{Words}
 use Rattle.persist_model.specs.Shape.{Shape, IsBucketOf}
 use Rattle.atomic_list.specs.declared.plans.Insert.{Insert}

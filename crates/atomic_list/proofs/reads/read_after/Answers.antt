@@ -1,5 +1,5 @@
 use Rattle.std.specs.Prelude.{slice_index, length}
-use Rattle.std.proofs.Common.{inl, inr, arith, sym, ◌∙◌, ap}
+use Rattle.std.proofs.Common.{arith, sym, ◌∙◌}
 use Rattle.atomic_list.proofs.Reading.{readable, finds, reads}
 use Rattle.atomic_list.proofs.reads.read_after.Goals as goal
 
