@@ -1,6 +1,7 @@
 //! What holds of every layout, as functions that do nothing: the clause is the law.
 ghost use Rattle.region_layout.specs.Layout.{layout_shape, IsAllowed};
 ghost use Rattle.region_layout.specs.Apart.{WordsAreApart, PartsAreApart};
+ghost use Rattle.region_layout.specs.Fresh.{FreshIsEmpty};
 
 use crate::layout::Layout;
 
@@ -17,4 +18,9 @@ pub fn words_are_apart()
 /// Each bucket is in one partition of the log.
 pub fn parts_are_apart()
     ensures { PartsAreApart }
+{}
+
+/// A fresh region is sound: it has its layout's shape, empty chains, no record and all room.
+pub fn fresh_regions_are_empty()
+    ensures { FreshIsEmpty }
 {}
