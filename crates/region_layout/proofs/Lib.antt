@@ -1,2 +1,5 @@
 pub mod Places
 pub mod Parts
+pub mod Empty
+pub mod Cells
+pub mod Headers
