@@ -1,1 +1,3 @@
 pub mod FiniteMap
+pub mod HeapBlocks
+pub mod TreeMap
