@@ -3,3 +3,9 @@ pub mod Apart
 pub mod Fresh
 pub mod Cell
 pub mod Reading
+pub mod FiniteMap
+pub mod HeapBlocks
+pub mod TreeMap
+pub mod CellsMap
+pub mod HashMap
+pub mod Contents
