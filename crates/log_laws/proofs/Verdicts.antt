@@ -3,17 +3,21 @@ use Rattle.std.proofs.Common.{◌≡◌, ◌⊎◌, inl, inr, ℕ, ◌<◌, Bool
 use Rattle.std.proofs.lemmas.Bool.{eqb-true}
 use Rattle.persist_model.specs.Region.{Words}
 use Rattle.persist_model.specs.Records.{Log}
-use Rattle.persist_model.specs.Shape.{Shape, shape_of, log_words, heap_words, IsShape}
+use Rattle.persist_model.specs.Shape.{Shape, shape_of, log_words, heap_words, IsBucketOf, IsShape}
 use Rattle.persist_model.specs.State.{State, IsSoundState}
 use Rattle.persist_model.specs.ImageRecords.{AreRecords}
-use Rattle.persist_model.specs.Sound.{HaveChains, room_of, HasState, IsSound, StandsIn}
+use Rattle.persist_model.specs.Sound.{IsListOf, HasChain, room_of, HasState, IsSound, StandsIn}
+use Rattle.persist_model.specs.Chain.{view, Chain}
+use Rattle.persist_model.specs.Visit.{IsVisit}
+use Rattle.log_laws.proofs.Visits.{visit_some}
+use Rattle.log_laws.proofs.SoundLists.{chain_is_one}
 use Rattle.persist_model.specs.Standing.{Stands}
 use Rattle.log_laws.proofs.Standings.{stands_some}
 use Rattle.persist_model.specs.Faults.{IsShapeFault, IsListFault, IsLogFault, IsFirstFault, in_header, in_lists, in_log}
 use Rattle.log_laws.proofs.Tries.{CanFail}
 use Rattle.log_laws.proofs.RecordSorting.{log_of, records_some}
 use Rattle.log_laws.proofs.LogFaults.{LogHolds, log_some, sound_of_holds}
-use Rattle.log_laws.proofs.Soundness.{ShapeHolds, shape_some, shape_of_holds, ListsHold, parts_some, chains_in, chains_are, state_gates}
+use Rattle.log_laws.proofs.Soundness.{ShapeHolds, shape_some, shape_of_holds, ListsHold, parts_some, chains_in, chains_are, state_gates, sound_has_no_fault}
 
 -- an address and the value that stands there
 abbrev pub word : ℕ → ℕ → ℕ × ℕ
@@ -120,3 +124,23 @@ stands_at size w shape log a v is lists log_is e = (
   subst (λ s. HasState s w (state_at shape w log)) (sym is) (has_state_at shape w log lists log_is),
   subst (λ s. Stands s.policy log (heap_words shape w) a v) (sym is) (subst (λ x. Stands shape.policy log (heap_words shape w) a x) e (stands_some shape.policy log (heap_words shape w) a).1),
 )
+
+-- ---- chains and records
+
+pub chain_at : (w : Words) (shape : Shape) (p : ℕ) (chain : List ℕ) → ListsAreSound shape w → p < shape.partitions → chains_in shape (log_words shape w) p ≡ chain → HasChain shape w p chain
+chain_at w shape p chain lists lt e =
+    subst (IsListOf shape p (log_words shape w)) e (chains_are shape (log_words shape w) (from_holds (ListsHold shape (log_words shape w)) (IsListFault shape (log_words shape w)) (parts_some shape (log_words shape w)) lists) p lt)
+
+-- a sound list's chain is a chain
+pub chain_of_list : (shape : Shape) (p : ℕ) (z : Words) (chain : List ℕ) → IsListOf shape p z chain → Chain (view p z) chain
+chain_of_list shape p z chain h = record { walk = h.rules.walk; is_walk = h.rules.is_walk; no_repeats = h.rules.no_repeats; chain_is = h.rules.chain_is }
+
+-- no other list is the chain
+pub no_other_chain : (w : Words) (shape : Shape) (p : ℕ) (chain other : List ℕ) → HasChain shape w p chain → (chain ≡ other → ⊥) → HasChain shape w p other → ⊥
+no_other_chain w shape p chain other h apart k = apart (chain_is_one shape p (view p (log_words shape w)) chain other h.rules k.rules)
+
+pub sound_has_no : (size : ℕ) (w : Words) (i a : ℕ) → IsFirstFault size w i a → IsSound size w → ⊥
+sound_has_no size w i a f h = sound_has_no_fault size w i a h f
+
+pub visit_at : (shape : Shape) (p : ℕ) (w : Words) (xs : List ℕ) → (visit_some shape p w).0 ≡ xs → IsVisit (IsBucketOf shape p) w xs
+visit_at shape p w xs e = subst (IsVisit (IsBucketOf shape p) w) e (visit_some shape p w).1
