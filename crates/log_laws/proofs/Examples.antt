@@ -5,7 +5,7 @@ mod FirstScript
 mod HeaderFaults
 mod Chains
 mod ChainFaults
-
-
-
-
+mod LogFaults
+mod TwoParts
+mod Transactions
+mod StandingWords
