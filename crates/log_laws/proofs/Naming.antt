@@ -1,11 +1,10 @@
 -- The stack of a running transaction is the list of its updates that no compensation names.
-use Rattle.std.proofs.Common.{◌≡◌, ◌≢◌, ◌⊎◌, inl, inr, ℕ, Bool, true, false, not, ◌==◌, ◌&&◌, ◌||◌, if◌then◌else◌, [], ◌∷◌, refl, sym, ap, ◌∙◌, subst, arith}
+use Rattle.std.proofs.Common.{◌≡◌, ◌≢◌, inl, inr, ℕ, Bool, true, false, not, ◌==◌, ◌&&◌, ◌||◌, if◌then◌else◌, [], ◌∷◌, refl, sym, ap, ◌∙◌, subst, arith}
 use Rattle.std.proofs.lemmas.Bool.Decides.{eqb_tells, nat_tests}
-use Rattle.persist_model.specs.Records.{Record, Log, IsAmong, Has, HasNo, IsUpdate, IsCompensation, IsRunning}
+use Rattle.persist_model.specs.Records.{Record, Log, IsAmong, Has, HasNo, IsCompensation, IsRunning}
 use Rattle.persist_model.specs.Order.{is_kind_of, undo_point, UndoesWell, FollowEach}
 use Rattle.persist_model.specs.Need.{rest, to_undo, is_named, unnamed_updates}
 use Rattle.persist_model.specs.Shape.{part_of}
-use Rattle.persist_model.specs.State.{State, IsSoundState}
 use Rattle.log_laws.specs.Naming.{StackIsUnnamed}
 use Rattle.log_laws.proofs.Standings.{AreNumbered}
 use Rattle.log_laws.proofs.Growing.{numbered}
@@ -25,8 +24,8 @@ named_is_some part t lsn all (r ∷ log) running f e = by_kind (is_to t r) (name
     by_point : is_kind_of t 2 r ≡ true → IsCompensation r → r.transaction ≡ t → (is_named t lsn log ≡ true → Has (λ u. u.lsn ≡ lsn) log) → Has (λ u. u.lsn ≡ lsn) (r ∷ log)
     by_point two comp owner again = elim (eqb_tells (undo_point t log) lsn) [
       | inl same ↦ (
-        let c = (well_by part t all log r running f owner (λ k. absurd (omega (arith, comp, k)))).compensates comp in
-        (c.0, inr c.1.among, c.1.point ∙ ap (λ x. undo_point x log) owner ∙ same.1))
+          let c = (well_by part t all log r running f owner (λ k. absurd (omega (arith, comp, k)))).compensates comp in
+          (c.0, inr c.1.among, c.1.point ∙ ap (λ x. undo_point x log) owner ∙ same.1))
       | inr other ↦ further (again (sym ((rw (two, other.0) refl) ∙ refl) ∙ e))
     ]
 
@@ -133,11 +132,11 @@ unnamed_on part t all r log running apart nonzero f again = by_kind (is_to t r)
             ap (λ b. if b then r ∷ to_undo t log else (if is_kind_of t 2 r then rest (to_undo t log) else to_undo t log)) one
             ∙ ap (λ l. r ∷ l) (sym same)
             ∙ sym (ap (λ b. if b && not (is_named t r.lsn (r ∷ log)) then r ∷ unnamed_updates t (r ∷ log) log else unnamed_updates t (r ∷ log) log) one
-                ∙ ap (λ b. if not b then r ∷ unnamed_updates t (r ∷ log) log else unnamed_updates t (r ∷ log) log) fresh)
+            ∙ ap (λ b. if not b then r ∷ unnamed_updates t (r ∷ log) log else unnamed_updates t (r ∷ log) log) fresh)
     by_kind (compensates not_one two comp owner) =
         let names : (lsn : ℕ) → is_named t lsn (r ∷ log) ≡ ((undo_point t log == lsn) || is_named t lsn log) = (λ lsn. rw two refl) in
         let listed : unnamed_updates t (r ∷ log) log ≡ without_lsn (top_lsn (to_undo t log)) (to_undo t log) =
-            unnamed_less t (undo_point t log) log (r ∷ log) log names ∙ ap (without_lsn (undo_point t log)) (sym again) ∙ ap (λ n. without_lsn n (to_undo t log)) stack.point in
+        unnamed_less t (undo_point t log) log (r ∷ log) log names ∙ ap (without_lsn (undo_point t log)) (sym again) ∙ ap (λ n. without_lsn n (to_undo t log)) stack.point in
         let left : to_undo t (r ∷ log) ≡ rest (to_undo t log) = rw (not_one, two) refl in
         let right : unnamed_updates t (r ∷ log) (r ∷ log) ≡ unnamed_updates t (r ∷ log) log = skipped not_one in
         left ∙ less (to_undo t log) refl ∙ sym listed ∙ sym right

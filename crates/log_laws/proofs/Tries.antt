@@ -49,7 +49,7 @@ unfolding tried_some
 oldest_some Good R n [] next d go = elim (go tt) [ inl r ↦ inl (tt, r) | inr f ↦ inr f ]
 oldest_some Good R n (r ∷ earlier) next d go =
     elim (oldest_some Good (Good earlier r × R) n earlier (Tried (Good earlier r) n r.at next) d
-        (λ g. tried_some (Good earlier r) R n r.at next (d earlier r) (λ p. go (p, g)))) [ inl h ↦ inl ((h.1.0, h.0), h.1.1) | inr f ↦ inr f ]
+    (λ g. tried_some (Good earlier r) R n r.at next (d earlier r) (λ p. go (p, g)))) [ inl h ↦ inl ((h.1.0, h.0), h.1.1) | inr f ↦ inr f ]
 
 -- ---- no fault where all hold
 

@@ -1,5 +1,5 @@
 -- What the rules say of literal words, by computing them in three parts: the header, the lists, the log.
-use Rattle.std.proofs.Common.{◌≡◌, ◌⊎◌, inl, inr, ℕ, ◌<◌, Bool, true, false, ◌==◌, ◌&&◌, if◌then◌else◌, List, [], ◌∷◌, refl, sym, subst, arith}
+use Rattle.std.proofs.Common.{◌≡◌, inl, inr, ℕ, ◌<◌, Bool, true, false, ◌==◌, ◌&&◌, if◌then◌else◌, List, [], ◌∷◌, refl, sym, subst}
 use Rattle.std.proofs.lemmas.Bool.{eqb-true}
 use Rattle.persist_model.specs.Region.{Words}
 use Rattle.persist_model.specs.Records.{Log}
@@ -71,7 +71,7 @@ pub lists_fault : (size : ℕ) (w : Words) (shape : Shape) (i a : ℕ) → shape
     fails (ListsHold shape (log_words shape w)) (IsListFault shape (log_words shape w)) (parts_some shape (log_words shape w)) i a ≡ true → IsFirstFault size w i a
 lists_fault size w shape i a is header e =
     in_lists (header_is size w header) (subst (λ s. IsListFault s (log_words s w) i a) (sym is)
-        (from_fails (ListsHold shape (log_words shape w)) (IsListFault shape (log_words shape w)) (parts_some shape (log_words shape w)) i a e))
+    (from_fails (ListsHold shape (log_words shape w)) (IsListFault shape (log_words shape w)) (parts_some shape (log_words shape w)) i a e))
 
 -- ---- the log
 
@@ -99,7 +99,7 @@ pub log_fault : (size : ℕ) (w : Words) (shape : Shape) (log : Log) (i a : ℕ)
 log_fault size w shape log i a is header lists log_is e =
     let has : HasState (shape_of w) w (state_at shape w log) = subst (λ s. HasState s w (state_at shape w log)) (sym is) (has_state_at shape w log lists log_is) in
     in_log (header_is size w header) (state_at shape w log) has (subst (λ s. IsLogFault s (state_at shape w log) i a) (sym is)
-        (from_fails (LogHolds shape (state_at shape w log)) (IsLogFault shape (state_at shape w log)) (log_some shape (state_at shape w log)) i a e))
+    (from_fails (LogHolds shape (state_at shape w log)) (IsLogFault shape (state_at shape w log)) (log_some shape (state_at shape w log)) i a e))
 
 pub is_sound : (size : ℕ) (w : Words) (shape : Shape) (log : Log) → shape_of w ≡ shape → HeaderHolds size w → ListsAreSound shape w → LogIs shape w log →
     holds (LogHolds shape (state_at shape w log)) (IsLogFault shape (state_at shape w log)) (log_some shape (state_at shape w log)) ≡ true → IsSound size w

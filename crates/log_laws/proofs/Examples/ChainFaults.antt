@@ -1,5 +1,5 @@
 -- Changes of sound images that break the address rule or a list rule.
-use Rattle.std.proofs.Common.{[], ◌∷◌, refl}
+use Rattle.std.proofs.Common.{◌∷◌, refl}
 use Rattle.persist_model.specs.Faults.{IsFirstFault}
 use Rattle.log_laws.proofs.Soundness.{shape_some, parts_some}
 use Rattle.log_laws.proofs.Verdicts.{word, words_of, lists_fault}

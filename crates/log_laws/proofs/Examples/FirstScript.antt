@@ -1,8 +1,7 @@
 -- The image that the first 23 events of the first script leave with the newest values: an update of word 103 from 0 to 7.
-use Rattle.std.proofs.Common.{◌≡◌, ℕ, ◌≤◌, List, [], ◌∷◌, refl, arith}
-use Rattle.persist_model.specs.Region.{Words}
-use Rattle.persist_model.specs.Shape.{Shape, SECOND_MAGIC, part_of}
-use Rattle.persist_model.specs.Records.{Record, Log, IsLoser}
+use Rattle.std.proofs.Common.{◌≡◌, ℕ, List, [], ◌∷◌, refl, arith}
+use Rattle.persist_model.specs.Shape.{SECOND_MAGIC, part_of}
+use Rattle.persist_model.specs.Records.{Record, IsLoser}
 use Rattle.persist_model.specs.Need.{need_in}
 use Rattle.persist_model.specs.Sound.{HasChain, IsSound, StandsIn, room_of}
 use Rattle.persist_model.specs.Faults.{IsFirstFault}

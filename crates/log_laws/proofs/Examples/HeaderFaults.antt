@@ -1,5 +1,5 @@
 -- Changes of the first script's image that break one of the first four rules.
-use Rattle.std.proofs.Common.{[], ◌∷◌, refl}
+use Rattle.std.proofs.Common.{◌∷◌, refl}
 use Rattle.persist_model.specs.Faults.{IsFirstFault}
 use Rattle.log_laws.proofs.Soundness.{shape_some}
 use Rattle.log_laws.proofs.Verdicts.{word, words_of, header_fault}

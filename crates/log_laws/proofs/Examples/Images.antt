@@ -1,6 +1,6 @@
 -- What the literal images are put together of. The word that is listed first stands, so a change is put in front.
-use Rattle.std.proofs.Common.{ℕ, ◌+◌, List, [], ◌∷◌}
-use Rattle.persist_model.specs.Shape.{Shape, FIRST_MAGIC, SECOND_MAGIC}
+use Rattle.std.proofs.Common.{ℕ, ◌+◌, List, ◌∷◌}
+use Rattle.persist_model.specs.Shape.{Shape, FIRST_MAGIC}
 use Rattle.persist_model.specs.Records.{Record}
 use Rattle.log_laws.proofs.Verdicts.{word}
 

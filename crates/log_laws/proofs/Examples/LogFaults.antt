@@ -1,12 +1,11 @@
 -- Changes of the first script's image, and logs in buckets of 16 cells, that break the record rule, the order rule or the room rule.
-use Rattle.std.proofs.Common.{◌≡◌, ℕ, List, [], ◌∷◌, refl}
+use Rattle.std.proofs.Common.{ℕ, List, [], ◌∷◌, refl}
 use Rattle.persist_model.specs.Faults.{IsFirstFault}
-use Rattle.persist_model.specs.Sound.{IsSound, StandsIn, room_of}
-use Rattle.log_laws.proofs.Standings.{stands_some}
+use Rattle.persist_model.specs.Sound.{IsSound}
 use Rattle.log_laws.proofs.Soundness.{shape_some, parts_some, chains_in}
 use Rattle.log_laws.proofs.RecordSorting.{log_of}
 use Rattle.log_laws.proofs.LogFaults.{log_some}
-use Rattle.log_laws.proofs.Verdicts.{word, words_of, is_sound, log_fault, lists_fault, stands_at}
+use Rattle.log_laws.proofs.Verdicts.{word, words_of, is_sound, log_fault}
 use Rattle.log_laws.proofs.Examples.Images.{simple, bucketed, header, ends, cell, update, compensation, rollback, ending, checkpoint, deletion}
 use Rattle.log_laws.proofs.Examples.FirstScript.{first}
 

@@ -1,15 +1,14 @@
 -- What words stand at, on logs in one bucket of 16 cells. Word 583 is data of the root, and 592 the owner of a plain block.
 use Rattle.std.proofs.Common.{◌≡◌, ℕ, List, [], ◌∷◌, refl}
-use Rattle.persist_model.specs.Shape.{part_of}
 use Rattle.persist_model.specs.Need.{to_undo, unnamed_updates, need_of}
 use Rattle.persist_model.specs.Order.{undo_point}
 use Rattle.persist_model.specs.Faults.{IsFirstFault}
-use Rattle.persist_model.specs.Sound.{IsSound, StandsIn, room_of}
+use Rattle.persist_model.specs.Sound.{IsSound, StandsIn}
 use Rattle.log_laws.proofs.Standings.{stands_some}
 use Rattle.log_laws.proofs.Soundness.{shape_some, parts_some, chains_in}
 use Rattle.log_laws.proofs.RecordSorting.{log_of}
 use Rattle.log_laws.proofs.LogFaults.{log_some}
-use Rattle.log_laws.proofs.Verdicts.{word, words_of, is_sound, log_fault, lists_fault, stands_at}
+use Rattle.log_laws.proofs.Verdicts.{word, words_of, is_sound, log_fault, stands_at}
 use Rattle.log_laws.proofs.Examples.Images.{bucketed, header, ends, cell, update, compensation, rollback, ending, checkpoint, deletion}
 
 -- an image with these cells and heap words

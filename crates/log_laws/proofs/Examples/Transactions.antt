@@ -1,6 +1,6 @@
 -- What literal logs say of their transactions.
-use Rattle.std.proofs.Common.{◌≡◌, ℕ, [], ◌∷◌, refl}
-use Rattle.persist_model.specs.Records.{Log, IsNewestFirst, IsEnded, IsRunning, IsCommitted, IsSkipped}
+use Rattle.std.proofs.Common.{[], ◌∷◌, refl}
+use Rattle.persist_model.specs.Records.{Log, IsEnded, IsRunning, IsCommitted, IsSkipped}
 use Rattle.persist_model.specs.State.{HasOpen}
 use Rattle.log_laws.proofs.Deciding.{from_yes, from_no, decide_ended, decide_running, decide_committed, decide_skipped}
 use Rattle.log_laws.proofs.LogFaults.{decide_open}

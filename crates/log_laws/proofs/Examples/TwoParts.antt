@@ -1,6 +1,6 @@
 -- A log of two partitions: eight buckets of one cell, the second partition's from 96 on, its list words at 21 to 25.
-use Rattle.std.proofs.Common.{◌≡◌, ℕ, ◌+◌, List, [], ◌∷◌, refl, arith}
-use Rattle.persist_model.specs.Shape.{Shape, SECOND_MAGIC, shape_of, heap, words_of_shape, first_bucket, count_buckets, part_of}
+use Rattle.std.proofs.Common.{◌≡◌, ℕ, List, [], ◌∷◌, refl, arith}
+use Rattle.persist_model.specs.Shape.{Shape, SECOND_MAGIC, heap, words_of_shape, first_bucket, count_buckets, part_of}
 use Rattle.persist_model.specs.Need.{need_in}
 use Rattle.persist_model.specs.Sound.{HasChain}
 use Rattle.persist_model.specs.Faults.{IsFirstFault}

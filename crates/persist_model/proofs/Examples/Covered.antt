@@ -1,10 +1,9 @@
 -- Which values of a word are covered by later steps, on short lists of steps.
-use Rattle.std.proofs.Common.{◌≡◌, ◌⊎◌, inl, inr, ℕ, Bool, true, false, ◌==◌, ◌||◌, List, [], ◌∷◌, ◌++◌, refl, sym, ap, ◌∙◌, arith}
+use Rattle.std.proofs.Common.{◌≡◌, inl, inr, ℕ, Bool, true, false, ◌==◌, ◌||◌, List, [], ◌∷◌, ◌++◌, refl, sym, ap, ◌∙◌, arith}
 use Rattle.std.proofs.lemmas.Bool.Decides.{nat_tests}
-use Rattle.persist_model.specs.declared.event.Event.{Event}
 use Rattle.persist_model.specs.declared.event.Event.TheVariants.{PStore, WriteBack, Fence}
 use Rattle.persist_model.specs.Region.{loaded}
-use Rattle.persist_model.specs.Law.{Step, Storing, WritingBack, Fencing, steps_of, IsCovered, IsUncoveredStore, Remains}
+use Rattle.persist_model.specs.Law.{Step, Storing, WritingBack, Fencing, steps_of, IsCovered, Remains}
 use Rattle.persist_model.proofs.Law.{candidates_remain}
 
 -- a durable store is a store and a write back

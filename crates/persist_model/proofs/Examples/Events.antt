@@ -5,7 +5,7 @@ use Rattle.persist_model.specs.declared.event.Candidate.{Candidate}
 use Rattle.persist_model.specs.declared.event.Event.{Event}
 use Rattle.persist_model.specs.declared.event.Event.TheVariants.{Store, PStore, WriteBack, Fence}
 use Rattle.persist_model.specs.declared.pick.Pick.TheVariants.{Old, New, Mix}
-use Rattle.persist_model.specs.Region.{Region, candidate, IsCandidate, IsImage, IsSettled, newest, newest_words, loaded, picked, restarted}
+use Rattle.persist_model.specs.Region.{Region, candidate, IsCandidate, IsImage, IsSettled, newest_words, loaded, picked, restarted}
 use Rattle.persist_model.specs.Pick.{index_of_pick}
 use Rattle.persist_model.specs.Law.{after_all}
 

@@ -1,5 +1,5 @@
 -- The numbers of the region's format, and addresses that follow from them.
-use Rattle.std.proofs.Common.{◌≡◌, ℕ, ◌+◌, ◌*◌, List, [], ◌∷◌, refl}
+use Rattle.std.proofs.Common.{◌≡◌, ℕ, ◌+◌, ◌*◌, [], ◌∷◌, refl}
 use Rattle.persist_model.specs.declared.format.TheConstants as constants
 use Rattle.persist_model.specs.Shape.{Shape, FIRST_MAGIC, SECOND_MAGIC, shape_of, bucket, heap, block, words_of_shape, first_bucket, count_buckets, part_of, list_words}
 use Rattle.persist_model.specs.Chain.{HEAD, TAIL, TO_APPEND, LAST_TAIL, TO_REMOVE, view, word_behind, word_before, last_or, without}
