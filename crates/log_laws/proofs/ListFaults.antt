@@ -7,7 +7,7 @@ use Rattle.persist_model.specs.ImageRecords.{cell_address}
 use Rattle.persist_model.specs.Chain.{TAIL, TO_APPEND, LAST_TAIL, TO_REMOVE, view, next_of, prev_of, word_behind, word_before, IsLink, Each, first_or, last_or, AppendRule, RemoveRule, IsExcepted, LinksBackBut}
 use Rattle.persist_model.specs.Visit.{HasArrived, link_behind, walk_from, chain_from, links_at, address_words}
 use Rattle.persist_model.specs.Sound.{IsClosedBucket}
-use Rattle.persist_model.specs.Faults.{TryLinksBack, MayAppend, MayRemove, TryPoints}
+use Rattle.persist_model.specs.Faults.{FaultSet, TryLinksBack, MayAppend, MayRemove, TryPoints}
 use Rattle.log_laws.proofs.Deciding.{IsDecided, decide_equal, decide_not, decide_either, decide_both, decide_implies, decide_as, decide_all, decide_absent}
 use Rattle.log_laws.proofs.Tries.{CanFail, Excludes, AreOne, alike, tried_some, tried_none, tried_one}
 use Rattle.log_laws.proofs.Visits.{decide_bucket}
@@ -155,7 +155,7 @@ decide_or_excepted w a b = decide_either _ _ (decide_equal (w a) b) (decide_exce
 
 -- ---- the PREVs
 
-unfoldable pub back_some : (w : Words) (R : Type 0) (before : ℕ) (xs : List ℕ) (next : ℕ → ℕ → Type 0) → (LinksBackBut w before xs → CanFail R next) →
+unfoldable pub back_some : (w : Words) (R : Type 0) (before : ℕ) (xs : List ℕ) (next : FaultSet) → (LinksBackBut w before xs → CanFail R next) →
     CanFail (LinksBackBut w before xs × R) (TryLinksBack w before xs next)
 unfolding decide_or_excepted
 back_some w R before [] next go = elim (go tt) [ inl r ↦ inl (tt, r) | inr f ↦ inr f ]
@@ -164,11 +164,11 @@ back_some w R before (x ∷ xs) next go = elim (decide_or_excepted w (prev_of x)
   | inl p ↦ elim (back_some w R x xs next (λ h. go (p, h))) [ inl r ↦ inl ((p, r.0), r.1) | inr f ↦ inr (f.0, f.1, inr (p, f.2)) ]
 ]
 
-back_none : (w : Words) (before : ℕ) (xs : List ℕ) (next : ℕ → ℕ → Type 0) → LinksBackBut w before xs → Excludes next → Excludes (TryLinksBack w before xs next)
+back_none : (w : Words) (before : ℕ) (xs : List ℕ) (next : FaultSet) → LinksBackBut w before xs → Excludes next → Excludes (TryLinksBack w before xs next)
 back_none w before [] next h ex = ex
 back_none w before (x ∷ xs) next h ex = tried_none _ 6 (prev_of x) (TryLinksBack w x xs next) h.0 (back_none w x xs next h.1 ex)
 
-back_one : (w : Words) (before : ℕ) (xs : List ℕ) (next others : ℕ → ℕ → Type 0) → AreOne next others → AreOne (TryLinksBack w before xs next) (TryLinksBack w before xs others)
+back_one : (w : Words) (before : ℕ) (xs : List ℕ) (next others : FaultSet) → AreOne next others → AreOne (TryLinksBack w before xs next) (TryLinksBack w before xs others)
 back_one w before [] next others one = one
 back_one w before (x ∷ xs) next others one = tried_one _ _ 6 (prev_of x) (TryLinksBack w x xs next) (TryLinksBack w x xs others) (alike _) (back_one w x xs next others one)
 
@@ -183,7 +183,7 @@ PointsHold shape w visited R =
     × ((w TO_REMOVE ≢ 0 → MayRemove shape w (chain_from w visited) (w TO_REMOVE)) × (LinksBackBut w 0 (chain_from w visited)
     × (((w TAIL ≡ last_or 0 (chain_from w visited)) ⊎ IsExcepted w TAIL) × R)))))
 
-unfoldable pub points_some : (shape : Shape) (base : ℕ) (w : Words) (visited : List ℕ) (R : Type 0) (next : ℕ → ℕ → Type 0) → CanFail R next →
+unfoldable pub points_some : (shape : Shape) (base : ℕ) (w : Words) (visited : List ℕ) (R : Type 0) (next : FaultSet) → CanFail R next →
     CanFail (PointsHold shape w visited R) (TryPoints shape base w visited next)
 unfolding tried_some back_some decide_either decide_equal decide_arrived decide_implies decide_not decide_may_append decide_may_remove decide_or_excepted
 points_some shape base w visited R next go =
@@ -194,13 +194,13 @@ points_some shape base w visited R next go =
     back_some w _ 0 (chain_from w visited) _ (λ h5.
     tried_some _ R 6 (base + 1) next (decide_or_excepted w TAIL (last_or 0 (chain_from w visited))) (λ h6. go))))))
 
-pub points_none : (shape : Shape) (base : ℕ) (w : Words) (visited : List ℕ) (next : ℕ → ℕ → Type 0) → PointsHold shape w visited (Unit {0}) → Excludes next →
+pub points_none : (shape : Shape) (base : ℕ) (w : Words) (visited : List ℕ) (next : FaultSet) → PointsHold shape w visited (Unit {0}) → Excludes next →
     Excludes (TryPoints shape base w visited next)
 points_none shape base w visited next h ex =
     tried_none _ 6 (base + 4) _ h.0 (tried_none _ 6 base _ h.1.0 (tried_none _ 6 (base + 2) _ h.1.1.0 (tried_none _ 6 (base + 4) _ h.1.1.1.0
     (back_none w 0 (chain_from w visited) _ h.1.1.1.1.0 (tried_none _ 6 (base + 1) next h.1.1.1.1.1.0 ex)))))
 
-pub points_one : (shape : Shape) (base : ℕ) (w : Words) (visited : List ℕ) (next others : ℕ → ℕ → Type 0) → AreOne next others →
+pub points_one : (shape : Shape) (base : ℕ) (w : Words) (visited : List ℕ) (next others : FaultSet) → AreOne next others →
     AreOne (TryPoints shape base w visited next) (TryPoints shape base w visited others)
 points_one shape base w visited next others one =
     tried_one _ _ 6 (base + 4) _ _ (alike _) (tried_one _ _ 6 base _ _ (alike _) (tried_one _ _ 6 (base + 2) _ _ (alike _) (tried_one _ _ 6 (base + 4) _ _ (alike _)

@@ -13,7 +13,7 @@ use Rattle.log_laws.proofs.Visits.{visit_some}
 use Rattle.log_laws.proofs.SoundLists.{chain_is_one}
 use Rattle.persist_model.specs.Standing.{Stands}
 use Rattle.log_laws.proofs.Standings.{stands_some}
-use Rattle.persist_model.specs.Faults.{IsShapeFault, IsListFault, IsLogFault, IsFirstFault, in_header, in_lists, in_log}
+use Rattle.persist_model.specs.Faults.{FaultSet, IsShapeFault, IsListFault, IsLogFault, IsFirstFault, in_header, in_lists, in_log}
 use Rattle.log_laws.proofs.Tries.{CanFail}
 use Rattle.log_laws.proofs.RecordSorting.{log_of, records_some}
 use Rattle.log_laws.proofs.LogFaults.{LogHolds, log_some, sound_of_holds}
@@ -30,15 +30,15 @@ words_of (x ∷ xs) b = if b == x.0 then x.1 else words_of xs b
 
 -- ---- verdicts
 
-abbrev pub holds : (R : Type 0) (faults : ℕ → ℕ → Type 0) → CanFail R faults → Bool
+abbrev pub holds : (R : Type 0) (faults : FaultSet) → CanFail R faults → Bool
 holds R faults (inl r) = true
 holds R faults (inr f) = false
 
-abbrev pub fails : (R : Type 0) (faults : ℕ → ℕ → Type 0) → CanFail R faults → ℕ → ℕ → Bool
+abbrev pub fails : (R : Type 0) (faults : FaultSet) → CanFail R faults → ℕ → ℕ → Bool
 fails R faults (inl r) i a = false
 fails R faults (inr f) i a = (f.0 == i) && (f.1 == a)
 
-pub from_holds : (R : Type 0) (faults : ℕ → ℕ → Type 0) (v : CanFail R faults) → holds R faults v ≡ true → R
+pub from_holds : (R : Type 0) (faults : FaultSet) (v : CanFail R faults) → holds R faults v ≡ true → R
 from_holds R faults (inl r) e = r
 from_holds R faults (inr f) e = cc
 
@@ -46,7 +46,7 @@ both_true : (x y : Bool) → (x && y) ≡ true → (x ≡ true) × (y ≡ true)
 both_true true y e = (refl, e)
 both_true false y e = cc
 
-pub from_fails : (R : Type 0) (faults : ℕ → ℕ → Type 0) (v : CanFail R faults) (i a : ℕ) → fails R faults v i a ≡ true → faults i a
+pub from_fails : (R : Type 0) (faults : FaultSet) (v : CanFail R faults) (i a : ℕ) → fails R faults v i a ≡ true → faults i a
 from_fails R faults (inl r) i a e = cc
 from_fails R faults (inr f) i a e =
     let k = both_true (f.0 == i) (f.1 == a) e in subst (λ j. faults j a) (eqb-true f.0 i k.0) (subst (faults f.0) (eqb-true f.1 a k.1) f.2)

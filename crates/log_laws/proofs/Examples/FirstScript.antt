@@ -1,16 +1,16 @@
 -- The image that the first 23 events of the first script leave with the newest values: an update of word 103 from 0 to 7.
-use Rattle.std.proofs.Common.{◌≡◌, ℕ, List, [], ◌∷◌, refl, arith}
+use Rattle.std.proofs.Common.{◌≡◌, ℕ, List, [], ◌∷◌, refl, sym, ◌∙◌, arith}
 use Rattle.persist_model.specs.Shape.{SECOND_MAGIC, part_of}
 use Rattle.persist_model.specs.Records.{Record, IsLoser}
 use Rattle.persist_model.specs.Need.{need_in}
 use Rattle.persist_model.specs.Sound.{HasChain, IsSound, StandsIn, room_of}
 use Rattle.persist_model.specs.Faults.{IsFirstFault}
 use Rattle.log_laws.proofs.Deciding.{from_yes, decide_both, decide_has, decide_running}
-use Rattle.log_laws.proofs.Soundness.{shape_some, parts_some, chains_in}
+use Rattle.log_laws.proofs.Soundness.{shape_some, parts_some, chains_in, standing_is_one}
 use Rattle.log_laws.proofs.RecordSorting.{log_of}
 use Rattle.log_laws.proofs.LogFaults.{log_some, decide_of}
 use Rattle.log_laws.proofs.Standings.{stands_some}
-use Rattle.log_laws.proofs.Verdicts.{word, words_of, is_sound, log_fault, stands_at, chain_at}
+use Rattle.log_laws.proofs.Verdicts.{word, words_of, is_sound, log_fault, stands_at, chain_at, sound_has_no}
 use Rattle.log_laws.proofs.Examples.Images.{simple, second_simple, header, ends, cell, update}
 
 abbrev pub the_update : Record
@@ -45,6 +45,12 @@ first_103 : StandsIn (words_of first) 103 0
 unfolding parts_some log_of chains_in stands_some
 first_103 = stands_at 352 (words_of first) simple (the_update ∷ []) 103 0 refl refl refl refl
 
+first_not_7 : StandsIn (words_of first) 103 7 → ⊥
+first_not_7 h = apart ((standing_is_one 352 (words_of first) 103 first_is_sound).2 7 h ∙ sym ((standing_is_one 352 (words_of first) 103 first_is_sound).2 0 first_103))
+  where
+    apart : ◌≡◌ {A = ℕ} 7 0 → ⊥
+    apart e = cc
+
 first_96 : StandsIn (words_of first) 96 1
 unfolding parts_some log_of chains_in stands_some
 first_96 = stands_at 352 (words_of first) simple (the_update ∷ []) 96 1 refl refl refl refl
@@ -73,6 +79,10 @@ twice = word 9 48 ∷ word 32 48 ∷ word 49 32 ∷ cell other_update first
 twice_fault : IsFirstFault 352 (words_of twice) 8 56
 unfolding shape_some parts_some log_of log_some chains_in
 twice_fault = log_fault 352 (words_of twice) simple (other_update ∷ the_update ∷ []) 8 56 refl refl refl refl refl
+
+-- so it isn't sound
+twice_unsound : IsSound 352 (words_of twice) → ⊥
+twice_unsound = sound_has_no 352 (words_of twice) 8 56 twice_fault
 
 -- with the next number the order holds, and the two free cells are too few for two transactions
 abbrev next_update : Record
