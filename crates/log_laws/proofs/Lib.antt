@@ -1,9 +1,11 @@
 pub mod Deciding
 pub mod Tries
 pub mod Visits
+pub mod Visiting
 pub mod AddressLists
 pub mod ListFaults
 pub mod SoundLists
+pub mod Trying
 pub mod RecordSorting
 pub mod LogFaults
 pub mod Soundness

@@ -1,17 +1,16 @@
 -- The address rule and the list rules, tried in order, against the rules of a sound list.
-use Rattle.std.proofs.Common.{◌≡◌, ◌≢◌, ◌⊎◌, inl, inr, ℕ, ◌+◌, ◌-◌, ◌<◌, ◌≤◌, true, false, ◌==◌, if◌then◌else◌, List, [], ◌∷◌, ◌++◌, refl, sym, ap, ◌∙◌, subst, arith}
-use Rattle.std.proofs.lemmas.Bool.Decides.{eqb_tells, nat_tests}
+use Rattle.std.proofs.Common.{◌≡◌, ◌≢◌, ◌⊎◌, inl, inr, ℕ, ◌+◌, ◌<◌, true, false, ◌==◌, List, [], ◌∷◌, ◌++◌, refl, sym, ap, ◌∙◌, arith}
+use Rattle.std.proofs.lemmas.Bool.Decides.{nat_tests}
 use Rattle.persist_model.specs.Region.{Words}
-use Rattle.persist_model.specs.Shape.{Shape, IsBucketOf, list_words}
+use Rattle.persist_model.specs.Shape.{Shape, IsBucketOf}
 use Rattle.persist_model.specs.ImageRecords.{cell_address}
-use Rattle.persist_model.specs.Chain.{HEAD, TAIL, TO_APPEND, LAST_TAIL, TO_REMOVE, view, out_address, next_of, prev_of, word_behind, word_before, IsLink, Each, AreBuckets, IsAbsent, HasNoRepeats, first_or, last_or, without, Links, IsWholeWalk, IsCutWalk, IsWalk, HasLinks, AddressRule, AppendRule, IsBefore, RemoveRule, IsExcepted, LinksBackBut, ListRules}
-use Rattle.persist_model.specs.Visit.{IsCutAt, IsUncut, IsVisit, HasArrived, link_behind, walk_from, chain_from, links_of, links_at, address_words}
-use Rattle.persist_model.specs.Sound.{IsClosedBucket, IsListOf}
-use Rattle.persist_model.specs.Faults.{Tried, TriedEach, TryAddressesOf, TryLinksBack, MayAppend, MayRemove, TryPoints, TryListOf, TryAddresses, TryLists, NoFault}
+use Rattle.persist_model.specs.Chain.{TAIL, TO_APPEND, LAST_TAIL, TO_REMOVE, view, next_of, prev_of, word_behind, word_before, IsLink, Each, first_or, last_or, AppendRule, RemoveRule, IsExcepted, LinksBackBut}
+use Rattle.persist_model.specs.Visit.{HasArrived, link_behind, walk_from, chain_from, links_at, address_words}
+use Rattle.persist_model.specs.Sound.{IsClosedBucket}
+use Rattle.persist_model.specs.Faults.{FaultSet, TryLinksBack, MayAppend, MayRemove, TryPoints}
 use Rattle.log_laws.proofs.Deciding.{IsDecided, decide_equal, decide_not, decide_either, decide_both, decide_implies, decide_as, decide_all, decide_absent}
-use Rattle.log_laws.proofs.Tries.{CanFail, Excludes, AreOne, alike, none_fails, none_excluded, none_one, tried_some, tried_none, tried_one, each_some, each_none, each_one, each_alike}
-use Rattle.log_laws.proofs.AddressLists.{each_left, each_right, each_join, each_last, no_repeats_push, no_repeats_left, last_is_absent, links_last, links_nonzero}
-use Rattle.log_laws.proofs.Visits.{visit_some, visit_one, decide_bucket, no_bucket_0, above_header}
+use Rattle.log_laws.proofs.Tries.{CanFail, Excludes, AreOne, alike, tried_some, tried_none, tried_one}
+use Rattle.log_laws.proofs.Visits.{decide_bucket}
 
 -- ---- the walk that follows from what was visited
 
@@ -62,8 +61,8 @@ unfoldable pub decide_append_rule : (w : Words) (n : ℕ) → IsDecided (AppendR
 unfolding decide_as decide_both decide_either decide_equal
 decide_append_rule w n = decide_as (AppendFacts w n) (AppendRule w n) (append_on w n) (append_back w n)
     (decide_both _ _ (decide_equal (w (next_of n)) 0) (decide_both _ _ (decide_equal (w (prev_of n)) (w LAST_TAIL))
-        (decide_both _ _ (decide_either _ _ (decide_equal (w TAIL) (w LAST_TAIL)) (decide_equal (w TAIL) n))
-            (decide_either _ _ (decide_equal (w (word_behind (w LAST_TAIL))) 0) (decide_equal (w (word_behind (w LAST_TAIL))) n)))))
+    (decide_both _ _ (decide_either _ _ (decide_equal (w TAIL) (w LAST_TAIL)) (decide_equal (w TAIL) n))
+    (decide_either _ _ (decide_equal (w (word_behind (w LAST_TAIL))) 0) (decide_equal (w (word_behind (w LAST_TAIL))) n)))))
 
 unfoldable pub decide_may_append : (w : Words) (visited : List ℕ) (n : ℕ) → IsDecided (MayAppend w visited n)
 unfolding decide_both decide_absent decide_append_rule
@@ -131,10 +130,10 @@ unfoldable pub decide_remove_rule : (w : Words) (chain : List ℕ) (n p q : ℕ)
 unfolding decide_as decide_both decide_not decide_implies decide_either decide_equal decide_splits
 decide_remove_rule w chain n p q = decide_as (RemoveFacts w chain n p q) (RemoveRule w chain n p q) (remove_on w chain n p q) (remove_back w chain n p q)
     (decide_both _ _ (decide_both _ _ (decide_not _ (decide_equal n p)) (decide_not _ (decide_equal n q)))
-        (decide_both _ _ (decide_implies _ _ (decide_not _ (decide_equal p 0)) (λ k. decide_not _ (decide_equal p q)))
-            (decide_both _ _ (decide_splits 0 chain p q)
-                (decide_both _ _ (decide_either _ _ (decide_equal (w (word_behind p)) n) (decide_equal (w (word_behind p)) q))
-                    (decide_either _ _ (decide_equal (w (word_before q)) n) (decide_equal (w (word_before q)) p))))))
+    (decide_both _ _ (decide_implies _ _ (decide_not _ (decide_equal p 0)) (λ k. decide_not _ (decide_equal p q)))
+    (decide_both _ _ (decide_splits 0 chain p q)
+    (decide_both _ _ (decide_either _ _ (decide_equal (w (word_behind p)) n) (decide_equal (w (word_behind p)) q))
+    (decide_either _ _ (decide_equal (w (word_before q)) n) (decide_equal (w (word_before q)) p))))))
 
 unfoldable pub decide_closed : (shape : Shape) (w : Words) (b : ℕ) → IsDecided (IsClosedBucket shape w b)
 unfolding decide_all decide_equal
@@ -156,7 +155,7 @@ decide_or_excepted w a b = decide_either _ _ (decide_equal (w a) b) (decide_exce
 
 -- ---- the PREVs
 
-unfoldable pub back_some : (w : Words) (R : Type 0) (before : ℕ) (xs : List ℕ) (next : ℕ → ℕ → Type 0) → (LinksBackBut w before xs → CanFail R next) →
+unfoldable pub back_some : (w : Words) (R : Type 0) (before : ℕ) (xs : List ℕ) (next : FaultSet) → (LinksBackBut w before xs → CanFail R next) →
     CanFail (LinksBackBut w before xs × R) (TryLinksBack w before xs next)
 unfolding decide_or_excepted
 back_some w R before [] next go = elim (go tt) [ inl r ↦ inl (tt, r) | inr f ↦ inr f ]
@@ -165,11 +164,11 @@ back_some w R before (x ∷ xs) next go = elim (decide_or_excepted w (prev_of x)
   | inl p ↦ elim (back_some w R x xs next (λ h. go (p, h))) [ inl r ↦ inl ((p, r.0), r.1) | inr f ↦ inr (f.0, f.1, inr (p, f.2)) ]
 ]
 
-back_none : (w : Words) (before : ℕ) (xs : List ℕ) (next : ℕ → ℕ → Type 0) → LinksBackBut w before xs → Excludes next → Excludes (TryLinksBack w before xs next)
+back_none : (w : Words) (before : ℕ) (xs : List ℕ) (next : FaultSet) → LinksBackBut w before xs → Excludes next → Excludes (TryLinksBack w before xs next)
 back_none w before [] next h ex = ex
 back_none w before (x ∷ xs) next h ex = tried_none _ 6 (prev_of x) (TryLinksBack w x xs next) h.0 (back_none w x xs next h.1 ex)
 
-back_one : (w : Words) (before : ℕ) (xs : List ℕ) (next others : ℕ → ℕ → Type 0) → AreOne next others → AreOne (TryLinksBack w before xs next) (TryLinksBack w before xs others)
+back_one : (w : Words) (before : ℕ) (xs : List ℕ) (next others : FaultSet) → AreOne next others → AreOne (TryLinksBack w before xs next) (TryLinksBack w before xs others)
 back_one w before [] next others one = one
 back_one w before (x ∷ xs) next others one = tried_one _ _ 6 (prev_of x) (TryLinksBack w x xs next) (TryLinksBack w x xs others) (alike _) (back_one w x xs next others one)
 
@@ -181,28 +180,28 @@ AddressesHold shape z p visited = Each (λ b. IsLink (IsBucketOf shape p) (view 
 abbrev pub PointsHold : Shape → Words → List ℕ → Type 0 → Type 0
 PointsHold shape w visited R =
     ((w TO_APPEND ≡ 0) ⊎ (w TO_REMOVE ≡ 0)) × (HasArrived w visited × ((w TO_APPEND ≢ 0 → MayAppend w visited (w TO_APPEND))
-        × ((w TO_REMOVE ≢ 0 → MayRemove shape w (chain_from w visited) (w TO_REMOVE)) × (LinksBackBut w 0 (chain_from w visited)
-            × (((w TAIL ≡ last_or 0 (chain_from w visited)) ⊎ IsExcepted w TAIL) × R)))))
+    × ((w TO_REMOVE ≢ 0 → MayRemove shape w (chain_from w visited) (w TO_REMOVE)) × (LinksBackBut w 0 (chain_from w visited)
+    × (((w TAIL ≡ last_or 0 (chain_from w visited)) ⊎ IsExcepted w TAIL) × R)))))
 
-unfoldable pub points_some : (shape : Shape) (base : ℕ) (w : Words) (visited : List ℕ) (R : Type 0) (next : ℕ → ℕ → Type 0) → CanFail R next →
+unfoldable pub points_some : (shape : Shape) (base : ℕ) (w : Words) (visited : List ℕ) (R : Type 0) (next : FaultSet) → CanFail R next →
     CanFail (PointsHold shape w visited R) (TryPoints shape base w visited next)
 unfolding tried_some back_some decide_either decide_equal decide_arrived decide_implies decide_not decide_may_append decide_may_remove decide_or_excepted
 points_some shape base w visited R next go =
     tried_some _ _ 6 (base + 4) _ (decide_either _ _ (decide_equal (w TO_APPEND) 0) (decide_equal (w TO_REMOVE) 0)) (λ h1.
-      tried_some _ _ 6 base _ (decide_arrived w visited) (λ h2.
-        tried_some _ _ 6 (base + 2) _ (decide_implies _ _ (decide_not _ (decide_equal (w TO_APPEND) 0)) (λ k. decide_may_append w visited (w TO_APPEND))) (λ h3.
-          tried_some _ _ 6 (base + 4) _ (decide_implies _ _ (decide_not _ (decide_equal (w TO_REMOVE) 0)) (λ k. decide_may_remove shape w (chain_from w visited) (w TO_REMOVE))) (λ h4.
-            back_some w _ 0 (chain_from w visited) _ (λ h5.
-              tried_some _ R 6 (base + 1) next (decide_or_excepted w TAIL (last_or 0 (chain_from w visited))) (λ h6. go))))))
+    tried_some _ _ 6 base _ (decide_arrived w visited) (λ h2.
+    tried_some _ _ 6 (base + 2) _ (decide_implies _ _ (decide_not _ (decide_equal (w TO_APPEND) 0)) (λ k. decide_may_append w visited (w TO_APPEND))) (λ h3.
+    tried_some _ _ 6 (base + 4) _ (decide_implies _ _ (decide_not _ (decide_equal (w TO_REMOVE) 0)) (λ k. decide_may_remove shape w (chain_from w visited) (w TO_REMOVE))) (λ h4.
+    back_some w _ 0 (chain_from w visited) _ (λ h5.
+    tried_some _ R 6 (base + 1) next (decide_or_excepted w TAIL (last_or 0 (chain_from w visited))) (λ h6. go))))))
 
-pub points_none : (shape : Shape) (base : ℕ) (w : Words) (visited : List ℕ) (next : ℕ → ℕ → Type 0) → PointsHold shape w visited (Unit {0}) → Excludes next →
+pub points_none : (shape : Shape) (base : ℕ) (w : Words) (visited : List ℕ) (next : FaultSet) → PointsHold shape w visited (Unit {0}) → Excludes next →
     Excludes (TryPoints shape base w visited next)
 points_none shape base w visited next h ex =
     tried_none _ 6 (base + 4) _ h.0 (tried_none _ 6 base _ h.1.0 (tried_none _ 6 (base + 2) _ h.1.1.0 (tried_none _ 6 (base + 4) _ h.1.1.1.0
-        (back_none w 0 (chain_from w visited) _ h.1.1.1.1.0 (tried_none _ 6 (base + 1) next h.1.1.1.1.1.0 ex)))))
+    (back_none w 0 (chain_from w visited) _ h.1.1.1.1.0 (tried_none _ 6 (base + 1) next h.1.1.1.1.1.0 ex)))))
 
-pub points_one : (shape : Shape) (base : ℕ) (w : Words) (visited : List ℕ) (next others : ℕ → ℕ → Type 0) → AreOne next others →
+pub points_one : (shape : Shape) (base : ℕ) (w : Words) (visited : List ℕ) (next others : FaultSet) → AreOne next others →
     AreOne (TryPoints shape base w visited next) (TryPoints shape base w visited others)
 points_one shape base w visited next others one =
     tried_one _ _ 6 (base + 4) _ _ (alike _) (tried_one _ _ 6 base _ _ (alike _) (tried_one _ _ 6 (base + 2) _ _ (alike _) (tried_one _ _ 6 (base + 4) _ _ (alike _)
-        (back_one w 0 (chain_from w visited) _ _ (tried_one _ _ 6 (base + 1) next others (alike _) one)))))
+    (back_one w 0 (chain_from w visited) _ _ (tried_one _ _ 6 (base + 1) next others (alike _) one)))))

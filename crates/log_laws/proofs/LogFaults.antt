@@ -1,13 +1,13 @@
 -- The rules of records, of their order and of room can be decided, and a state is sound exactly where none fails.
-use Rattle.std.proofs.Common.{◌≡◌, ◌≢◌, ◌⊎◌, inl, inr, ℕ, ◌+◌, ◌^◌, ◌<◌, ◌≤◌, [], ◌∷◌, refl, sym, ap, ◌∙◌, subst, arith}
-use Rattle.persist_model.specs.Records.{Record, Log, IsAmong, Has, HasNo, IsNewestFirst, IsUpdate, IsCompensation, IsRollback, IsEnd, IsCheckpoint, IsDeletion, IsChange, NamesWord, IsOf, IsRunning, IsCommitted, IsSkipped}
-use Rattle.persist_model.specs.Order.{undo_point, last_new, Compensates, IsNextToUndo, UndoesWell, Bars, Follows, FollowEach, IsInOrder}
+use Rattle.std.proofs.Common.{◌≡◌, ◌≢◌, ◌⊎◌, inl, inr, ℕ, ◌+◌, ◌^◌, ◌<◌, ◌≤◌, [], ◌∷◌, refl, sym, subst, arith}
+use Rattle.persist_model.specs.Records.{Record, Log, IsAmong, Has, HasNo, IsNewestFirst, IsUpdate, IsCompensation, IsRollback, IsEnd, IsCheckpoint, IsDeletion, IsChange, NamesWord, IsOf, IsRunning}
+use Rattle.persist_model.specs.Order.{undo_point, last_new, Compensates, IsNextToUndo, UndoesWell, Bars, Follows, FollowEach}
 use Rattle.persist_model.specs.Shape.{Shape, heap, words_of_shape, block, IsHeapWord, IsRootOwner, IsPlainOwner, part_of, list_words}
 use Rattle.persist_model.specs.ImageRecords.{IsWellFormed, AreWellFormed}
 use Rattle.persist_model.specs.Need.{need_in}
 use Rattle.persist_model.specs.State.{State, HasOpen, total_need, HasRoom, HasNumbers, IsSoundState}
 use Rattle.persist_model.specs.Chain.{Each}
-use Rattle.persist_model.specs.Faults.{parts, TriedEach, TryRecords, TryOrder, TryRoom, IsLogFault}
+use Rattle.persist_model.specs.Faults.{parts, IsLogFault}
 use Rattle.log_laws.proofs.Deciding.{IsDecided, decide_equal, decide_less, decide_at_most, decide_not, decide_either, decide_both, decide_implies, decide_as, decide_some, decide_has, decide_has_no, decide_each, decide_running, decide_committed, decide_skipped}
 use Rattle.log_laws.proofs.Tries.{CanFail, Excludes, AreOne, Alike, alike, AllGood, none_fails, none_excluded, none_one, tried_some, tried_none, tried_one, each_some, each_none, each_one, oldest_some, oldest_none, oldest_one}
 use Rattle.log_laws.proofs.AddressLists.{each_in_range, of_range}
@@ -44,8 +44,8 @@ decide_names_word r = decide_either _ _ (decide_change r) (decide_equal r.kind 6
 abbrev FormedFacts : Shape → Record → Type 0
 FormedFacts shape r =
     ((1 ≤ r.kind) × (r.kind ≤ 6)) × (((IsCheckpoint r × (r.transaction ≡ 0)) ⊎ ((r.kind ≢ 5) × (1 ≤ r.transaction)))
-        × ((IsChange r → IsHeapWord shape r.word × (IsRootOwner shape r.word → ⊥)) × ((IsDeletion r → IsPlainOwner shape r.word)
-            × ((IsEnd r × ((r.outcome ≡ 1) ⊎ (r.outcome ≡ 2))) ⊎ ((r.kind ≢ 4) × (r.outcome ≡ 0))))))
+    × ((IsChange r → IsHeapWord shape r.word × (IsRootOwner shape r.word → ⊥)) × ((IsDeletion r → IsPlainOwner shape r.word)
+    × ((IsEnd r × ((r.outcome ≡ 1) ⊎ (r.outcome ≡ 2))) ⊎ ((r.kind ≢ 4) × (r.outcome ≡ 0))))))
 
 pub formed_on : (shape : Shape) (r : Record) → FormedFacts shape r → IsWellFormed shape r
 formed_on shape r h = record { kind = h.0; transaction = h.1.0; change = h.1.1.0; deletion = h.1.1.1.0; outcome = h.1.1.1.1 }
@@ -57,11 +57,11 @@ unfoldable pub decide_formed : (shape : Shape) (r : Record) → IsDecided (IsWel
 unfolding decide_as decide_both decide_at_most decide_either decide_equal decide_not decide_implies decide_change decide_heap_word decide_root decide_plain
 decide_formed shape r = decide_as (FormedFacts shape r) (IsWellFormed shape r) (formed_on shape r) (formed_back shape r)
     (decide_both _ _ (decide_both _ _ (decide_at_most 1 r.kind) (decide_at_most r.kind 6))
-        (decide_both _ _ (decide_either _ _ (decide_both _ _ (decide_equal r.kind 5) (decide_equal r.transaction 0)) (decide_both _ _ (decide_not _ (decide_equal r.kind 5)) (decide_at_most 1 r.transaction)))
-            (decide_both _ _ (decide_implies _ _ (decide_change r) (λ c. decide_both _ _ (decide_heap_word shape r.word) (decide_not _ (decide_root shape r.word))))
-                (decide_both _ _ (decide_implies _ _ (decide_equal r.kind 6) (λ d. decide_plain shape r.word))
-                    (decide_either _ _ (decide_both _ _ (decide_equal r.kind 4) (decide_either _ _ (decide_equal r.outcome 1) (decide_equal r.outcome 2)))
-                        (decide_both _ _ (decide_not _ (decide_equal r.kind 4)) (decide_equal r.outcome 0)))))))
+    (decide_both _ _ (decide_either _ _ (decide_both _ _ (decide_equal r.kind 5) (decide_equal r.transaction 0)) (decide_both _ _ (decide_not _ (decide_equal r.kind 5)) (decide_at_most 1 r.transaction)))
+    (decide_both _ _ (decide_implies _ _ (decide_change r) (λ c. decide_both _ _ (decide_heap_word shape r.word) (decide_not _ (decide_root shape r.word))))
+    (decide_both _ _ (decide_implies _ _ (decide_equal r.kind 6) (λ d. decide_plain shape r.word))
+    (decide_either _ _ (decide_both _ _ (decide_equal r.kind 4) (decide_either _ _ (decide_equal r.outcome 1) (decide_equal r.outcome 2)))
+    (decide_both _ _ (decide_not _ (decide_equal r.kind 4)) (decide_equal r.outcome 0)))))))
 
 -- ---- the order rule
 
@@ -97,13 +97,13 @@ unfoldable pub decide_next : (earlier : Log) (c : Record) → IsDecided ((u : Re
 unfolding decide_as decide_has decide_both decide_equal
 decide_next earlier c = decide_as (Has (NextFacts earlier c) earlier) _ (next_on earlier c) (next_back earlier c)
     (decide_has (NextFacts earlier c) earlier (λ u.
-      decide_both _ _ (decide_both _ _ (decide_equal u.kind 1) (decide_both _ _ (decide_equal u.transaction c.transaction) (decide_equal u.lsn (undo_point c.transaction earlier))))
-      (decide_both _ _ (decide_equal c.word u.word) (decide_both _ _ (decide_equal c.before u.after) (decide_both _ _ (decide_equal c.after u.before) (decide_equal c.undo_next u.undo_next))))))
+    decide_both _ _ (decide_both _ _ (decide_equal u.kind 1) (decide_both _ _ (decide_equal u.transaction c.transaction) (decide_equal u.lsn (undo_point c.transaction earlier))))
+    (decide_both _ _ (decide_equal c.word u.word) (decide_both _ _ (decide_equal c.before u.after) (decide_both _ _ (decide_equal c.after u.before) (decide_equal c.undo_next u.undo_next))))))
 
 abbrev UndoFacts : Log → Record → Type 0
 UndoFacts earlier r =
     (IsUpdate r ⊎ IsDeletion r ⊎ IsRollback r → HasNo (λ s. IsOf r.transaction s × IsRollback s) earlier) × ((IsUpdate r → r.undo_next ≡ undo_point r.transaction earlier)
-        × ((IsUpdate r → r.before ≡ last_new r.transaction r.word r.before earlier) × (IsCompensation r → (u : Record) × IsNextToUndo r.transaction earlier u × Compensates r u)))
+    × ((IsUpdate r → r.before ≡ last_new r.transaction r.word r.before earlier) × (IsCompensation r → (u : Record) × IsNextToUndo r.transaction earlier u × Compensates r u)))
 
 pub undo_on : (earlier : Log) (r : Record) → UndoFacts earlier r → UndoesWell earlier r
 undo_on earlier r h = record { no_rollback = h.0; undo_next = h.1.0; before = h.1.1.0; compensates = h.1.1.1 }
@@ -115,15 +115,15 @@ unfoldable pub decide_undoes : (earlier : Log) (r : Record) → IsDecided (Undoe
 unfolding decide_as decide_both decide_implies decide_either decide_equal decide_has_no decide_of decide_next
 decide_undoes earlier r = decide_as (UndoFacts earlier r) (UndoesWell earlier r) (undo_on earlier r) (undo_back earlier r)
     (decide_both _ _ (decide_implies _ _ (decide_either _ _ (decide_equal r.kind 1) (decide_either _ _ (decide_equal r.kind 6) (decide_equal r.kind 3)))
-        (λ k. decide_has_no (λ s. IsOf r.transaction s × IsRollback s) earlier (λ s. decide_both _ _ (decide_of r.transaction s) (decide_equal s.kind 3))))
-        (decide_both _ _ (decide_implies _ _ (decide_equal r.kind 1) (λ k. decide_equal r.undo_next (undo_point r.transaction earlier)))
-            (decide_both _ _ (decide_implies _ _ (decide_equal r.kind 1) (λ k. decide_equal r.before (last_new r.transaction r.word r.before earlier)))
-                (decide_implies _ _ (decide_equal r.kind 2) (λ k. decide_next earlier r)))))
+    (λ k. decide_has_no (λ s. IsOf r.transaction s × IsRollback s) earlier (λ s. decide_both _ _ (decide_of r.transaction s) (decide_equal s.kind 3))))
+    (decide_both _ _ (decide_implies _ _ (decide_equal r.kind 1) (λ k. decide_equal r.undo_next (undo_point r.transaction earlier)))
+    (decide_both _ _ (decide_implies _ _ (decide_equal r.kind 1) (λ k. decide_equal r.before (last_new r.transaction r.word r.before earlier)))
+    (decide_implies _ _ (decide_equal r.kind 2) (λ k. decide_next earlier r)))))
 
 abbrev FollowFacts : (ℕ → ℕ) → Log → Log → Record → Type 0
 FollowFacts part log earlier r =
     HasNo (λ s. s.lsn ≡ r.lsn) earlier × (HasNo (λ s. IsOf r.transaction s × (r.kind ≢ 5) × (part s.at ≢ part r.at)) earlier × (HasNo (λ s. IsOf r.transaction s × (r.kind ≢ 5) × IsEnd s) earlier
-        × ((NamesWord r → HasNo (λ s. (s.word ≡ r.word) × (s.transaction ≢ r.transaction) × Bars log s) earlier) × ((r.kind ≢ 5) → IsRunning log r.transaction → UndoesWell earlier r))))
+    × ((NamesWord r → HasNo (λ s. (s.word ≡ r.word) × (s.transaction ≢ r.transaction) × Bars log s) earlier) × ((r.kind ≢ 5) → IsRunning log r.transaction → UndoesWell earlier r))))
 
 pub follow_on : (part : ℕ → ℕ) (log earlier : Log) (r : Record) → FollowFacts part log earlier r → Follows part log earlier r
 follow_on part log earlier r h = record { fresh = h.0; one_part = h.1.0; not_ended = h.1.1.0; word = h.1.1.1.0; undo = h.1.1.1.1 }
@@ -135,13 +135,13 @@ unfoldable pub decide_follows : (part : ℕ → ℕ) (log earlier : Log) (r : Re
 unfolding decide_as decide_both decide_has_no decide_equal decide_three decide_of decide_not decide_implies decide_names_word decide_bars decide_running decide_undoes
 decide_follows part log earlier r = decide_as (FollowFacts part log earlier r) (Follows part log earlier r) (follow_on part log earlier r) (follow_back part log earlier r)
     (decide_both _ _ (decide_has_no (λ s. s.lsn ≡ r.lsn) earlier (λ s. decide_equal s.lsn r.lsn))
-        (decide_both _ _ (decide_has_no (λ s. IsOf r.transaction s × (r.kind ≢ 5) × (part s.at ≢ part r.at)) earlier
-            (λ s. decide_three _ _ _ (decide_of r.transaction s) (decide_not _ (decide_equal r.kind 5)) (decide_not _ (decide_equal (part s.at) (part r.at)))))
-            (decide_both _ _ (decide_has_no (λ s. IsOf r.transaction s × (r.kind ≢ 5) × IsEnd s) earlier
-                (λ s. decide_three _ _ _ (decide_of r.transaction s) (decide_not _ (decide_equal r.kind 5)) (decide_equal s.kind 4)))
-                (decide_both _ _ (decide_implies _ _ (decide_names_word r) (λ k. decide_has_no (λ s. (s.word ≡ r.word) × (s.transaction ≢ r.transaction) × Bars log s) earlier
-                    (λ s. decide_three _ _ _ (decide_equal s.word r.word) (decide_not _ (decide_equal s.transaction r.transaction)) (decide_bars log s))))
-                    (decide_implies _ _ (decide_not _ (decide_equal r.kind 5)) (λ k. decide_implies _ _ (decide_running log r.transaction) (λ u. decide_undoes earlier r)))))))
+    (decide_both _ _ (decide_has_no (λ s. IsOf r.transaction s × (r.kind ≢ 5) × (part s.at ≢ part r.at)) earlier
+    (λ s. decide_three _ _ _ (decide_of r.transaction s) (decide_not _ (decide_equal r.kind 5)) (decide_not _ (decide_equal (part s.at) (part r.at)))))
+    (decide_both _ _ (decide_has_no (λ s. IsOf r.transaction s × (r.kind ≢ 5) × IsEnd s) earlier
+    (λ s. decide_three _ _ _ (decide_of r.transaction s) (decide_not _ (decide_equal r.kind 5)) (decide_equal s.kind 4)))
+    (decide_both _ _ (decide_implies _ _ (decide_names_word r) (λ k. decide_has_no (λ s. (s.word ≡ r.word) × (s.transaction ≢ r.transaction) × Bars log s) earlier
+    (λ s. decide_three _ _ _ (decide_equal s.word r.word) (decide_not _ (decide_equal s.transaction r.transaction)) (decide_bars log s))))
+    (decide_implies _ _ (decide_not _ (decide_equal r.kind 5)) (λ k. decide_implies _ _ (decide_running log r.transaction) (λ u. decide_undoes earlier r)))))))
 
 -- ---- room
 
@@ -159,7 +159,7 @@ unfoldable pub decide_room : (shape : Shape) (log : Log) (p room : ℕ) → IsDe
 unfolding decide_as decide_both decide_at_most decide_implies decide_equal decide_open
 decide_room shape log p room = decide_as _ (HasRoom shape log p room) (room_on shape log p room) (room_back shape log p room)
     (decide_both _ _ (decide_at_most (need_in (part_of shape) p log) room)
-        (decide_implies _ _ (decide_equal p 0) (λ z. decide_implies _ _ (decide_equal shape.policy 2) (λ two. decide_implies _ _ (decide_open log) (λ o. decide_at_most (need_in (part_of shape) p log + 1) room)))))
+    (decide_implies _ _ (decide_equal p 0) (λ z. decide_implies _ _ (decide_equal shape.policy 2) (λ two. decide_implies _ _ (decide_open log) (λ o. decide_at_most (need_in (part_of shape) p log + 1) room)))))
 
 abbrev NumberFacts : Shape → Log → Record → Type 0
 NumberFacts shape log r =
@@ -175,7 +175,7 @@ unfoldable pub decide_numbers : (shape : Shape) (log : Log) (r : Record) → IsD
 unfolding decide_as decide_both decide_at_most decide_implies decide_equal decide_open
 decide_numbers shape log r = decide_as (NumberFacts shape log r) (HasNumbers shape log r) (numbers_on shape log r) (numbers_back shape log r)
     (decide_both _ _ (decide_at_most (r.lsn + total_need (part_of shape) shape.partitions log) (2 ^ 63))
-        (decide_implies _ _ (decide_equal shape.policy 2) (λ two. decide_implies _ _ (decide_open log) (λ o. decide_at_most (r.lsn + total_need (part_of shape) shape.partitions log + 1) (2 ^ 63)))))
+    (decide_implies _ _ (decide_equal shape.policy 2) (λ two. decide_implies _ _ (decide_open log) (λ o. decide_at_most (r.lsn + total_need (part_of shape) shape.partitions log + 1) (2 ^ 63)))))
 
 -- ---- a state without a fault
 
@@ -183,15 +183,15 @@ decide_numbers shape log r = decide_as (NumberFacts shape log r) (HasNumbers sha
 abbrev pub LogHolds : Shape → State → Type 0
 LogHolds shape s =
     AllGood (λ earlier r. IsWellFormed shape r) s.log × (AllGood (Follows (part_of shape) s.log) s.log × (Each (λ p. HasRoom shape s.log p (s.room p)) (parts shape)
-        × (((r : Record) → IsAmong s.log r → HasNumbers shape s.log r) × Unit {0})))
+    × (((r : Record) → IsAmong s.log r → HasNumbers shape s.log r) × Unit {0})))
 
 unfoldable pub log_some : (shape : Shape) (s : State) → CanFail (LogHolds shape s) (IsLogFault shape s)
 unfolding oldest_some each_some tried_some none_fails decide_formed decide_follows decide_room decide_numbers decide_each
 log_some shape s =
     oldest_some (λ earlier r. IsWellFormed shape r) _ 7 s.log _ (λ earlier r. decide_formed shape r) (λ h1.
-      oldest_some (Follows (part_of shape) s.log) _ 8 s.log _ (decide_follows (part_of shape) s.log) (λ h2.
-        each_some (λ p. HasRoom shape s.log p (s.room p)) _ 9 (λ p. list_words p + 1) (parts shape) _ (λ p. decide_room shape s.log p (s.room p)) (λ h3.
-          tried_some _ (Unit {0}) 9 9 _ (decide_each (HasNumbers shape s.log) s.log (decide_numbers shape s.log)) (λ h4. none_fails))))
+    oldest_some (Follows (part_of shape) s.log) _ 8 s.log _ (decide_follows (part_of shape) s.log) (λ h2.
+    each_some (λ p. HasRoom shape s.log p (s.room p)) _ 9 (λ p. list_words p + 1) (parts shape) _ (λ p. decide_room shape s.log p (s.room p)) (λ h3.
+    tried_some _ (Unit {0}) 9 9 _ (decide_each (HasNumbers shape s.log) s.log (decide_numbers shape s.log)) (λ h4. none_fails))))
 
 all_formed : (shape : Shape) (log : Log) → AllGood (λ earlier r. IsWellFormed shape r) log → AreWellFormed shape log
 all_formed shape [] h r m = absurd m
@@ -239,7 +239,7 @@ log_one shape log s x es ex room i a j b h k =
   where
     rooms : Each (λ p. Alike (HasRoom shape log p (s.room p)) (HasRoom shape log p (x.room p))) (parts shape)
     rooms = each_in_range (λ p. Alike (HasRoom shape log p (s.room p)) (HasRoom shape log p (x.room p))) 0 shape.partitions (λ p le lt.
-      (subst (HasRoom shape log p) (room p (omega (arith, lt))), subst (HasRoom shape log p) (sym (room p (omega (arith, lt))))))
+        (subst (HasRoom shape log p) (room p (omega (arith, lt))), subst (HasRoom shape log p) (sym (room p (omega (arith, lt))))))
 
     one : AreOne (IsLogFault shape (record { log = log; words = s.words; room = s.room })) (IsLogFault shape (record { log = log; words = x.words; room = x.room }))
     one = oldest_one _ 7 log _ _ (oldest_one _ 8 log _ _ (each_one _ _ 9 (λ p. list_words p + 1) (parts shape) _ _ rooms (tried_one _ _ 9 9 _ _ (alike _) none_one)))

@@ -1,15 +1,14 @@
 -- The stack of a running transaction is the list of its updates that no compensation names.
-use Rattle.std.proofs.Common.{◌≡◌, ◌≢◌, ◌⊎◌, inl, inr, ℕ, Bool, true, false, not, ◌==◌, ◌&&◌, ◌||◌, if◌then◌else◌, [], ◌∷◌, refl, sym, ap, ◌∙◌, subst, arith}
+use Rattle.std.proofs.Common.{◌≡◌, ◌≢◌, ◌⊎◌, inl, inr, ℕ, ◌≤◌, Bool, true, false, not, ◌==◌, ◌&&◌, ◌||◌, if◌then◌else◌, [], ◌∷◌, ◌++◌, refl, sym, ap, ◌∙◌, subst, arith}
 use Rattle.std.proofs.lemmas.Bool.Decides.{eqb_tells, nat_tests}
-use Rattle.persist_model.specs.Records.{Record, Log, IsAmong, Has, HasNo, IsUpdate, IsCompensation, IsRunning}
+use Rattle.persist_model.specs.Records.{Record, Log, IsAmong, IsNewer, IsNewestFirst, Has, HasNo, IsCompensation, IsRunning}
 use Rattle.persist_model.specs.Order.{is_kind_of, undo_point, UndoesWell, FollowEach}
 use Rattle.persist_model.specs.Need.{rest, to_undo, is_named, unnamed_updates}
 use Rattle.persist_model.specs.Shape.{part_of}
-use Rattle.persist_model.specs.State.{State, IsSoundState}
-use Rattle.log_laws.specs.Naming.{StackIsUnnamed}
+use Rattle.log_laws.specs.Naming.{StackIsUnnamed, UndoPointIsEarlier}
 use Rattle.log_laws.proofs.Standings.{AreNumbered}
 use Rattle.log_laws.proofs.Growing.{numbered}
-use Rattle.log_laws.proofs.Stacks.{IsTo, updates, compensates, neither, is_to, top_lsn, HasStack, has_stack}
+use Rattle.log_laws.proofs.Stacks.{IsTo, updates, compensates, neither, is_to, top_lsn, HasStack, IsStack, has_stack}
 
 well_by : (part : ℕ → ℕ) (t : ℕ) (all log : Log) (r : Record) → IsRunning all t → FollowEach part all (r ∷ log) → r.transaction ≡ t → r.kind ≢ 5 → UndoesWell log r
 well_by part t all log r running f e ne = f.0.undo ne (subst (λ x. IsRunning all x) (sym e) running)
@@ -25,8 +24,8 @@ named_is_some part t lsn all (r ∷ log) running f e = by_kind (is_to t r) (name
     by_point : is_kind_of t 2 r ≡ true → IsCompensation r → r.transaction ≡ t → (is_named t lsn log ≡ true → Has (λ u. u.lsn ≡ lsn) log) → Has (λ u. u.lsn ≡ lsn) (r ∷ log)
     by_point two comp owner again = elim (eqb_tells (undo_point t log) lsn) [
       | inl same ↦ (
-        let c = (well_by part t all log r running f owner (λ k. absurd (omega (arith, comp, k)))).compensates comp in
-        (c.0, inr c.1.among, c.1.point ∙ ap (λ x. undo_point x log) owner ∙ same.1))
+          let c = (well_by part t all log r running f owner (λ k. absurd (omega (arith, comp, k)))).compensates comp in
+          (c.0, inr c.1.among, c.1.point ∙ ap (λ x. undo_point x log) owner ∙ same.1))
       | inr other ↦ further (again (sym ((rw (two, other.0) refl) ∙ refl) ∙ e))
     ]
 
@@ -133,11 +132,11 @@ unnamed_on part t all r log running apart nonzero f again = by_kind (is_to t r)
             ap (λ b. if b then r ∷ to_undo t log else (if is_kind_of t 2 r then rest (to_undo t log) else to_undo t log)) one
             ∙ ap (λ l. r ∷ l) (sym same)
             ∙ sym (ap (λ b. if b && not (is_named t r.lsn (r ∷ log)) then r ∷ unnamed_updates t (r ∷ log) log else unnamed_updates t (r ∷ log) log) one
-                ∙ ap (λ b. if not b then r ∷ unnamed_updates t (r ∷ log) log else unnamed_updates t (r ∷ log) log) fresh)
+            ∙ ap (λ b. if not b then r ∷ unnamed_updates t (r ∷ log) log else unnamed_updates t (r ∷ log) log) fresh)
     by_kind (compensates not_one two comp owner) =
         let names : (lsn : ℕ) → is_named t lsn (r ∷ log) ≡ ((undo_point t log == lsn) || is_named t lsn log) = (λ lsn. rw two refl) in
         let listed : unnamed_updates t (r ∷ log) log ≡ without_lsn (top_lsn (to_undo t log)) (to_undo t log) =
-            unnamed_less t (undo_point t log) log (r ∷ log) log names ∙ ap (without_lsn (undo_point t log)) (sym again) ∙ ap (λ n. without_lsn n (to_undo t log)) stack.point in
+        unnamed_less t (undo_point t log) log (r ∷ log) log names ∙ ap (without_lsn (undo_point t log)) (sym again) ∙ ap (λ n. without_lsn n (to_undo t log)) stack.point in
         let left : to_undo t (r ∷ log) ≡ rest (to_undo t log) = rw (not_one, two) refl in
         let right : unnamed_updates t (r ∷ log) (r ∷ log) ≡ unnamed_updates t (r ∷ log) log = skipped not_one in
         left ∙ less (to_undo t log) refl ∙ sym listed ∙ sym right
@@ -162,3 +161,57 @@ stack_is_unnamed part t all (r ∷ log) running apart nonzero f =
 pub stack_of_sound : StackIsUnnamed
 stack_of_sound shape s t h running =
     stack_is_unnamed (part_of shape) t s.log s.log running (numbered (part_of shape) s.log s.log h.order) h.gates h.order
+
+-- ---- the undo point
+
+-- a record is newer than another, is it, or is earlier
+among_parts : (newer : Log) (r : Record) (earlier : Log) (u : Record) → IsNewestFirst (newer ++ r ∷ earlier) → IsAmong (newer ++ r ∷ earlier) u → (r.lsn ≤ u.lsn) ⊎ IsAmong earlier u
+among_parts [] r earlier u n (inl e) = inl (let same : u.lsn ≡ r.lsn = ap (λ (x : Record). x.lsn) e in omega (arith, same))
+among_parts [] r earlier u n (inr m) = inr m
+among_parts (x ∷ newer) r earlier u n (inr m) = among_parts newer r earlier u n.1 m
+among_parts (x ∷ newer) r earlier u n (inl e) = inl (by (n.0 r (here newer)))
+  where
+    here : (front : Log) → IsAmong (front ++ r ∷ earlier) r
+    here [] = inl refl
+    here (y ∷ front) = inr (here front)
+
+    same : u.lsn ≡ x.lsn
+    same = ap (λ (y : Record). y.lsn) e
+
+    by : IsNewer x r → r.lsn ≤ u.lsn
+    by (inl lt) = omega (arith, lt, same)
+    by (inr h) = let eq = h.0 in omega (arith, eq, same)
+
+newer_than : (newer : Log) (r : Record) (earlier : Log) → IsNewestFirst (newer ++ r ∷ earlier) → (s : Record) → IsAmong earlier s → IsNewer r s
+newer_than [] r earlier n s m = n.0 s m
+newer_than (x ∷ newer) r earlier n s m = newer_than newer r earlier n.1 s m
+
+among_on : (newer : Log) (r : Record) (earlier : Log) (s : Record) → IsAmong earlier s → IsAmong (newer ++ r ∷ earlier) s
+among_on [] r earlier s m = inr m
+among_on (x ∷ newer) r earlier s m = inr (among_on newer r earlier s m)
+
+pub undo_point_is_earlier : UndoPointIsEarlier
+undo_point_is_earlier part log newer earlier r u is newest nonzero follow fresh running m point = elim (among_parts newer r earlier u sorted (subst (λ l. IsAmong l u) is m)) [
+  | inr k ↦ k
+  | inl le ↦ absurd (by (to_undo r.transaction earlier) refl le)
+]
+  where
+    sorted : IsNewestFirst (newer ++ r ∷ earlier)
+    sorted = subst IsNewestFirst is newest
+
+    stack : HasStack r.transaction earlier
+    stack = has_stack part r.transaction log earlier running (numbered part log earlier follow)
+        (λ x k. nonzero x (subst (λ l. IsAmong l x) (sym is) (among_on newer r earlier x k))) follow
+
+    below : (s : Record) → IsAmong earlier s → s.lsn ≡ u.lsn → r.lsn ≤ u.lsn → ⊥
+    below s k e le = lower (newer_than newer r earlier sorted s k)
+      where
+        lower : IsNewer r s → ⊥
+        lower (inl lt) = omega (arith, lt, e, le)
+        lower (inr h) = fresh s k h.0
+
+    by : (l : Log) → to_undo r.transaction earlier ≡ l → r.lsn ≤ u.lsn → ⊥
+    by [] e le = nonzero u m (point ∙ stack.point ∙ ap top_lsn e)
+    by (t ∷ rest) e le =
+        let s : IsStack r.transaction earlier (t ∷ rest) = subst (IsStack r.transaction earlier) e stack.stack in
+        below t s.0.among (sym (point ∙ stack.point ∙ ap top_lsn e)) le

@@ -1,5 +1,5 @@
 -- The records of an image as a list exist: the open cells of the chains are put in order one by one.
-use Rattle.std.proofs.Common.{◌≡◌, ◌≢◌, ◌⊎◌, ◌↔◌, inl, inr, ℕ, zero, suc, ◌<◌, List, [], ◌∷◌, ◌++◌, refl, sym, ap, ◌∙◌, subst, arith}
+use Rattle.std.proofs.Common.{◌≡◌, ◌≢◌, ◌⊎◌, inl, inr, ℕ, zero, suc, ◌<◌, List, [], ◌∷◌, ◌++◌, refl, sym, ap, ◌∙◌, subst, arith}
 use Rattle.std.proofs.lemmas.Bool.Decides.{eqb_tells}
 use Rattle.persist_model.specs.Region.{Words}
 use Rattle.persist_model.specs.Records.{Record, Log, IsAmong, IsNewer, IsNewestFirst}
@@ -218,15 +218,18 @@ records_some shape chains z = record {
     on : (r : Record) → IsOpenAt z ats r → (p : ℕ) × (p < shape.partitions) × IsRecordOf shape.cells (chains p) z r
     on r h =
         let k = all_on shape.cells chains shape.partitions h.0 h.1 in
-        let is : r ≡ record_at z (cell_address k.2.0 k.2.2) = h.3 ∙ ap (record_at z) k.2.4 in
-        (k.0, k.1, record {
-          bucket = k.2.0;
-          is_among = k.2.1;
-          place = k.2.2;
-          below = k.2.3;
-          is = is;
-          gate = λ e. h.2 (sym (ap (λ (x : Record). x.lsn) h.3) ∙ e);
-        })
+        let is : r ≡ record_at z (cell_address k.2.0 k.2.2) = h.3 ∙ ap (record_at z) k.2.4 in (
+          k.0,
+          k.1,
+          record {
+            bucket = k.2.0;
+            is_among = k.2.1;
+            place = k.2.2;
+            below = k.2.3;
+            is = is;
+            gate = λ e. h.2 (sym (ap (λ (x : Record). x.lsn) h.3) ∙ e);
+          },
+        )
 
     back : (r : Record) → (p : ℕ) × (p < shape.partitions) × IsRecordOf shape.cells (chains p) z r → IsOpenAt z ats r
     back r h = (

@@ -1,14 +1,14 @@
 -- A partition's list is sound exactly where its address rule and its list rules have no fault.
-use Rattle.std.proofs.Common.{◌≡◌, ◌≢◌, ◌⊎◌, inl, inr, ℕ, ◌+◌, ◌*◌, ◌-◌, ◌<◌, ◌≤◌, List, [], ◌∷◌, ◌++◌, refl, sym, ap, ◌∙◌, subst, arith}
+use Rattle.std.proofs.Common.{◌≡◌, ◌≢◌, ◌⊎◌, inl, inr, ℕ, ◌<◌, ◌≤◌, List, [], ◌∷◌, ◌++◌, refl, sym, ap, ◌∙◌, subst, arith}
 use Rattle.persist_model.specs.Region.{Words}
 use Rattle.persist_model.specs.Shape.{Shape, IsBucketOf, list_words}
 use Rattle.persist_model.specs.ImageRecords.{cell_address}
-use Rattle.persist_model.specs.Chain.{HEAD, TAIL, TO_APPEND, LAST_TAIL, TO_REMOVE, view, out_address, next_of, prev_of, IsLink, Each, AreBuckets, IsAbsent, HasNoRepeats, last_or, without, Links, IsWholeWalk, IsCutWalk, IsWalk, HasLinks, AddressRule, RemoveRule, IsExcepted, LinksBackBut, ListRules}
-use Rattle.persist_model.specs.Visit.{IsCutAt, IsUncut, IsVisit, HasArrived, link_behind, walk_from, chain_from, links_of, links_at, address_words}
+use Rattle.persist_model.specs.Chain.{HEAD, TAIL, TO_APPEND, LAST_TAIL, TO_REMOVE, view, out_address, next_of, prev_of, IsLink, Each, AreBuckets, IsAbsent, HasNoRepeats, last_or, without, Links, IsWholeWalk, IsCutWalk, IsWalk, HasLinks, RemoveRule, IsExcepted, LinksBackBut, ListRules}
+use Rattle.persist_model.specs.Visit.{IsUncut, IsVisit, HasArrived, link_behind, walk_from, chain_from, links_of, links_at, address_words}
 use Rattle.persist_model.specs.Sound.{IsClosedBucket, IsListOf}
-use Rattle.persist_model.specs.Faults.{TriedEach, TryAddressesOf, TryPoints, TryListOf, TryAddresses, TryLists}
-use Rattle.log_laws.proofs.Deciding.{IsDecided, decide_equal}
-use Rattle.log_laws.proofs.Tries.{CanFail, Excludes, AreOne, none_fails, each_some, each_none, each_one, each_alike}
+use Rattle.persist_model.specs.Faults.{FaultSet, TriedEach, TryPoints, TryAddresses, TryLists}
+use Rattle.log_laws.proofs.Deciding.{decide_equal}
+use Rattle.log_laws.proofs.Tries.{CanFail, Excludes, AreOne, each_some, each_none, each_one, each_alike}
 use Rattle.log_laws.proofs.AddressLists.{each_left, each_right, each_join, each_last, no_repeats_push, no_repeats_left, last_is_absent, links_last, links_nonzero}
 use Rattle.log_laws.proofs.Visits.{visit_some, visit_one, no_bucket_0, above_header}
 use Rattle.log_laws.proofs.ListFaults.{walk_none, walk_some, links_at_none, links_at_some, view_behind, decide_link, AddressesHold, PointsHold, points_some, points_none, points_one}
@@ -202,10 +202,23 @@ named_back shape p w a h = elim (decide_equal (w a) 0) [
 ]
 
 pub addresses_of_sound : (shape : Shape) (p : ℕ) (z : Words) (chain visited : List ℕ) → IsVisit (IsBucketOf shape p) (view p z) visited → IsListOf shape p z chain → AddressesHold shape z p visited
-addresses_of_sound shape p z chain visited visit h =
-    (register 8 (omega arith) (omega arith), (register 9 (omega arith) (omega arith), (register 10 (omega arith) (omega arith), (register 11 (omega arith) (omega arith), (register 12 (omega arith) (omega arith),
-        each_join (λ b. IsLink B (w b)) (links_of visited) (links_at w TO_APPEND ++ links_at w TO_REMOVE) (links_back_from shape p w visited front)
-        (each_join (λ b. IsLink B (w b)) (links_at w TO_APPEND) (links_at w TO_REMOVE) (named_back shape p w TO_APPEND rules.addresses.appended) (named_back shape p w TO_REMOVE rules.addresses.removed)))))))
+addresses_of_sound shape p z chain visited visit h = (
+  register 8 (omega arith) (omega arith),
+  (
+    register 9 (omega arith) (omega arith),
+    (
+      register 10 (omega arith) (omega arith),
+      (
+        register 11 (omega arith) (omega arith),
+        (
+          register 12 (omega arith) (omega arith),
+          each_join (λ b. IsLink B (w b)) (links_of visited) (links_at w TO_APPEND ++ links_at w TO_REMOVE) (links_back_from shape p w visited front)
+              (each_join (λ b. IsLink B (w b)) (links_at w TO_APPEND) (links_at w TO_REMOVE) (named_back shape p w TO_APPEND rules.addresses.appended) (named_back shape p w TO_REMOVE rules.addresses.removed)),
+        ),
+      ),
+    ),
+  ),
+)
   where
     w : Words
     w = view p z
@@ -232,10 +245,19 @@ pub points_of_sound : (shape : Shape) (p : ℕ) (z : Words) (chain visited : Lis
     PointsHold shape (view p z) visited (Unit {0})
 points_of_sound shape p z chain visited visit h = (
   rules.one_at_a_time,
-  (same.arrived, ((λ ne. (absent ne, rules.appending ne)), ((λ ne. (subst (λ c. RemoveRule w c (w TO_REMOVE) (w (prev_of (w TO_REMOVE))) (w (next_of (w TO_REMOVE)))) chain_is (rules.removing ne), closed ne)), (
-    subst (λ c. LinksBackBut w 0 c) chain_is rules.links_back,
-    (subst (λ c. (w TAIL ≡ last_or 0 c) ⊎ IsExcepted w TAIL) chain_is rules.tail, tt),
-  )))),
+  (
+    same.arrived,
+    (
+      (λ ne. (absent ne, rules.appending ne)),
+      (
+        (λ ne. (subst (λ c. RemoveRule w c (w TO_REMOVE) (w (prev_of (w TO_REMOVE))) (w (next_of (w TO_REMOVE)))) chain_is (rules.removing ne), closed ne)),
+        (
+          subst (λ c. LinksBackBut w 0 c) chain_is rules.links_back,
+          (subst (λ c. (w TAIL ≡ last_or 0 c) ⊎ IsExcepted w TAIL) chain_is rules.tail, tt),
+        ),
+      ),
+    ),
+  ),
 )
   where
     w : Words
@@ -273,22 +295,22 @@ HasAddresses shape z p = AddressesHold shape z p (visit_some shape p (view p z))
 abbrev pub HasPoints : Shape → Words → ℕ → Type 0
 HasPoints shape z p = PointsHold shape (view p z) (visit_some shape p (view p z)).0 (Unit {0})
 
-unfoldable pub addresses_some : (shape : Shape) (z : Words) (ps : List ℕ) (R : Type 0) (next : ℕ → ℕ → Type 0) → CanFail R next → CanFail (Each (HasAddresses shape z) ps × R) (TryAddresses shape z ps next)
+unfoldable pub addresses_some : (shape : Shape) (z : Words) (ps : List ℕ) (R : Type 0) (next : FaultSet) → CanFail R next → CanFail (Each (HasAddresses shape z) ps × R) (TryAddresses shape z ps next)
 unfolding visit_some each_some decide_link
 addresses_some shape z [] R next go = elim go [ inl r ↦ inl (tt, r) | inr f ↦ inr f ]
 addresses_some shape z (p ∷ ps) R next go =
     let v = visit_some shape p (view p z) in
     elim (each_some (λ b. IsLink (IsBucketOf shape p) (view p z b)) (Each (HasAddresses shape z) ps × R) 5 (out_address p) (address_words (view p z) v.0) (TryAddresses shape z ps next)
-        (λ b. decide_link shape p (view p z b)) (λ k. addresses_some shape z ps R next go)) [
-          | inl h ↦ inl ((h.0, h.1.0), h.1.1)
-          | inr f ↦ inr (f.0, f.1, (v.0, v.1, f.2))
-        ]
+    (λ b. decide_link shape p (view p z b)) (λ k. addresses_some shape z ps R next go)) [
+      | inl h ↦ inl ((h.0, h.1.0), h.1.1)
+      | inr f ↦ inr (f.0, f.1, (v.0, v.1, f.2))
+    ]
 
 -- the facts of a partition with those of the rest behind them
 points_with : (shape : Shape) (w : Words) (visited : List ℕ) (R : Type 0) → PointsHold shape w visited R → PointsHold shape w visited (Unit {0}) × R
 points_with shape w visited R h = ((h.0, (h.1.0, (h.1.1.0, (h.1.1.1.0, (h.1.1.1.1.0, (h.1.1.1.1.1.0, tt)))))), h.1.1.1.1.1.1)
 
-unfoldable pub lists_some : (shape : Shape) (z : Words) (ps : List ℕ) (R : Type 0) (next : ℕ → ℕ → Type 0) → CanFail R next → CanFail (Each (HasPoints shape z) ps × R) (TryLists shape z ps next)
+unfoldable pub lists_some : (shape : Shape) (z : Words) (ps : List ℕ) (R : Type 0) (next : FaultSet) → CanFail R next → CanFail (Each (HasPoints shape z) ps × R) (TryLists shape z ps next)
 unfolding visit_some points_some points_with
 lists_some shape z [] R next go = elim go [ inl r ↦ inl (tt, r) | inr f ↦ inr f ]
 lists_some shape z (p ∷ ps) R next go =
@@ -298,31 +320,31 @@ lists_some shape z (p ∷ ps) R next go =
       | inr f ↦ inr (f.0, f.1, (v.0, v.1, f.2))
     ]
 
-pub addresses_none : (shape : Shape) (z : Words) (ps : List ℕ) (next : ℕ → ℕ → Type 0) → Each (IsSoundPart shape z) ps → Excludes next → Excludes (TryAddresses shape z ps next)
+pub addresses_none : (shape : Shape) (z : Words) (ps : List ℕ) (next : FaultSet) → Each (IsSoundPart shape z) ps → Excludes next → Excludes (TryAddresses shape z ps next)
 addresses_none shape z [] next h ex i a k = ex i a k
 addresses_none shape z (p ∷ ps) next h ex i a k =
     each_none (λ b. IsLink (IsBucketOf shape p) (view p z b)) 5 (out_address p) (address_words (view p z) k.0) (TryAddresses shape z ps next) (addresses_of_sound shape p z h.0.0 k.0 k.1 h.0.1)
     (addresses_none shape z ps next h.1 ex) i a k.2
 
-pub lists_none : (shape : Shape) (z : Words) (ps : List ℕ) (next : ℕ → ℕ → Type 0) → Each (IsSoundPart shape z) ps → Excludes next → Excludes (TryLists shape z ps next)
+pub lists_none : (shape : Shape) (z : Words) (ps : List ℕ) (next : FaultSet) → Each (IsSoundPart shape z) ps → Excludes next → Excludes (TryLists shape z ps next)
 lists_none shape z [] next h ex i a k = ex i a k
 lists_none shape z (p ∷ ps) next h ex i a k =
     points_none shape (list_words p) (view p z) k.0 (TryLists shape z ps next) (points_of_sound shape p z h.0.0 k.0 k.1 h.0.1) (lists_none shape z ps next h.1 ex) i a k.2
 
-pub addresses_one : (shape : Shape) (z : Words) (ps : List ℕ) (next others : ℕ → ℕ → Type 0) → AreOne next others → AreOne (TryAddresses shape z ps next) (TryAddresses shape z ps others)
+pub addresses_one : (shape : Shape) (z : Words) (ps : List ℕ) (next others : FaultSet) → AreOne next others → AreOne (TryAddresses shape z ps next) (TryAddresses shape z ps others)
 addresses_one shape z [] next others one i a j b h k = one i a j b h k
 addresses_one shape z (p ∷ ps) next others one i a j b h k =
     let same = visit_one (IsBucketOf shape p) (view p z) k.0 h.0 k.1 h.1 in
     let moved : TriedEach (λ b. IsLink (IsBucketOf shape p) (view p z b)) 5 (out_address p) (address_words (view p z) h.0) (TryAddresses shape z ps others) j b =
-        subst (λ xs. TriedEach (λ b. IsLink (IsBucketOf shape p) (view p z b)) 5 (out_address p) (address_words (view p z) xs) (TryAddresses shape z ps others) j b) same k.2 in
+    subst (λ xs. TriedEach (λ b. IsLink (IsBucketOf shape p) (view p z b)) 5 (out_address p) (address_words (view p z) xs) (TryAddresses shape z ps others) j b) same k.2 in
     each_one _ _ 5 (out_address p) (address_words (view p z) h.0) (TryAddresses shape z ps next) (TryAddresses shape z ps others)
     (each_alike (λ b. IsLink (IsBucketOf shape p) (view p z b)) (address_words (view p z) h.0)) (addresses_one shape z ps next others one) i a j b h.2 moved
 
-pub lists_one : (shape : Shape) (z : Words) (ps : List ℕ) (next others : ℕ → ℕ → Type 0) → AreOne next others → AreOne (TryLists shape z ps next) (TryLists shape z ps others)
+pub lists_one : (shape : Shape) (z : Words) (ps : List ℕ) (next others : FaultSet) → AreOne next others → AreOne (TryLists shape z ps next) (TryLists shape z ps others)
 lists_one shape z [] next others one i a j b h k = one i a j b h k
 lists_one shape z (p ∷ ps) next others one i a j b h k =
     let w : Words = view p z in
     let same = visit_one (IsBucketOf shape p) w k.0 h.0 k.1 h.1 in
     let moved : TryPoints shape (list_words p) w h.0 (TryLists shape z ps others) j b =
-        subst (λ xs. TryPoints shape (list_words p) w xs (TryLists shape z ps others) j b) same k.2 in
+    subst (λ xs. TryPoints shape (list_words p) w xs (TryLists shape z ps others) j b) same k.2 in
     points_one shape (list_words p) w h.0 (TryLists shape z ps next) (TryLists shape z ps others) (lists_one shape z ps next others one) i a j b h.2 moved

@@ -1,17 +1,17 @@
 -- Any words are a sound image or have a first fault, and there is one; the standing words of a sound image are determined.
-use Rattle.std.proofs.Common.{◌≡◌, ◌≢◌, ◌⊎◌, inl, inr, ℕ, ◌+◌, ◌-◌, ◌*◌, ◌<◌, ◌≤◌, List, [], ◌∷◌, refl, sym, ap, ◌∙◌, subst, arith}
+use Rattle.std.proofs.Common.{◌≡◌, ◌≢◌, ◌⊎◌, inl, inr, ℕ, ◌+◌, ◌-◌, ◌*◌, ◌<◌, ◌≤◌, List, refl, sym, ap, ◌∙◌, subst, arith}
 use Rattle.std.specs.List.{range_with_len}
 use Rattle.persist_model.specs.Region.{Words}
-use Rattle.persist_model.specs.Records.{Record, Log, IsAmong}
+use Rattle.persist_model.specs.Records.{Record, IsAmong}
 use Rattle.persist_model.specs.Standing.{Stands}
 use Rattle.persist_model.specs.Shape.{Shape, part_of, FIRST_MAGIC, SECOND_MAGIC, shape_of, words_of_shape, heap_words, log_words, IsMagic, IsPolicy, IsCellCount, IsBucketCount, IsBlockCount, IsStructureCount, IsPartitionCount, IsKind, IsShape}
 use Rattle.persist_model.specs.Chain.{view, Each}
-use Rattle.persist_model.specs.ImageRecords.{IsRecordOf, AreRecords}
+use Rattle.persist_model.specs.ImageRecords.{IsRecordOf}
 use Rattle.persist_model.specs.State.{State, HasRoom, IsSoundState}
-use Rattle.persist_model.specs.Sound.{IsListOf, HasChain, HaveChains, room_of, HasState, IsSound, StandsIn}
+use Rattle.persist_model.specs.Sound.{IsListOf, HaveChains, room_of, HasState, IsSound}
 use Rattle.persist_model.specs.Faults.{IsShapeFault, IsListFault, IsLogFault, parts, IsFirstFault, in_header, in_lists, in_log}
-use Rattle.log_laws.specs.Soundness.{SoundOrFaulty, SoundHasNoFault, FirstFaultIsOne, StandingIsOne}
-use Rattle.log_laws.proofs.Deciding.{IsDecided, decide_equal, decide_less, decide_at_most, decide_either, decide_both, decide_implies}
+use Rattle.log_laws.specs.Soundness.{SoundHasNoFault, FirstFaultIsOne, StandingIsOne}
+use Rattle.log_laws.proofs.Deciding.{IsDecided, decide_equal, decide_at_most, decide_either, decide_both, decide_implies}
 use Rattle.log_laws.proofs.Tries.{CanFail, Excludes, AreOne, alike, none_fails, none_excluded, none_one, tried_some, tried_none, tried_one, each_some, each_none, each_one, each_alike}
 use Rattle.persist_model.specs.Visit.{chain_from}
 use Rattle.log_laws.proofs.Visits.{visit_some}
@@ -32,20 +32,20 @@ decide_within least most n = decide_both _ _ (decide_at_most least n) (decide_at
 abbrev pub ShapeHolds : ℕ → Words → Type 0
 ShapeHolds size w =
     ((32 ≤ size) × IsMagic (w 0)) × (IsPolicy (w 1) × (IsCellCount (w 2) × (IsBucketCount (w 3) × (IsBlockCount (w 4) × (IsStructureCount (w 5) × ((w 0 ≡ SECOND_MAGIC → IsPartitionCount (w 3) (w 6))
-        × (Each (λ a. w 0 ≡ SECOND_MAGIC → IsKind (w a)) (range_with_len 13 (w 5)) × ((size ≡ words_of_shape (shape_of w)) × Unit {0}))))))))
+    × (Each (λ a. w 0 ≡ SECOND_MAGIC → IsKind (w a)) (range_with_len 13 (w 5)) × ((size ≡ words_of_shape (shape_of w)) × Unit {0}))))))))
 
 unfoldable pub shape_some : (size : ℕ) (w : Words) → CanFail (ShapeHolds size w) (IsShapeFault size w)
 unfolding tried_some each_some none_fails decide_both decide_at_most decide_either decide_equal decide_within decide_implies decide_three
 shape_some size w =
     tried_some _ _ 1 0 _ (decide_both _ _ (decide_at_most 32 size) (decide_either _ _ (decide_equal (w 0) FIRST_MAGIC) (decide_equal (w 0) SECOND_MAGIC))) (λ h1.
-      tried_some _ _ 2 1 _ (decide_either _ _ (decide_equal (w 1) 1) (decide_equal (w 1) 2)) (λ h2.
-        tried_some _ _ 3 2 _ (decide_either _ _ (decide_equal (w 2) 1) (decide_equal (w 2) 16)) (λ h3.
-          tried_some _ _ 4 3 _ (decide_within 4 1024 (w 3)) (λ h4.
-            tried_some _ _ 4 4 _ (decide_within 16 65536 (w 4)) (λ h5.
-              tried_some _ _ 4 5 _ (decide_within 1 8 (w 5)) (λ h6.
-                tried_some _ _ 4 6 _ (decide_implies _ _ (decide_equal (w 0) SECOND_MAGIC) (λ k. decide_three _ _ _ (decide_at_most 1 (w 6)) (decide_at_most (w 6) 3) (decide_at_most (4 * w 6) (w 3)))) (λ h7.
-                  each_some (λ a. w 0 ≡ SECOND_MAGIC → IsKind (w a)) _ 4 (λ a. a) (range_with_len 13 (w 5)) _ (λ a. decide_implies _ _ (decide_equal (w 0) SECOND_MAGIC) (λ k. decide_within 1 3 (w a))) (λ h8.
-                    tried_some _ (Unit {0}) 4 0 _ (decide_equal size (words_of_shape (shape_of w))) (λ h9. none_fails)))))))))
+    tried_some _ _ 2 1 _ (decide_either _ _ (decide_equal (w 1) 1) (decide_equal (w 1) 2)) (λ h2.
+    tried_some _ _ 3 2 _ (decide_either _ _ (decide_equal (w 2) 1) (decide_equal (w 2) 16)) (λ h3.
+    tried_some _ _ 4 3 _ (decide_within 4 1024 (w 3)) (λ h4.
+    tried_some _ _ 4 4 _ (decide_within 16 65536 (w 4)) (λ h5.
+    tried_some _ _ 4 5 _ (decide_within 1 8 (w 5)) (λ h6.
+    tried_some _ _ 4 6 _ (decide_implies _ _ (decide_equal (w 0) SECOND_MAGIC) (λ k. decide_three _ _ _ (decide_at_most 1 (w 6)) (decide_at_most (w 6) 3) (decide_at_most (4 * w 6) (w 3)))) (λ h7.
+    each_some (λ a. w 0 ≡ SECOND_MAGIC → IsKind (w a)) _ 4 (λ a. a) (range_with_len 13 (w 5)) _ (λ a. decide_implies _ _ (decide_equal (w 0) SECOND_MAGIC) (λ k. decide_within 1 3 (w a))) (λ h8.
+    tried_some _ (Unit {0}) 4 0 _ (decide_equal size (words_of_shape (shape_of w))) (λ h9. none_fails)))))))))
 
 pub shape_of_holds : (size : ℕ) (w : Words) → ShapeHolds size w → IsShape size w
 shape_of_holds size w h = record {
@@ -71,12 +71,12 @@ shape_holds size w h =
 shape_none : (size : ℕ) (w : Words) → ShapeHolds size w → Excludes (IsShapeFault size w)
 shape_none size w h =
     tried_none _ 1 0 _ h.0 (tried_none _ 2 1 _ h.1.0 (tried_none _ 3 2 _ h.1.1.0 (tried_none _ 4 3 _ h.1.1.1.0 (tried_none _ 4 4 _ h.1.1.1.1.0 (tried_none _ 4 5 _ h.1.1.1.1.1.0
-        (tried_none _ 4 6 _ h.1.1.1.1.1.1.0 (each_none _ 4 (λ a. a) (range_with_len 13 (w 5)) _ h.1.1.1.1.1.1.1.0 (tried_none _ 4 0 _ h.1.1.1.1.1.1.1.1.0 none_excluded))))))))
+    (tried_none _ 4 6 _ h.1.1.1.1.1.1.0 (each_none _ 4 (λ a. a) (range_with_len 13 (w 5)) _ h.1.1.1.1.1.1.1.0 (tried_none _ 4 0 _ h.1.1.1.1.1.1.1.1.0 none_excluded))))))))
 
 shape_one : (size : ℕ) (w : Words) → AreOne (IsShapeFault size w) (IsShapeFault size w)
 shape_one size w =
     tried_one _ _ 1 0 _ _ (alike _) (tried_one _ _ 2 1 _ _ (alike _) (tried_one _ _ 3 2 _ _ (alike _) (tried_one _ _ 4 3 _ _ (alike _) (tried_one _ _ 4 4 _ _ (alike _) (tried_one _ _ 4 5 _ _ (alike _)
-        (tried_one _ _ 4 6 _ _ (alike _) (each_one _ _ 4 (λ a. a) (range_with_len 13 (w 5)) _ _ (each_alike (λ a. w 0 ≡ SECOND_MAGIC → IsKind (w a)) (range_with_len 13 (w 5))) (tried_one _ _ 4 0 _ _ (alike _) none_one))))))))
+    (tried_one _ _ 4 6 _ _ (alike _) (each_one _ _ 4 (λ a. a) (range_with_len 13 (w 5)) _ _ (each_alike (λ a. w 0 ≡ SECOND_MAGIC → IsKind (w a)) (range_with_len 13 (w 5))) (tried_one _ _ 4 0 _ _ (alike _) none_one))))))))
 
 -- ---- the lists
 
@@ -150,8 +150,14 @@ sound_of_image shape w s x h k sound =
     moved f =
         let g : LogHolds shape (record { log = x.log; words = s.words; room = s.room }) = subst (λ l. LogHolds shape (record { log = l; words = s.words; room = s.room })) log f in (
           g.0,
-          (g.1.0, (each_in_range (λ p. HasRoom shape x.log p (x.room p)) 0 shape.partitions (λ p le lt.
-            subst (HasRoom shape x.log p) (same_room shape w s x h k p (omega (arith, lt))) (of_range (λ q. HasRoom shape x.log q (s.room q)) 0 shape.partitions g.1.1.0 p le lt)), g.1.1.1)),
+          (
+            g.1.0,
+            (
+              each_in_range (λ p. HasRoom shape x.log p (x.room p)) 0 shape.partitions (λ p le lt.
+                  subst (HasRoom shape x.log p) (same_room shape w s x h k p (omega (arith, lt))) (of_range (λ q. HasRoom shape x.log q (s.room q)) 0 shape.partitions g.1.1.0 p le lt)),
+              g.1.1.1,
+            ),
+          ),
         )
 
 -- ---- the laws
@@ -205,8 +211,8 @@ standing_is_one size w a h =
       some.0,
       (h.state, h.has, some.1),
       λ x k. (
-        let log = same_log (shape_of w) w k.0 h.state k.1 h.has in
-        let words : k.0.words ≡ h.state.words = k.1.words ∙ sym h.has.words in
-        let moved : Stands (w 1) h.state.log h.state.words a x = subst (λ ws. Stands (w 1) h.state.log ws a x) words (subst (λ l. Stands (w 1) l k.0.words a x) log k.2) in
-        stands_one (w 1) h.state.log h.state.words a x some.0 (numbered (part_of (shape_of w)) h.state.log h.state.log h.sound.order) moved some.1),
+          let log = same_log (shape_of w) w k.0 h.state k.1 h.has in
+          let words : k.0.words ≡ h.state.words = k.1.words ∙ sym h.has.words in
+          let moved : Stands (w 1) h.state.log h.state.words a x = subst (λ ws. Stands (w 1) h.state.log ws a x) words (subst (λ l. Stands (w 1) l k.0.words a x) log k.2) in
+          stands_one (w 1) h.state.log h.state.words a x some.0 (numbered (part_of (shape_of w)) h.state.log h.state.log h.sound.order) moved some.1),
     )

@@ -1,9 +1,9 @@
 -- The walk of any words: it visits some buckets, and there is one list of them.
-use Rattle.std.proofs.Common.{◌≡◌, ◌≢◌, ◌⊎◌, inl, inr, ℕ, zero, suc, ◌+◌, ◌*◌, ◌<◌, ◌≤◌, true, false, ◌==◌, List, [], ◌∷◌, length, refl, sym, ap, ◌∙◌, subst, arith}
+use Rattle.std.proofs.Common.{◌≡◌, ◌≢◌, ◌⊎◌, inl, inr, ℕ, zero, suc, ◌+◌, ◌<◌, ◌≤◌, List, [], ◌∷◌, length, refl, sym, ap, ◌∙◌, subst, arith}
 use Rattle.std.proofs.lemmas.Bool.Decides.{eqb_tells}
 use Rattle.persist_model.specs.Region.{Words}
 use Rattle.persist_model.specs.Records.{IsAmong}
-use Rattle.persist_model.specs.Shape.{Shape, bucket, bucket_size, first_bucket, count_buckets, IsBucketOf}
+use Rattle.persist_model.specs.Shape.{Shape, bucket, first_bucket, count_buckets, IsBucketOf}
 use Rattle.persist_model.specs.Chain.{HEAD, TO_APPEND, LAST_TAIL, Each, AreBuckets, IsAbsent, HasNoRepeats, last_or, without, Links}
 use Rattle.persist_model.specs.Visit.{IsCutAt, IsUncut, IsVisit}
 use Rattle.log_laws.proofs.Deciding.{IsDecided, decide_equal, decide_not, decide_both, decide_as, decide_some, decide_at_most, decide_among, absent_of, absent_not}
@@ -104,10 +104,10 @@ rest_some B w decide nonzero (suc n) left seen before from le all = elim (decide
     | inl b ↦ elim (decide_among seen (w from)) [
       | inl m ↦ ([], rest_none B w seen before from (inr (inr m)))
       | inr new ↦ (
-        let absent = absent_of seen (w from) new in
-        let further : (xs : List ℕ) × IsRest B w (w from ∷ seen) (w from) (w from) xs =
-            rest_some B w decide nonzero n (without (w from) left) (w from ∷ seen) (w from) (w from) (left_fewer B seen left (w from) n all b absent le) (left_more B seen left (w from) all) in
-        (w from ∷ further.0, rest_on B w seen before from further.0 nonzero nc b absent further.1))
+          let absent = absent_of seen (w from) new in
+          let further : (xs : List ℕ) × IsRest B w (w from ∷ seen) (w from) (w from) xs =
+          rest_some B w decide nonzero n (without (w from) left) (w from ∷ seen) (w from) (w from) (left_fewer B seen left (w from) n all b absent le) (left_more B seen left (w from) all) in
+          (w from ∷ further.0, rest_on B w seen before from further.0 nonzero nc b absent further.1))
     ]
   ]
 ]
@@ -205,7 +205,7 @@ unfoldable pub decide_bucket : (shape : Shape) (p b : ℕ) → IsDecided (IsBuck
 unfolding decide_some decide_both decide_at_most decide_equal decide_as
 decide_bucket shape p b = decide_as _ (IsBucketOf shape p b) (bucket_on shape p b) (bucket_back shape p b)
     (decide_some (λ j. (first_bucket shape p ≤ j) × (b ≡ bucket shape j)) (first_bucket shape p + count_buckets shape p)
-        (λ j. decide_both _ _ (decide_at_most (first_bucket shape p) j) (decide_equal b (bucket shape j))))
+    (λ j. decide_both _ _ (decide_at_most (first_bucket shape p) j) (decide_equal b (bucket shape j))))
 
 -- the first n buckets of the region
 abbrev pub buckets_below : Shape → ℕ → List ℕ
@@ -227,5 +227,5 @@ unfolding rest_some decide_bucket
 visit_some shape p w =
     let all = buckets_below shape (first_bucket shape p + count_buckets shape p) in
     let found : (xs : List ℕ) × IsRest (IsBucketOf shape p) w [] 0 HEAD xs =
-        rest_some (IsBucketOf shape p) w (decide_bucket shape p) (no_bucket_0 shape p) (length all) all [] 0 HEAD (at_most_same (length all)) (all_among shape p) in
+    rest_some (IsBucketOf shape p) w (decide_bucket shape p) (no_bucket_0 shape p) (length all) all [] 0 HEAD (at_most_same (length all)) (all_among shape p) in
     (found.0, visit_of_rest (IsBucketOf shape p) w found.0 found.1)

@@ -2,7 +2,7 @@
 #![tactic(auto)]
 
 ghost use Rattle.log_laws.specs.Soundness.{SoundOrFaulty, SoundHasNoFault, FirstFaultIsOne, StandingIsOne};
-ghost use Rattle.log_laws.specs.Naming.{StackIsUnnamed};
+ghost use Rattle.log_laws.specs.Naming.{StackIsUnnamed, UndoPointIsEarlier};
 ghost use Rattle.log_laws.specs.Recovery.{RecoveryKeeps, RunsKeep, RecoveryEnds};
 ghost use Rattle.log_laws.specs.MoveRoom.{UpdateFits, DeletionFits, RollbackFits, CompensationFits, EndFits, CheckpointFits};
 ghost use Rattle.log_laws.specs.Moves.{MovesKeep, CommitsKeep};
@@ -31,6 +31,11 @@ pub fn standing_is_one()
 /// In a sound state the stack of a running transaction is the list of its updates that no compensation names.
 pub fn stack_is_unnamed()
     ensures { StackIsUnnamed }
+{}
+
+/// The update that a compensation names is an earlier record, so it may be sought among all.
+pub fn undo_point_is_earlier()
+    ensures { UndoPointIsEarlier }
 {}
 
 /// Each step of recovery keeps a sound state sound, with its standing values.
