@@ -3,8 +3,8 @@ use Rattle.std.proofs.Common.{◌≡◌, ◌≢◌, ◌⊎◌, inl, inr, ℕ, �
 use Rattle.std.specs.Prelude.{IsTrue}
 use Rattle.persist_model.specs.Region.{Words}
 use Rattle.persist_model.specs.Shape.{Shape, shape_of, words_of_shape, SECOND_MAGIC, IsBucketOf, IsShape}
-use Rattle.persist_model.specs.Chain.{Each, IsLink, AreBuckets, IsAbsent, HasNoRepeats, first_or, last_or, Links, LinksBack, ListRules}
-use Rattle.atomic_list.specs.Rules.{IsAtRest, IsAppending, IsRemoving, IsList, RulesAreCases, at_rest, appending, removing}
+use Rattle.persist_model.specs.Chain.{Each, IsLink, IsAbsent, HasNoRepeats, last_or, Links, LinksBack, ListRules}
+use Rattle.atomic_list.specs.Rules.{IsAtRest, IsAppending, IsRemoving, IsList, RulesAreCases}
 use Rattle.atomic_list.specs.Reads.{HasList}
 use Rattle.atomic_list.proofs.Chains.{Each-weaker, Each-push, Each-append, HasNoRepeats-push, Links-push, LinksBack-push, last-push}
 use Rattle.atomic_list.proofs.Removing.{first_of_links}

@@ -1,5 +1,5 @@
 -- What the checks of the tests find in the words of a small region: four buckets of one cell, at 32, 48, 64 and 80.
-use Rattle.std.specs.Prelude.{◌≡◌, ℕ, ◌+◌, ◌<◌, ◌≤◌, List}
+use Rattle.std.specs.Prelude.{◌≡◌, ℕ, ◌<◌, ◌≤◌, List}
 use Rattle.persist_model.specs.Region.{Words}
 use Rattle.persist_model.specs.Shape.{Shape, SECOND_MAGIC, IsBucketOf}
 use Rattle.persist_model.specs.Chain.{Each, AreBuckets, HasNoRepeats, last_or, Links, LinksBack, prev_of}

@@ -5,7 +5,10 @@ ghost use Rattle.atomic_list.specs.Reads.{HasList};
 ghost use Rattle.atomic_list.specs.Repairing.{CanRepair};
 
 use crate::checks::{Change, has_list};
-use atomic_list::{Insert, Remove, Repair, TO_APPEND, TO_REMOVE, after, insert_event, remove_event, repair_event, repair_of};
+use atomic_list::{
+    Insert, Remove, Repair, TO_APPEND, TO_REMOVE, after, insert_event, remove_event, repair_event,
+    repair_of,
+};
 use lane_traits::{Device, Done};
 use persist_model::{Event, Look, Pick};
 use std::alloc::Global;
@@ -21,8 +24,20 @@ enum Plan {
 
 fn event_of(plan: Plan, i: u32) -> Option<Event> {
     match plan {
-        Plan::Insert(a) => { if a.node < 96 { insert_event(a, i) } else { None } }
-        Plan::Remove(r) => { if r.next < 96 { remove_event(r, i) } else { None } }
+        Plan::Insert(a) => {
+            if a.node < 96 {
+                insert_event(a, i)
+            } else {
+                None
+            }
+        }
+        Plan::Remove(r) => {
+            if r.next < 96 {
+                remove_event(r, i)
+            } else {
+                None
+            }
+        }
     }
 }
 
@@ -68,7 +83,9 @@ fn is_inside(event: Event, size: u32) -> bool
 fn make<D: Device>(rt: &impl Abort, region: &mut D, lane: u32, event: Event)
     requires { lane ≤ 16 }
 {
-    assert!(rt; is_inside(event, region.size()));
+    if !is_inside(event, region.size()) {
+        panic!(rt; "outside the region");
+    }
     assert!(rt; region.reserve(1).is_ok());
     assert_eq!(rt; region.event(lane, event), Done::Made);
 }
@@ -102,7 +119,14 @@ fn word<W: Look>(words: &W, a: u32) -> u64 {
 }
 
 // A stop behind this many events of the plan, and the repair: whether the chain is then the one after the change.
-fn is_after(rt: &impl Abort, region: &mut PlainCells, change: &Change, plan: Plan, events: u32, pick: Pick) -> bool {
+fn is_after(
+    rt: &impl Abort,
+    region: &mut PlainCells,
+    change: &Change,
+    plan: Plan,
+    events: u32,
+    pick: Pick,
+) -> bool {
     for i in 0..events {
         if let Some(event) = event_of(plan, i) {
             make(rt, region, 0, event);
@@ -127,7 +151,13 @@ fn is_after(rt: &impl Abort, region: &mut PlainCells, change: &Change, plan: Pla
 }
 
 // The chain is the one after the change exactly from so many events on: for the oldest candidates, the newest, and the two mixes.
-fn each_stop(rt: &impl Abort, alloc: Global, change: &Change, plan: Plan, first: [u32; 4]) -> Result<(), Fail> {
+fn each_stop(
+    rt: &impl Abort,
+    alloc: Global,
+    change: &Change,
+    plan: Plan,
+    first: [u32; 4],
+) -> Result<(), Fail> {
     let words = image(alloc, change.before)?;
     let picks = [Pick::Old, Pick::New, Pick::Mix(0), Pick::Mix(1)];
     for (pick, first) in picks.iter().zip(first.iter()) {
@@ -151,10 +181,7 @@ fn a_stop_in_an_insertion_leaves_one_of_two_chains(rt: HostRuntime) -> Result<()
         node: 80,
         rest: &[],
     };
-    let insertion = Plan::Insert(Insert {
-        node: 80,
-        tail: 64,
-    });
+    let insertion = Plan::Insert(Insert { node: 80, tail: 64 });
     each_stop(&rt, rt.alloc(), &behind_three, insertion, [6, 5, 6, 5])?;
     let into_none = Change {
         before: &[],
@@ -163,10 +190,7 @@ fn a_stop_in_an_insertion_leaves_one_of_two_chains(rt: HostRuntime) -> Result<()
         node: 48,
         rest: &[],
     };
-    let insertion = Plan::Insert(Insert {
-        node: 48,
-        tail: 0,
-    });
+    let insertion = Plan::Insert(Insert { node: 48, tail: 0 });
     each_stop(&rt, rt.alloc(), &into_none, insertion, [6, 5, 6, 5])
 }
 

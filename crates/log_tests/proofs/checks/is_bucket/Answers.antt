@@ -1,4 +1,4 @@
-use Rattle.std.proofs.Common.{ℕ, ◌-◌, ◌/◌, arith}
+use Rattle.std.proofs.Common.{◌-◌, ◌/◌, arith}
 use Rattle.log_tests.proofs.checks.is_bucket.Goals as goal
 
 pub returns : goal.returns

@@ -1,4 +1,4 @@
-use Rattle.std.proofs.Common.{ℕ, take}
+use Rattle.std.proofs.Common.{take}
 use Rattle.std.specs.Prelude.{slice_index}
 use Rattle.log_tests.specs.Walked.{Walked}
 use Rattle.log_tests.proofs.checks.walked.Given as goal
