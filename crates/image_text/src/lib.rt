@@ -4,6 +4,7 @@
 mod draft;
 mod entry;
 mod image;
+pub mod laws;
 mod lines;
 mod number;
 mod reader;
