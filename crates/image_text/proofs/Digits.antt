@@ -1,13 +1,13 @@
 -- What was written in digits is spelled by them.
-use Rattle.std.proofs.Common.{◌≡◌, ℕ, zero, suc, ◌+◌, ◌-◌, ◌*◌, ◌/◌, ◌%◌, ◌<◌, ◌≤◌, ◌^◌, List, [], ◌∷◌, ◌++◌, length, get_or, refl, sym, ◌∙◌, ap, subst, arith, cond, Bool, true, false, not, ◌&&◌, ◌||◌, ◌==◌, Option, Some, None, lt-ltb, ne_eqb, eq-eqb, length-append, ⊎_elim}
-use Rattle.std.specs.Char.{digit_value, digit_char, is_digit}
+use Rattle.std.proofs.Common.{◌≡◌, ℕ, zero, suc, ◌+◌, ◌*◌, ◌/◌, ◌%◌, ◌<◌, ◌≤◌, ◌^◌, List, [], ◌∷◌, ◌++◌, length, get_or, refl, sym, ◌∙◌, ap, arith, cond, Bool, true, false, not, ◌&&◌, ◌||◌, ◌==◌, Some, None, lt-ltb, ne_eqb, eq-eqb, length-append, ⊎_elim}
+use Rattle.std.specs.Char.{digit_value, digit_char}
 use Rattle.std.specs.Fmt.{decimal}
-use Rattle.std.specs.Str.Parse.{AllDigits, digits_value, digits_value_after}
+use Rattle.std.specs.Str.Parse.{AllDigits, digits_value_after}
 use Rattle.std.proofs.lemmas.Bool.{cases_lt}
 use Rattle.std.proofs.lemmas.Fmt.{decimal_is_IsNumeral, decimal_nonempty, decimal_digit, length-decimal-le, first_decimal}
 use Rattle.std.proofs.lemmas.Int.Digits.{digits_push}
 use Rattle.std.proofs.lemmas.Str.{digit_value-digit_char}
-use Rattle.std.proofs.Math.Nat.{pow-suc, mod-lt, div-lt_iff_lt-mul}
+use Rattle.std.proofs.Math.Nat.{pow-suc}
 use Rattle.image_text.specs.Text.{spelled, is_short, number_of, value_of, hexadecimal}
 
 -- digits spell their number
@@ -36,16 +36,16 @@ no_zero n small =
     ⊎_elim
     (λ (l : 0 < n). either (length (decimal n) == 1) (not (get_or (decimal n) 0 0 == 48)) (ap not (ne_eqb _ _ (λ e. omega (arith, first_decimal n l small, e)))))
     (λ (l : n ≤ 0).
-        let one : length (decimal n) ≡ 1 = ap length (decimal_digit n (omega arith)) in
-        ap (λ b. b || not (get_or (decimal n) 0 0 == 48)) (eq-eqb (length (decimal n)) 1 one))
+    let one : length (decimal n) ≡ 1 = ap length (decimal_digit n (omega arith)) in
+    ap (λ b. b || not (get_or (decimal n) 0 0 == 48)) (eq-eqb (length (decimal n)) 1 one))
     (cases_lt 0 n)
 
 pub number_of-decimal : (n : ℕ) → n < 10 ^ 7 → number_of (decimal n) ≡ Some n
 number_of-decimal n few =
     let small : n < 2 ^ 64 = omega arith in
     let short : is_short (decimal n) ≡ true =
-        both _ _ (both _ _ (lt-ltb 0 (length (decimal n)) (decimal_nonempty n small)) (lt-ltb (length (decimal n)) 8 (omega (arith, length-decimal-le 7 n (omega arith) few small))))
-        (no_zero n small) in
+    both _ _ (both _ _ (lt-ltb 0 (length (decimal n)) (decimal_nonempty n small)) (lt-ltb (length (decimal n)) 8 (omega (arith, length-decimal-le 7 n (omega arith) few small))))
+    (no_zero n small) in
     ap (λ b. cond b (spelled 10 0 (decimal n)) None) short
     ∙ spelled-digits 10 0 (decimal n) (decimal_digits n small) ∙ ap Some (decimal_is_IsNumeral n small).1
 

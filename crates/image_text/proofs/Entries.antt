@@ -1,12 +1,11 @@
 -- A line that was written says what it was written of.
-use Rattle.std.proofs.Common.{◌≡◌, ℕ, ◌+◌, ◌<◌, ◌≤◌, ◌^◌, List, [], ◌∷◌, ◌++◌, refl, sym, ◌∙◌, ap, arith, true, Option, Some, codes}
+use Rattle.std.proofs.Common.{◌≡◌, ℕ, ◌<◌, ◌^◌, List, ◌∷◌, ◌++◌, refl, ◌∙◌, ap, arith, true, Option, Some, codes}
 use Rattle.std.specs.Fmt.{decimal}
 use Rattle.std.specs.List.{after_first}
 use Rattle.region_layout.specs.declared.layout.Kind.{Kind}
 use Rattle.region_layout.specs.declared.layout.Kind.TheVariants.{Cells, Tree, Hash}
-use Rattle.image_text.specs.declared.entry.Entry.{Entry}
 use Rattle.image_text.specs.declared.entry.Entry.TheVariants.{Size, Map, Word, End}
-use Rattle.image_text.specs.Text.{is_space, spelled, number_of, value_of, hexadecimal}
+use Rattle.image_text.specs.Text.{is_space, spelled, value_of, hexadecimal}
 use Rattle.image_text.specs.Grammar.{◌>>=◌, otherwise, word_entry, named_entry, end_entry, entry_of}
 use Rattle.image_text.specs.Written.{size_line, kind_line, word_line}
 use Rattle.image_text.proofs.Digits.{number_of-decimal, value_of-hexadecimal, decimal_digits}

@@ -1,5 +1,5 @@
 -- A text of lines has those lines, where no line has a line feed.
-use Rattle.std.proofs.Common.{◌≡◌, ℕ, zero, suc, ◌+◌, ◌<◌, ◌≤◌, ◌^◌, List, [], ◌∷◌, ◌++◌, length, take, drop, refl, sym, ◌∙◌, ap, arith, cond, Bool, true, false, not, ◌==◌, ne_eqb}
+use Rattle.std.proofs.Common.{◌≡◌, ℕ, suc, ◌+◌, ◌≤◌, List, [], ◌∷◌, ◌++◌, length, take, drop, refl, ◌∙◌, ap, arith, cond, Bool, true, false, not, ◌==◌, ne_eqb}
 use Rattle.std.specs.Char.{digit_value}
 use Rattle.std.specs.List.{slice_split, onto_first, prefix_len, position_or_len, before_first, after_first}
 use Rattle.std.specs.Str.Parse.{AllDigits}

@@ -6,3 +6,5 @@ pub mod Digits
 pub mod Feeds
 pub mod Entries
 pub mod RoundTrip
+mod Examples
+pub mod Bounds

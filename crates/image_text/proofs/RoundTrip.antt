@@ -1,6 +1,7 @@
 -- What was written reads as what it was written of.
-use Rattle.std.proofs.Common.{◌≡◌, ℕ, zero, suc, ◌+◌, ◌-◌, ◌<◌, ◌≤◌, ◌^◌, List, [], ◌∷◌, ◌++◌, length, get_or, refl, sym, ◌∙◌, ap, subst, arith, cond, Bool, true, false, ◌&&◌, ◌||◌, ◌==◌, Option, Some, Result, Ok, codes, nat_lt, nat_le, lt-ltb, le-leb, ne_eqb, eq-eqb, append_assoc, append-nil, length-append, ⊎_elim, replicate}
+use Rattle.std.proofs.Common.{◌≡◌, ℕ, suc, ◌+◌, ◌-◌, ◌<◌, ◌≤◌, ◌^◌, List, [], ◌∷◌, ◌++◌, length, get_or, refl, sym, ◌∙◌, ap, arith, cond, Bool, true, false, ◌&&◌, ◌||◌, ◌==◌, Some, Result, Ok, codes, nat_lt, nat_le, lt-ltb, le-leb, ne_eqb, eq-eqb, append_assoc, append-nil, length-append, ⊎_elim, replicate}
 use Rattle.std.specs.Fmt.{decimal}
+use Rattle.persist_model.specs.declared.format.TheConstants.{MAX_WORDS}
 use Rattle.std.proofs.lemmas.Bool.{cases_lt}
 use Rattle.std.proofs.lemmas.List.{replicate_more, length-replicate}
 use Rattle.region_layout.specs.declared.layout.Kind.{Kind}
@@ -9,9 +10,9 @@ use Rattle.image_text.specs.declared.image.Image.{Image}
 use Rattle.image_text.specs.declared.image.TextFault.{TextFault}
 use Rattle.image_text.specs.declared.draft.Part.TheVariants as part
 use Rattle.image_text.specs.declared.draft.Draft.{Draft}
-use Rattle.image_text.specs.Text.{lines, text_of, hexadecimal}
-use Rattle.image_text.specs.Grammar.{◌>>=◌, guard, MAX_WORDS, has_maps, is_next_word, padded, with_entry, with_size, with_map, with_word, with_end, after_line, blank_draft, image_of, image_from, image}
-use Rattle.image_text.specs.Written.{size_line, kind_line, kind_lines, word_line, word_lines, image_lines, image_text, IsWritable, WrittenReads}
+use Rattle.image_text.specs.Text.{hexadecimal}
+use Rattle.image_text.specs.Grammar.{◌>>=◌, guard, has_maps, padded, with_entry, with_size, with_map, with_word, with_end, after_line, blank_draft, image_of, image_from, image}
+use Rattle.image_text.specs.Written.{size_line, kind_line, kind_lines, word_line, word_lines, image_lines, WrittenReads}
 use Rattle.image_text.proofs.Digits.{decimal_digits, hexadecimal_digits}
 use Rattle.image_text.proofs.Feeds.{AllLack, AllLack-append, lacks-append, digits_lack, lines-text_of}
 use Rattle.image_text.proofs.Entries.{entry_of-size, entry_of-kind, entry_of-end, entry_of-word}
@@ -109,7 +110,7 @@ unfolding after_line with_word
 word_read draft a v maps behind within small fits =
     ap (λ e. e >>= with_entry draft) (entry_of-word a v small fits)
     ∙ ap (λ b. guard b >>= λ _. Some (with draft a v))
-      (all_three (has_maps draft) (nat_le (length draft.words) a) (nat_lt a draft.size) maps (le-leb _ _ behind) (lt-ltb _ _ within))
+    (all_three (has_maps draft) (nat_le (length draft.words) a) (nat_lt a draft.size) maps (le-leb _ _ behind) (lt-ltb _ _ within))
 
 end_read : (n : ℕ) (draft : Draft) → has_maps draft ≡ true
     → image_from n draft (codes "end" ∷ []) ≡ Ok (record { kinds = draft.kinds; words = padded draft.size draft.words })
@@ -134,26 +135,27 @@ words_read n a draft [] maps behind ends small fit =
 words_read n a draft (v ∷ words) maps behind ends small fit =
     ⊎_elim
     (λ (none : v < 1).
-        let zero_is : v ≡ 0 = omega arith in
-        ap (λ b. image_from n draft (cond b (word_lines (a + 1) words) (word_line a v ∷ word_lines (a + 1) words) ++ codes "end" ∷ [])) (eq-eqb v 0 zero_is)
-        ∙ words_read n (a + 1) draft words maps (omega arith) (omega arith) small rest_fits
-        ∙ ap (λ ws. image_ok (ws ++ words)) (padded_more a draft.words behind)
-        ∙ ap image_ok (append_assoc (padded a draft.words) (0 ∷ []) words)
-        ∙ ap (λ z. image_ok (padded a draft.words ++ z ∷ words)) (sym zero_is))
+    let zero_is : v ≡ 0 = omega arith in
+    ap (λ b. image_from n draft (cond b (word_lines (a + 1) words) (word_line a v ∷ word_lines (a + 1) words) ++ codes "end" ∷ [])) (eq-eqb v 0 zero_is)
+    ∙ words_read n (a + 1) draft words maps (omega arith) (omega arith) small rest_fits
+    ∙ ap (λ ws. image_ok (ws ++ words)) (padded_more a draft.words behind)
+    ∙ ap image_ok (append_assoc (padded a draft.words) (0 ∷ []) words)
+    ∙ ap (λ z. image_ok (padded a draft.words ++ z ∷ words)) (sym zero_is))
     (λ (some : 1 ≤ v).
-        let next = with draft a v in
-        let long : length next.words ≡ a + 1 = omega (arith, length-append (padded a draft.words) (v ∷ []), length-padded a draft.words behind) in
-        ap (λ b. image_from n draft (cond b (word_lines (a + 1) words) (word_line a v ∷ word_lines (a + 1) words) ++ codes "end" ∷ [])) (ne_eqb v 0 (λ e. omega arith))
-        ∙ goes_on n draft next (word_line a v) (word_lines (a + 1) words ++ codes "end" ∷ [])
-          (word_read draft a v maps behind (omega arith) (omega arith) (fit.each 0 (omega arith)))
-        ∙ words_read (n + 1) (a + 1) next words refl (omega arith) (omega arith) small rest_fits
-        ∙ ap (λ m. image_ok (padded m next.words ++ words)) (sym long)
-        ∙ ap (λ ws. image_ok (ws ++ words)) (padded_same next.words)
-        ∙ ap image_ok (append_assoc (padded a draft.words) (v ∷ []) words))
+    let next = with draft a v in
+    let long : length next.words ≡ a + 1 = omega (arith, length-append (padded a draft.words) (v ∷ []), length-padded a draft.words behind) in
+    ap (λ b. image_from n draft (cond b (word_lines (a + 1) words) (word_line a v ∷ word_lines (a + 1) words) ++ codes "end" ∷ [])) (ne_eqb v 0 (λ e. omega arith))
+    ∙ goes_on n draft next (word_line a v) (word_lines (a + 1) words ++ codes "end" ∷ [])
+    (word_read draft a v maps behind (omega arith) (omega arith) (fit.each 0 (omega arith)))
+    ∙ words_read (n + 1) (a + 1) next words refl (omega arith) (omega arith) small rest_fits
+    ∙ ap (λ m. image_ok (padded m next.words ++ words)) (sym long)
+    ∙ ap (λ ws. image_ok (ws ++ words)) (padded_same next.words)
+    ∙ ap image_ok (append_assoc (padded a draft.words) (v ∷ []) words))
     (cases_lt v 1)
   where
     image_ok : List ℕ → Result Image TextFault
     image_ok ws = Ok (record { kinds = draft.kinds; words = ws })
+
     rest_fits : Fit words
     rest_fits = record { each = λ k h. fit.each (suc k) (omega arith) }
 
@@ -166,9 +168,11 @@ written_reads kinds words h =
     let few : size ≤ MAX_WORDS = h.small in
     let ls = image_lines kinds words in
     let end = codes "end" ∷ [] in
-    let lack : AllLack 10 ls =
-        ((size_lacks size (omega arith)).0, AllLack-append 10 (kind_lines kinds) (word_lines 0 words ++ end) (kinds_lack kinds)
-          (AllLack-append 10 (word_lines 0 words) end (words_lack 0 words (omega arith)) (refl, tt))) in
+    let lack : AllLack 10 ls = (
+      (size_lacks size (omega arith)).0,
+      AllLack-append 10 (kind_lines kinds) (word_lines 0 words ++ end) (kinds_lack kinds)
+          (AllLack-append 10 (word_lines 0 words) end (words_lack 0 words (omega arith)) (refl, tt)),
+    ) in
     let maps : has_maps (mapped size kinds) ≡ true = ap (λ b. b || false) (lt-ltb 0 (length kinds) h.some) in
     let fit : Fit words = record { each = h.fit } in
     ap (image_from 1 blank_draft) (lines-text_of ls lack)

@@ -2,6 +2,7 @@
 use Rattle.std.specs.Prelude.{◌≡◌, ℕ, ◌+◌, ◌-◌, List, [], ◌∷◌, ◌++◌, length, Bool, true, false, ◌&&◌, ◌||◌, nat_lt, nat_le, Option, Some, None, Result, Ok, Err, if◌then◌else◌, codes, replicate}
 use Rattle.std.specs.List.{before_first, after_first}
 use Rattle.std.specs.Str.{bytes_eq}
+use Rattle.persist_model.specs.declared.format.TheConstants.{MAX_WORDS}
 use Rattle.region_layout.specs.declared.layout.Kind.{Kind}
 use Rattle.region_layout.specs.declared.layout.Kind.TheVariants.{Cells, Tree, Hash}
 use Rattle.image_text.specs.declared.image.Image.{Image}
@@ -62,9 +63,6 @@ entry_of line =
     (otherwise (named_entry (before_first is_space line) (after_first is_space line)) (end_entry line))
 
 -- ---- the lines together
-
-abbrev pub MAX_WORDS : ℕ
-MAX_WORDS = 1187872
 
 abbrev pub is_start : Part → Bool
 is_start part.Start = true

@@ -1,9 +1,11 @@
 -- The text of an image.
 use Rattle.std.specs.Prelude.{◌≡◌, ℕ, ◌+◌, ◌<◌, ◌≤◌, ◌^◌, List, [], ◌∷◌, ◌++◌, length, ◌==◌, Ok, if◌then◌else◌, codes, decimal, map, slice_index}
+use Rattle.persist_model.specs.declared.format.TheConstants.{MAX_WORDS}
 use Rattle.region_layout.specs.declared.layout.Kind.{Kind}
 use Rattle.region_layout.specs.declared.layout.Kind.TheVariants.{Cells, Tree, Hash}
+use Rattle.image_text.specs.declared.image.Image.{Image}
 use Rattle.image_text.specs.Text.{text_of, hexadecimal}
-use Rattle.image_text.specs.Grammar.{MAX_WORDS, image}
+use Rattle.image_text.specs.Grammar.{image}
 
 -- image W
 unfoldable pub size_line : ℕ → List ℕ
@@ -45,3 +47,7 @@ pub record IsWritable (kinds : List Kind) (words : List ℕ) : Type 0 where
 abbrev pub WrittenReads : Type 0
 WrittenReads = (kinds : List Kind) (words : List ℕ) → IsWritable kinds words
     → image (image_text kinds words) ≡ Ok (record { kinds = kinds; words = words })
+
+-- What a text says can be written.
+abbrev pub ReadIsWritable : Type 0
+ReadIsWritable = (text : List ℕ) (found : Image) → image text ≡ Ok found → IsWritable found.kinds found.words
