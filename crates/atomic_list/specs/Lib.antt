@@ -1,0 +1,9 @@
+pub mod Plans
+pub mod Rules
+pub mod Walk
+pub mod Reads
+pub mod ListPlans
+pub mod Insertion
+pub mod Removal
+pub mod Repairing
+pub mod Views

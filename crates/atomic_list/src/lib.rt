@@ -1,0 +1,11 @@
+//! The recoverable doubly linked list of buckets: its plans of events, its repair, and what is read from it.
+#![tactic(auto)]
+
+pub mod laws;
+mod plans;
+mod reads;
+mod repairing;
+
+pub use plans::{HEAD, Insert, LAST_TAIL, Remove, TAIL, TO_APPEND, TO_REMOVE, insert_event, remove_event};
+pub use reads::after;
+pub use repairing::{Repair, repair_event, repair_of};
