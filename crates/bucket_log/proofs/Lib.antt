@@ -1,0 +1,6 @@
+pub mod ListFacts
+pub mod Addresses
+pub mod RecordSets
+pub mod Rooms
+pub mod Bodies
+pub mod Appending

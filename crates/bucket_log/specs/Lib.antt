@@ -1,0 +1,5 @@
+pub mod Words
+pub mod Plans
+pub mod Places
+pub mod Appends
+pub mod States
