@@ -18,3 +18,6 @@ pub mod Finishing
 pub mod Committing
 pub mod SameLists
 pub mod Views
+pub mod Moving
+pub mod MoveNeeds
+pub mod MoveRooms
