@@ -4,3 +4,5 @@ pub mod RecordSets
 pub mod Rooms
 pub mod Bodies
 pub mod Appending
+pub mod Parts
+pub mod PartStates
