@@ -1,6 +1,8 @@
 //! What holds of every layout, as functions that do nothing: the clause is the law.
 ghost use Rattle.region_layout.specs.Layout.{layout_shape, IsAllowed};
 ghost use Rattle.region_layout.specs.Apart.{WordsAreApart, PartsAreApart};
+ghost use Rattle.region_layout.specs.Fresh.{FreshIsEmpty};
+ghost use Rattle.region_layout.specs.Cell.{CellsAreRecords};
 
 use crate::layout::Layout;
 
@@ -17,4 +19,14 @@ pub fn words_are_apart()
 /// Each bucket is in one partition of the log.
 pub fn parts_are_apart()
     ensures { PartsAreApart }
+{}
+
+/// A fresh region is sound: it has its layout's shape, empty chains, no record and all room.
+pub fn fresh_regions_are_empty()
+    ensures { FreshIsEmpty }
+{}
+
+/// A cell that is read has the words from its address on, and is the record there.
+pub fn cells_are_records()
+    ensures { CellsAreRecords }
 {}
