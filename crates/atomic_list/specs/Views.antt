@@ -6,8 +6,10 @@ use Rattle.persist_model.specs.Shape.{Shape, IsBucketOf}
 use Rattle.persist_model.specs.Chain.{TO_REMOVE, view}
 use Rattle.persist_model.specs.ImageRecords.{cell_address}
 use Rattle.persist_model.specs.Sound.{IsClosedBucket, IsListOf}
+use Rattle.atomic_list.specs.declared.plans.Insert.{Insert}
 use Rattle.atomic_list.specs.declared.plans.Remove.{Remove}
 use Rattle.atomic_list.specs.Rules.{IsList, IsListWord}
+use Rattle.atomic_list.specs.Insertion.{CanInsert, inserted}
 use Rattle.atomic_list.specs.Removal.{CanRemove, removed}
 use Rattle.atomic_list.specs.Repairing.{repaired}
 
@@ -28,6 +30,11 @@ IsListWordOrGate shape p a = IsListWord shape p a ⊎ IsGate shape p a
 abbrev pub ViewsHaveLists : Type 0
 ViewsHaveLists = (shape : Shape) (p : ℕ) (z : Words) (chain : List ℕ) →
     IsListOf shape p z chain ↔ IsList shape p (view p z) chain × IsRemovedClosed shape (view p z)
+
+-- in no image of an insertion a bucket is being taken out
+abbrev pub InsertionRemovesNone : Type 0
+InsertionRemovesNone = (shape : Shape) (p : ℕ) (w v : Words) (xs : List ℕ) (a : Insert) (k : ℕ) →
+    CanInsert shape p w xs a → Reaches (IsListWord shape p) (inserted w a k) v → v TO_REMOVE ≡ 0
 
 -- a removal of a closed bucket keeps it closed as long as it is being taken out
 abbrev pub RemovedStaysClosed : Type 0

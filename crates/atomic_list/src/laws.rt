@@ -6,7 +6,7 @@ ghost use Rattle.atomic_list.specs.ListPlans.{PlansBegin, PlansAdvance, PlansSta
 ghost use Rattle.atomic_list.specs.Insertion.{InsertionIsOnList, EachInsertingImage, EachImageBefore, InsertionEnds, EachImageOfInsertions, InsertionsEnd};
 ghost use Rattle.atomic_list.specs.Removal.{RemovalIsOnList, EachRemovingImage, RemovalEnds, EachImageOfRemovals, RemovalsEnd};
 ghost use Rattle.atomic_list.specs.Repairing.{RepairIsOnList, EachRepairingImage, RepairEnds, EachImageOfRepairs, RepairsEnd};
-ghost use Rattle.atomic_list.specs.Views.{ViewsHaveLists, RemovedStaysClosed, RepairedStaysClosed};
+ghost use Rattle.atomic_list.specs.Views.{ViewsHaveLists, InsertionRemovesNone, RemovedStaysClosed, RepairedStaysClosed};
 
 /// The plans have exactly 11, 7 and 5 events.
 pub fn plans_have_events()
@@ -151,6 +151,11 @@ pub fn repairs_end()
 /// A partition's list is sound exactly where its view has a list, and the bucket that is being taken out is closed.
 pub fn views_have_lists()
     ensures { ViewsHaveLists }
+{}
+
+/// In no image of an insertion a bucket is being taken out.
+pub fn insertion_removes_none()
+    ensures { InsertionRemovesNone }
 {}
 
 /// A closed bucket stays so as long as it is being taken out.
