@@ -17,12 +17,14 @@ use Rattle.log_laws.proofs.Views.{AreStoresOn, AreStoresOn-append, AreStoresOn-m
 use Rattle.atomic_list.specs.Plans.{insertion}
 use Rattle.atomic_list.specs.Rules.{IsAtRest, IsList, at_rest, IsListWord}
 use Rattle.atomic_list.specs.Insertion.{CanInsert, inserted}
+use Rattle.atomic_list.proofs.Insertions.{insertion_images, insertion_before, insertion_ends}
+use Rattle.atomic_list.proofs.Repairs.{still}
 use Rattle.bucket_log.specs.declared.place.Place.{Place}
 use Rattle.bucket_log.specs.Words.{IsLogWord, KeepsLog, AddsToLog, AddsRecord}
 use Rattle.bucket_log.specs.Plans.{closing, body, opening, insertion_of, place_address, append_plan}
 use Rattle.bucket_log.specs.Places.{IsFreshPlace, IsUsedPlace, IsPlaceBy}
 use Rattle.bucket_log.specs.Appends.{CanAppend, KeepsOrAdds, appending}
-use Rattle.bucket_log.proofs.ListFacts.{insertion_images, insertion_before, insertion_ends, insertion_stores, still, chain_few}
+use Rattle.bucket_log.proofs.ListFacts.{insertion_stores, chain_few}
 use Rattle.bucket_log.proofs.Addresses.{bucket_above, list_word_is_no_cell, list_word_is_log_word, cell_word_is_log_word, cells_apart}
 use Rattle.bucket_log.proofs.RecordSets.{same_cell, IsKept, SameRecords-from, AddsRecord-from, gate_of}
 use Rattle.bucket_log.proofs.Rooms.{room_same, room-last, room_full, room_of_push, closed_same, closed_all, closed_less}
@@ -332,13 +334,13 @@ module _ (shape : Shape) (p : ℕ) (w v : Words) (xs : List ℕ) (place : Place)
       (Reaches-part Log (IsListWord shape p) (advance_all shut_made (take j put)) v (list_word_is_log_word shape p) s)
 
   put_early : (k j : ℕ) → j ≤ 4 → Reaches Log (progress_at w ((shut ++ put) ++ cell_part) k) v → Reaches Log (advance_all shut_made (take j put)) v → KeepsLog shape p w xs v
-  put_early k j few h s = same_chain k h (insertion_before shape p w v xs (insertion_of place) j can few (put_words j s))
+  put_early k j few h s = same_chain k h (insertion_before shape p w xs (insertion_of place) can v j few (put_words j s))
 
   while_putting : (k j : ℕ) → Reaches Log (progress_at w ((shut ++ put) ++ cell_part) k) v → Reaches Log (advance_all shut_made (take (suc j) put)) v → KeepsLog shape p w xs v
   while_putting k zero h s = put_early k 1 (omega arith) h s
   while_putting k (suc zero) h s = put_early k 2 (omega arith) h s
   while_putting k (suc (suc zero)) h s = put_early k 3 (omega arith) h s
-  while_putting k (suc (suc (suc i))) h s = elim (insertion_images shape p w v xs (insertion_of place) (suc (suc (suc (suc i)))) can (put_words (suc (suc (suc (suc i)))) s)) [
+  while_putting k (suc (suc (suc i))) h s = elim (insertion_images shape p w xs (insertion_of place) can v (suc (suc (suc (suc i)))) (put_words (suc (suc (suc (suc i)))) s)) [
     | inl list ↦ same_list k h list
     | inr list ↦ longer_chain k h list (no_removal k h) (λ c lt. gates_shut c i lt s)
   ]

@@ -6,3 +6,5 @@ pub mod Bodies
 pub mod Appending
 pub mod Parts
 pub mod PartStates
+pub mod Appended
+pub mod AppendPlans

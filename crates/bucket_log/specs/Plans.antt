@@ -5,7 +5,7 @@ use Rattle.persist_model.specs.declared.event.Event.TheVariants.{PStore, Fence}
 use Rattle.persist_model.specs.Records.{Record}
 use Rattle.persist_model.specs.ImageRecords.{cell_address}
 use Rattle.atomic_list.specs.declared.plans.Insert.{Insert}
-use Rattle.atomic_list.specs.Plans.{insertion}
+use Rattle.atomic_list.specs.Plans.{insertion, HasEvents}
 use Rattle.bucket_log.specs.declared.place.Place.{Place}
 
 -- 0 to the gates of the bucket's first n cells, in order
@@ -34,3 +34,10 @@ place_address place = cell_address place.bucket place.cell
 -- a fresh bucket's gates are zeroed and it is put behind the chain; then the record's cell is written, and its gate last
 abbrev pub append_plan : ℕ → Place → Record → List Event
 append_plan cells place r = (if place.fresh then closing place.bucket cells ++ insertion (insertion_of place) else []) ++ cell_plan r
+
+-- a fresh append has exactly 21 events and one for each cell of a bucket, another has 10
+abbrev pub append_events : ℕ → Place → ℕ
+append_events cells place = if place.fresh then 21 + cells else 10
+
+abbrev pub AppendsHaveEvents : Type 0
+AppendsHaveEvents = (cells : ℕ) (place : Place) (r : Record) → HasEvents (append_plan cells place r) (append_events cells place)
