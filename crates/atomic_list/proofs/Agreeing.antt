@@ -1,7 +1,7 @@
 -- Words that agree on the list words have the same list, and so the same chain and the same repair.
-use Rattle.std.proofs.Common.{◌≡◌, inl, inr, ℕ, ◌+◌, ◌<◌, ◌≤◌, ◌==◌, if◌then◌else◌, List, refl, sym, ◌∙◌, subst, arith}
+use Rattle.std.proofs.Common.{◌≡◌, inl, ℕ, ◌+◌, ◌<◌, ◌==◌, if◌then◌else◌, List, refl, sym, ◌∙◌, subst, arith}
 use Rattle.persist_model.specs.Region.{Words}
-use Rattle.persist_model.specs.Shape.{Shape, shape_of, heap, IsBucketOf, SECOND_MAGIC}
+use Rattle.persist_model.specs.Shape.{Shape, shape_of, IsBucketOf, SECOND_MAGIC}
 use Rattle.persist_model.specs.Chain.{HEAD, last_or}
 use Rattle.atomic_list.specs.declared.repairing.Repair.{Repair}
 use Rattle.atomic_list.specs.declared.repairing.Repair.TheVariants.{Nothing, Append, Remove as TakeOut}

@@ -1,14 +1,13 @@
 -- The gates of the bucket that is being taken out, and a partition's list in its view.
-use Rattle.std.proofs.Common.{◌≡◌, ◌≢◌, ◌⊎◌, inl, inr, ℕ, zero, suc, ◌+◌, ◌-◌, ◌*◌, ◌<◌, ◌≤◌, false, ◌==◌, ◌||◌, if◌then◌else◌, List, [], ◌∷◌, ◌++◌, take, Some, refl, ap, sym, ◌∙◌, subst, arith}
-use Rattle.std.specs.Prelude.{slice_get}
+use Rattle.std.proofs.Common.{◌≡◌, ◌≢◌, ◌⊎◌, inl, inr, ℕ, zero, suc, ◌+◌, ◌*◌, ◌<◌, ◌≤◌, List, [], ◌∷◌, ◌++◌, take, refl, ap, sym, ◌∙◌, subst, arith}
 use Rattle.std.proofs.lemmas.Bool.Decides.{nat_tests, eqb_tells}
 use Rattle.persist_model.specs.declared.event.Event.{Event}
 use Rattle.persist_model.specs.declared.event.Event.TheVariants.{Store, PStore, WriteBack, Fence}
 use Rattle.persist_model.specs.Region.{Words}
 use Rattle.persist_model.specs.Progress.{Progress, start, advance, advance_all, Wrote, write, Reaches}
 use Rattle.persist_model.specs.Runs.{progress_at}
-use Rattle.persist_model.specs.Shape.{Shape, bucket_size, list_words, IsBucketOf}
-use Rattle.persist_model.specs.Chain.{TO_REMOVE, view, word_behind, word_before}
+use Rattle.persist_model.specs.Shape.{Shape, bucket_size, IsBucketOf}
+use Rattle.persist_model.specs.Chain.{view, word_behind}
 use Rattle.persist_model.specs.ImageRecords.{cell_address}
 use Rattle.persist_model.specs.Sound.{IsClosedBucket, IsListOf}
 use Rattle.persist_model.proofs.Tracking.{Wrote-push_other, latest_cases}
@@ -20,14 +19,14 @@ use Rattle.atomic_list.specs.Rules.{IsList, at_rest, appending, removing, IsList
 use Rattle.atomic_list.specs.Insertion.{CanInsert, inserted}
 use Rattle.atomic_list.specs.Removal.{CanRemove, removed}
 use Rattle.atomic_list.specs.Repairing.{repaired}
-use Rattle.atomic_list.specs.ListPlans.{IsOnList, IsListPlan}
+use Rattle.atomic_list.specs.ListPlans.{IsListPlan}
 use Rattle.atomic_list.specs.Views.{IsRemovedClosed, IsListWordOrGate}
 use Rattle.atomic_list.proofs.Chains.{bucket_shape, bucket_above}
 use Rattle.atomic_list.proofs.Splits.{Each-left, Each-right}
 use Rattle.atomic_list.proofs.RulesToCases.{list_of_rules}
 use Rattle.atomic_list.proofs.CasesToRules.{rules_of_list}
 use Rattle.atomic_list.proofs.OnList.{AreOnList}
-use Rattle.atomic_list.proofs.Insertions.{a_link, insertion_is_on_list}
+use Rattle.atomic_list.proofs.Insertions.{a_link}
 use Rattle.atomic_list.proofs.Removals.{words_apart, are_apart, removal_is_on_list}
 use Rattle.atomic_list.proofs.Repairs.{repair_is_on_list, asked-at_rest, asked-appending, asked-removing}
 use Rattle.atomic_list.proofs.Preparing.{last_link}
@@ -154,9 +153,13 @@ insertion_removes_none shape part w v xs a k can r =
         AreAllowed (λ u. u ≡ 0) 12 (PStore node 0 ∷ PStore (node + 1) tail ∷ PStore 11 tail ∷ Fence ∷ PStore 10 node ∷ Fence ∷ PStore link node ∷ PStore 9 node ∷ Fence ∷ PStore 10 0 ∷ Fence ∷ [])
     allowed node link tail n1 n2 n3 = (
       (λ e. absurd (n1 e)),
-      ((λ e. absurd (n2 e)),
-      ((λ e. absurd (omega arith)),
-      (tt, ((λ e. absurd (omega arith)), (tt, ((λ e. absurd (n3 e)), ((λ e. absurd (omega arith)), (tt, ((λ e. absurd (omega arith)), (tt, tt)))))))))),
+      (
+        (λ e. absurd (n2 e)),
+        (
+          (λ e. absurd (omega arith)),
+          (tt, ((λ e. absurd (omega arith)), (tt, ((λ e. absurd (n3 e)), ((λ e. absurd (omega arith)), (tt, ((λ e. absurd (omega arith)), (tt, tt)))))))),
+        ),
+      ),
     )
 
 pub removed_stays_closed : (shape : Shape) (part : ℕ) (w v : Words) (front rest : List ℕ) (r : Remove) (k : ℕ) → CanRemove shape part w front rest r →

@@ -1,5 +1,5 @@
 -- Each image of each prefix of an insertion has the list before or the one after.
-use Rattle.std.proofs.Common.{◌≡◌, ◌≢◌, ◌⊎◌, inl, inr, ℕ, zero, suc, ◌+◌, ◌≤◌, List, [], ◌∷◌, ◌++◌, Some, refl, ap, sym, ◌∙◌, arith, subst}
+use Rattle.std.proofs.Common.{◌≡◌, ◌≢◌, inl, inr, ℕ, zero, suc, ◌+◌, ◌≤◌, List, [], ◌∷◌, ◌++◌, Some, refl, ap, sym, ◌∙◌, arith, subst}
 use Rattle.std.specs.Prelude.{slice_get}
 use Rattle.std.proofs.lemmas.Bool.Decides.{nat_tests}
 use Rattle.persist_model.specs.declared.event.Event.{Event}
@@ -17,7 +17,7 @@ use Rattle.atomic_list.specs.Insertion.{CanInsert, inserted, IsBeforeOrAfter, Is
 use Rattle.atomic_list.specs.ListPlans.{IsListPlan}
 use Rattle.atomic_list.proofs.Chains.{bucket_shape, word_behind-last}
 use Rattle.atomic_list.proofs.Cases.{no_bucket_is_0}
-use Rattle.atomic_list.proofs.Preparing.{IsLinkWord, last_link, last_is_link, register, next_word, prev_word, link_word, IsPrepared, preparing, prepared3, prepared4, prepared5, prepared6, at_rest-prepared, appending-prepared}
+use Rattle.atomic_list.proofs.Preparing.{IsLinkWord, last_link, last_is_link, register, next_word, prev_word, link_word, preparing, prepared3, prepared4, prepared5, prepared6, at_rest-prepared, appending-prepared}
 use Rattle.atomic_list.proofs.Appending.{linking, linking_at, linking5}
 use Rattle.atomic_list.proofs.OnList.{list_plan}
 
@@ -153,9 +153,19 @@ module _ (shape : Shape) (part : ℕ) (w : Words) (xs : List ℕ) (a : Insert) (
   insertion_is_on_list =
       let five = register shape part in
       let link = link_word shape part (word_behind a.tail) a_link.high in
-      list_plan shape part (insertion a)
-      (next_word shape part a.node can.bucket,
-      (prev_word shape part a.node can.bucket,
-      (five 11 (omega arith) (omega arith),
-      (tt, (five 10 (omega arith) (omega arith),
-      (tt, (link, (five 9 (omega arith) (omega arith), (tt, (five 10 (omega arith) (omega arith), (tt, tt)))))))))))
+      list_plan shape part (insertion a) (
+        next_word shape part a.node can.bucket,
+        (
+          prev_word shape part a.node can.bucket,
+          (
+            five 11 (omega arith) (omega arith),
+            (
+              tt,
+              (
+                five 10 (omega arith) (omega arith),
+                (tt, (link, (five 9 (omega arith) (omega arith), (tt, (five 10 (omega arith) (omega arith), (tt, tt)))))),
+              ),
+            ),
+          ),
+        ),
+      )

@@ -19,3 +19,4 @@ pub mod CasesToRules
 pub mod Agreeing
 pub mod Reading
 pub mod Closings
+pub mod Examples

@@ -1,7 +1,7 @@
 -- Sound list words have a chain.
 use Rattle.std.proofs.Common.{ℕ, List, sym, subst}
 use Rattle.persist_model.specs.Region.{Words}
-use Rattle.persist_model.specs.Shape.{Shape, IsBucketOf}
+use Rattle.persist_model.specs.Shape.{Shape}
 use Rattle.persist_model.specs.Chain.{Chain}
 use Rattle.atomic_list.specs.Rules.{IsList, at_rest, appending, removing}
 use Rattle.atomic_list.proofs.Cases.{Chain-at_rest, Chain-appending}

@@ -1,5 +1,5 @@
 -- The chain's next bucket, as it is read from the words.
-use Rattle.std.proofs.Common.{◌≡◌, ◌≢◌, ◌⊎◌, inl, inr, ℕ, ◌+◌, ◌<◌, ◌≤◌, ◌^◌, Bool, true, false, cond, ◌==◌, List, [], ◌∷◌, ◌++◌, refl, ap, sym, ◌∙◌, arith, subst, append-nil}
+use Rattle.std.proofs.Common.{◌≡◌, ◌≢◌, ◌⊎◌, inl, inr, ℕ, ◌+◌, ◌<◌, ◌≤◌, Bool, true, false, cond, ◌==◌, List, [], ◌∷◌, ◌++◌, refl, ap, sym, ◌∙◌, arith, subst, append-nil}
 use Rattle.std.proofs.lemmas.Bool.Decides.{nat_tests, eqb_tells}
 use Rattle.persist_model.specs.Region.{Words}
 use Rattle.persist_model.specs.Shape.{Shape, heap, IsBucketOf}
@@ -9,7 +9,7 @@ use Rattle.persist_model.specs.Records.{IsAmong}
 use Rattle.atomic_list.specs.Reads.{IsLinkedOn, behind, next_in}
 use Rattle.atomic_list.proofs.Fits.{asked_fit}
 use Rattle.atomic_list.proofs.Parts.{bucket_fits}
-use Rattle.atomic_list.proofs.Chains.{bucket_above, Each-last, Each-push, Links-last, HasNoRepeats-push}
+use Rattle.atomic_list.proofs.Chains.{bucket_above, Each-last, Links-last}
 use Rattle.atomic_list.proofs.Splits.{Each-left, Each-right, HasNoRepeats-left, HasNoRepeats-right, HasNoRepeats-across}
 use Rattle.atomic_list.proofs.Removing.{first_of_links}
 use Rattle.atomic_list.proofs.Cases.{no_bucket_is_0, chain_is_buckets}
@@ -144,7 +144,7 @@ behind-among : (xs : List ℕ) (b : ℕ) → behind b xs ≢ 0 → IsAmong xs (b
 behind-among [] b ne = absurd (ne refl)
 behind-among (x ∷ xs) b ne = behind_or_first x xs b (b == x) (λ q. behind-among xs b q) ne
 
-next_in-among : (xs : List ℕ) (b : ℕ) → next_in xs b ≢ 0 → IsAmong xs (next_in xs b)
+pub next_in-among : (xs : List ℕ) (b : ℕ) → next_in xs b ≢ 0 → IsAmong xs (next_in xs b)
 next_in-among xs b ne = at xs (b == 0) ne
   where
     at : (ys : List ℕ) (t : Bool) → cond t (first_or 0 ys) (behind b ys) ≢ 0 → IsAmong ys (cond t (first_or 0 ys) (behind b ys))

@@ -1,16 +1,15 @@
 -- Plans whose events are on the words of a list.
-use Rattle.std.proofs.Common.{◌≡◌, inl, inr, ℕ, zero, suc, List, [], ◌∷◌, Some, sym, ◌∙◌, subst}
-use Rattle.std.specs.Prelude.{slice_get}
+use Rattle.std.proofs.Common.{◌≡◌, inl, inr, ℕ, zero, suc, List, [], ◌∷◌, subst}
 use Rattle.persist_model.specs.declared.event.Event.{Event}
 use Rattle.persist_model.specs.declared.event.Event.TheVariants.{Store, PStore, WriteBack, Fence}
-use Rattle.persist_model.specs.Region.{Words, Region, after, MayStand, AreInside}
-use Rattle.persist_model.specs.Progress.{Progress, Wrote, IsDurable, Tracks, Reaches, AreSettledAt, IsAside}
+use Rattle.persist_model.specs.Region.{Words, Region, MayStand, AreInside}
+use Rattle.persist_model.specs.Progress.{Wrote, IsDurable, Reaches, AreSettledAt}
 use Rattle.persist_model.specs.Runs.{progress_at, Run}
 use Rattle.persist_model.specs.Shape.{Shape}
 use Rattle.persist_model.proofs.Tracking.{Tracks-settled, Tracks-aside, Reaches-image}
 use Rattle.persist_model.proofs.Running.{Tracks-makes, Tracks-run}
 use Rattle.atomic_list.specs.Rules.{IsListWord}
-use Rattle.atomic_list.specs.ListPlans.{IsOnList, IsListPlan, IsMaking, PlansBegin, PlansAdvance, PlansStay, PlansRun, ListImagesReach, ListSettles}
+use Rattle.atomic_list.specs.ListPlans.{IsOnList, IsListPlan, PlansBegin, PlansAdvance, PlansStay, PlansRun, ListImagesReach, ListSettles}
 
 abbrev pub AreOnList : Shape → ℕ → List Event → Type 0
 AreOnList shape part [] = Unit {0}

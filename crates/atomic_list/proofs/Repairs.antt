@@ -9,7 +9,7 @@ use Rattle.persist_model.proofs.Running.{take_nil}
 use Rattle.persist_model.specs.Shape.{Shape, IsBucketOf}
 use Rattle.persist_model.specs.Chain.{HEAD, IsLink, first_or, last_or, word_behind, word_before}
 use Rattle.atomic_list.specs.Plans.{repair_plan, repair_asked}
-use Rattle.atomic_list.specs.Repairing.{repaired, IsRepaired, IsLinkedIn, RepairLeaves}
+use Rattle.atomic_list.specs.Repairing.{repaired, IsRepaired, RepairLeaves}
 use Rattle.atomic_list.specs.declared.plans.Insert.{Insert}
 use Rattle.atomic_list.specs.declared.plans.Remove.{Remove}
 use Rattle.atomic_list.specs.ListPlans.{IsListPlan}

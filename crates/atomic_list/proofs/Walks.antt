@@ -6,7 +6,7 @@ use Rattle.persist_model.specs.Shape.{Shape, IsBucketOf, first_bucket, count_buc
 use Rattle.persist_model.specs.Chain.{HEAD, LAST_TAIL, Each, AreBuckets, IsAbsent, HasNoRepeats, last_or, without, Links}
 use Rattle.atomic_list.specs.Rules.{IsAtRest, IsAppending, IsRemoving, IsList, at_rest, appending, removing}
 use Rattle.atomic_list.specs.Walk.{follow, chain_of}
-use Rattle.atomic_list.proofs.Chains.{bucket_above, Each-push, Each-last, HasNoRepeats-push, without-absent}
+use Rattle.atomic_list.proofs.Chains.{bucket_above, Each-last, without-absent}
 use Rattle.atomic_list.proofs.Cases.{no_bucket_is_0, chain_is_buckets, chain_has_no_repeats}
 use Rattle.atomic_list.proofs.Parts.{parts_fit}
 use Rattle.atomic_list.proofs.Splits.{Each-left, Each-right, Each-join, HasNoRepeats-insert, without-append, without-first, Links-insert, Links-join}

@@ -6,6 +6,8 @@ mod plans;
 mod reads;
 mod repairing;
 
-pub use plans::{HEAD, Insert, LAST_TAIL, Remove, TAIL, TO_APPEND, TO_REMOVE, insert_event, remove_event};
+pub use plans::{
+    HEAD, Insert, LAST_TAIL, Remove, TAIL, TO_APPEND, TO_REMOVE, insert_event, remove_event,
+};
 pub use reads::after;
 pub use repairing::{Repair, repair_event, repair_of};

@@ -29,10 +29,10 @@ pub fn repair_event(repair: Repair, i: u32) -> Option<Event>
     }
 }
 
-/// What the recovery words ask for.
-pub fn repair_of<W: Look>(words: &W) -> Repair
+// What the words that are read ask for.
+fn read_repair<W: Look>(words: &W) -> Repair
     requires { HasList (length (W.words words.now)) (slice_index (W.words words.now)) }
-    ensures { (w : Words) → SameLog (slice_index (W.words words.now)) w → result ≡ repair_asked w }
+    ensures { result ≡ repair_asked (slice_index (W.words words.now)) }
 {
     let appended = bucket_at(words, TO_APPEND);
     if appended != 0 {
@@ -53,4 +53,12 @@ pub fn repair_of<W: Look>(words: &W) -> Repair
         prev,
         next,
     })
+}
+
+/// What the recovery words ask for, in all words that have the same log.
+pub fn repair_of<W: Look>(words: &W) -> Repair
+    requires { HasList (length (W.words words.now)) (slice_index (W.words words.now)) }
+    ensures { (w : Words) → SameLog (slice_index (W.words words.now)) w → result ≡ repair_asked w }
+{
+    read_repair(words)
 }

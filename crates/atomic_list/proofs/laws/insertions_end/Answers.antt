@@ -6,6 +6,6 @@ use Rattle.atomic_list.proofs.laws.insertions_end.Goals as goal
 
 pub returns : goal.returns
 returns c = λ shape p lane w xs a before region can settled run. (
-      run_settles shape p lane w (insertion a) 11 before region (insertion_is_on_list shape p w xs a can) settled run refl,
-      insertion_after shape p w xs a can,
-    )
+  run_settles shape p lane w (insertion a) 11 before region (insertion_is_on_list shape p w xs a can) settled run refl,
+  insertion_after shape p w xs a can,
+)
