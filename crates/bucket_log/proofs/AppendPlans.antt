@@ -7,7 +7,7 @@ use Rattle.persist_model.specs.declared.event.Event.TheVariants.{PStore}
 use Rattle.persist_model.specs.Records.{Record}
 use Rattle.persist_model.specs.ImageRecords.{cell_address}
 use Rattle.atomic_list.specs.Plans.{insertion, HasEvents}
-use Rattle.bucket_log.specs.declared.place.Place.{Place}
+use Rattle.bucket_log.specs.declared.append.Place.{Place}
 use Rattle.bucket_log.specs.Plans.{closing, cell_plan, insertion_of, append_plan, append_events, AppendsHaveEvents}
 
 slice_get-left : (xs ys : List Event) (i : ℕ) → i < length xs → slice_get (xs ++ ys) i ≡ slice_get xs i

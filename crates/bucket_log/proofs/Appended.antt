@@ -31,13 +31,13 @@ use Rattle.atomic_list.proofs.RulesToCases.{list_of_rules}
 use Rattle.atomic_list.proofs.ListChains.{list_has_chain}
 use Rattle.atomic_list.proofs.Unique.{chain_is_one}
 use Rattle.region_layout.specs.Layout.{IsAllowed}
-use Rattle.bucket_log.specs.declared.place.Place.{Place}
+use Rattle.bucket_log.specs.declared.append.Place.{Place}
 use Rattle.bucket_log.specs.Words.{IsLogWord, IsPartWord, SameRecords, AddsRecord, KeepsLog, AddsToLog}
 use Rattle.bucket_log.specs.Plans.{closing, body, insertion_of, append_plan}
 use Rattle.bucket_log.specs.Places.{IsPlaceBy}
 use Rattle.bucket_log.specs.Appends.{CanAppend, KeepsOrAdds, region_append, AppendLeaves, EachAppendingImage, AppendEnds, EachImageOfAppends, AppendsEnd}
 use Rattle.bucket_log.specs.States.{less_room, AppendsAreStates, AppendsTakeCell}
-use Rattle.bucket_log.proofs.Parts.{few_parts, log_word_out, log_word_own, part_word_below, part_of_cell}
+use Rattle.bucket_log.proofs.Partitions.{few_parts, log_word_out, log_word_own, part_word_below, part_of_cell}
 use Rattle.bucket_log.proofs.RecordSets.{same_cell}
 use Rattle.bucket_log.proofs.Rooms.{room_same}
 use Rattle.bucket_log.proofs.PartStates.{less_here, less_elsewhere, part_kept, part_grown}

@@ -19,7 +19,7 @@ use Rattle.atomic_list.specs.Rules.{IsAtRest, IsList, at_rest, IsListWord}
 use Rattle.atomic_list.specs.Insertion.{CanInsert, inserted}
 use Rattle.atomic_list.proofs.Insertions.{insertion_images, insertion_before, insertion_ends}
 use Rattle.atomic_list.proofs.Repairs.{still}
-use Rattle.bucket_log.specs.declared.place.Place.{Place}
+use Rattle.bucket_log.specs.declared.append.Place.{Place}
 use Rattle.bucket_log.specs.Words.{IsLogWord, KeepsLog, AddsToLog, AddsRecord}
 use Rattle.bucket_log.specs.Plans.{closing, body, opening, insertion_of, place_address, append_plan}
 use Rattle.bucket_log.specs.Places.{IsFreshPlace, IsUsedPlace, IsPlaceBy}

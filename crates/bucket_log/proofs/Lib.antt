@@ -4,7 +4,8 @@ pub mod RecordSets
 pub mod Rooms
 pub mod Bodies
 pub mod Appending
-pub mod Parts
+pub mod Partitions
 pub mod PartStates
 pub mod Appended
 pub mod AppendPlans
+pub mod Walking

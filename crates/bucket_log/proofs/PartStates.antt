@@ -16,7 +16,7 @@ use Rattle.log_laws.proofs.Views.{out_cases, view-out, view_behind}
 use Rattle.region_layout.specs.Layout.{IsAllowed}
 use Rattle.bucket_log.specs.Words.{IsBucketWord, IsPartWord, SameRecords, AddsRecord}
 use Rattle.bucket_log.specs.States.{less_room}
-use Rattle.bucket_log.proofs.Parts.{few_parts, part_words_apart}
+use Rattle.bucket_log.proofs.Partitions.{few_parts, part_words_apart}
 use Rattle.bucket_log.proofs.RecordSets.{same_cell}
 use Rattle.bucket_log.proofs.Rooms.{room_same}
 use Rattle.bucket_log.proofs.Appending.{Each-among, among_last}

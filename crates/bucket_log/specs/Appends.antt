@@ -9,7 +9,7 @@ use Rattle.persist_model.specs.Shape.{Shape}
 use Rattle.persist_model.specs.Chain.{view, out_event}
 use Rattle.atomic_list.specs.Rules.{IsAtRest}
 use Rattle.region_layout.specs.Layout.{IsAllowed}
-use Rattle.bucket_log.specs.declared.place.Place.{Place}
+use Rattle.bucket_log.specs.declared.append.Place.{Place}
 use Rattle.bucket_log.specs.Words.{IsPartWord, KeepsLog, AddsToLog}
 use Rattle.bucket_log.specs.Plans.{append_plan, place_address}
 use Rattle.bucket_log.specs.Places.{IsPlace}

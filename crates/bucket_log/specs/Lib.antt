@@ -3,3 +3,5 @@ pub mod Plans
 pub mod Places
 pub mod Appends
 pub mod States
+pub mod Reads
+pub mod Scans

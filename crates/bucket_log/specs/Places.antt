@@ -5,7 +5,7 @@ use Rattle.persist_model.specs.Records.{IsAmong}
 use Rattle.persist_model.specs.Shape.{Shape, IsBucketOf}
 use Rattle.persist_model.specs.Chain.{IsAbsent, last_or}
 use Rattle.persist_model.specs.ImageRecords.{cell_address}
-use Rattle.bucket_log.specs.declared.place.Place.{Place}
+use Rattle.bucket_log.specs.declared.append.Place.{Place}
 use Rattle.bucket_log.specs.Plans.{place_address}
 
 -- no cell of the chain's last bucket is closed, or the chain is empty
@@ -31,3 +31,13 @@ IsPlaceBy shape p w chain place false = IsUsedPlace w chain place
 
 abbrev pub IsPlace : Shape → ℕ → Words → List ℕ → Place → Type 0
 IsPlace shape p w chain place = IsPlaceBy shape p w chain place place.fresh
+
+-- The next place is the first closed cell of the chain's last bucket, and where that is full the first cell of the least bucket of the
+-- partition that isn't in the chain.
+pub record IsNextPlace (shape : Shape) (p : ℕ) (w : Words) (chain : List ℕ) (place : Place) : Type 0 where
+  pub is_place : IsPlace shape p w chain place
+  pub below : place.cell < shape.cells
+  pub tail : place.tail ≡ last_or 0 chain
+  pub first_cell : place.fresh ≡ true → place.cell ≡ 0
+  pub first_closed : place.fresh ≡ false → (c : ℕ) → c < place.cell → w (cell_address place.bucket c) ≢ 0
+  pub least : place.fresh ≡ true → (b : ℕ) → IsBucketOf shape p b → b < place.bucket → IsAmong chain b

@@ -6,7 +6,7 @@ use Rattle.persist_model.specs.Records.{Record}
 use Rattle.persist_model.specs.ImageRecords.{cell_address}
 use Rattle.atomic_list.specs.declared.plans.Insert.{Insert}
 use Rattle.atomic_list.specs.Plans.{insertion, HasEvents}
-use Rattle.bucket_log.specs.declared.place.Place.{Place}
+use Rattle.bucket_log.specs.declared.append.Place.{Place}
 
 -- 0 to the gates of the bucket's first n cells, in order
 abbrev pub closing : ℕ → ℕ → List Event

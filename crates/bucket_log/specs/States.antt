@@ -9,7 +9,7 @@ use Rattle.persist_model.specs.Sound.{HasState}
 use Rattle.log_laws.specs.Appending.{IsAppend}
 use Rattle.log_laws.specs.MoveRoom.{TakesCell}
 use Rattle.region_layout.specs.Layout.{IsAllowed}
-use Rattle.bucket_log.specs.declared.place.Place.{Place}
+use Rattle.bucket_log.specs.declared.append.Place.{Place}
 use Rattle.bucket_log.specs.Appends.{CanAppend, region_append}
 
 -- one cell less room in a partition

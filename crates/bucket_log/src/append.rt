@@ -2,10 +2,22 @@ ghost use Rattle.std.specs.Prelude.{◌≡◌, ◌<◌, ◌^◌, true, slice_get
 ghost use Rattle.region_layout.specs.Cell.{record_of};
 ghost use Rattle.bucket_log.specs.Plans.{append_plan, cell_plan, place_address};
 
-use crate::place::Place;
 use atomic_list::{Insert, insert_event};
 use persist_model::Event;
 use region_layout::{Cell, Layout};
+
+/// Where the next record goes.
+#[derive(Clone, Copy, Debug, PartialEq, Eq)]
+pub struct Place {
+    /// The bucket's address.
+    pub bucket: u32,
+    /// The number of the cell in it.
+    pub cell: u32,
+    /// The bucket isn't in the chain: it is put behind the tail first.
+    pub fresh: bool,
+    /// The chain's last bucket, or 0.
+    pub tail: u32,
+}
 
 /// How many events put a bucket behind the chain.
 const INSERTION: u32 = 11;

@@ -2,8 +2,15 @@
 #![tactic(auto)]
 
 mod append;
+mod chain;
 pub mod laws;
-mod place;
+mod parts;
+mod next_place;
+mod room_count;
+mod scanning;
 
-pub use append::append_event;
-pub use place::Place;
+pub use append::{Place, append_event};
+pub use parts::{Closing, Giving, Part, Undoing, Update};
+pub use next_place::place;
+pub use room_count::room;
+pub use scanning::{Placed, scan};
