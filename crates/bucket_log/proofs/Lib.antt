@@ -9,3 +9,5 @@ pub mod PartStates
 pub mod Appended
 pub mod AppendPlans
 pub mod Walking
+pub mod NextPlaces
+pub mod Scans

@@ -117,3 +117,11 @@ room_of_push shape v p chain node ne few =
     ∙ ap (λ n. closed_cells v node shape.cells + shape.cells * (count_buckets shape p - n)) size in
     let more = one_more shape.cells (count_buckets shape p) (length chain) (omega (arith, few, size)) in
     omega (arith, room, more)
+
+-- a closed cell counts
+pub closed_some : (w : Words) (b n c : ℕ) → c < n → w (cell_address b c) ≡ 0 → 1 ≤ closed_cells w b n
+closed_some w b zero c lt e = absurd (omega (arith, lt))
+closed_some w b (suc n) c lt e = elim (eqb_tells n c) [
+  | inl is ↦ (let f : counted (w (cell_address b n)) ≡ 1 = counted_closed (w (cell_address b n)) (ap (λ m. w (cell_address b m)) is.1 ∙ e) in omega (arith, f))
+  | inr is ↦ (let off = is.1 in let rest = closed_some w b n c (omega (arith, lt, off)) e in omega (arith, rest))
+]

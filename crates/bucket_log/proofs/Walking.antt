@@ -75,6 +75,10 @@ pub next_is : (layout : Layout) (size : ℕ) (w : Words) (node next : ℕ) → I
     next ≡ next_in (chain_of (layout_shape layout) w) node
 next_is layout size w node next log h = subst (λ s. next ≡ next_in (chain_of s w) node) log.has_layout (h w (λ a lt. refl))
 
+-- what comes next and isn't 0 is in the chain
+pub next_among : (layout : Layout) (size : ℕ) (w : Words) (next : ℕ) → IsLogOf layout size w → IsInChain w next → next ≢ 0 → IsAmong (chain_of (layout_shape layout) w) next
+next_among layout size w next log h ne = elim (subst (λ s. (next ≡ 0) ⊎ IsAmong (chain_of s w) next) log.has_layout h) [ inl e ↦ absurd (ne e) | inr m ↦ m ]
+
 -- words with the same log have the same chain
 pub same_chain : (layout : Layout) (size : ℕ) (w v : Words) → IsLogOf layout size w → SameLog w v → chain_of (layout_shape layout) v ≡ chain_of (layout_shape layout) w
 same_chain layout size w v log same =

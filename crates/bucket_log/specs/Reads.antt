@@ -46,8 +46,14 @@ abbrev pub IsUsedIn : Words → ℕ → ℕ → Option Place → Type 0
 IsUsedIn w cells tail None = tail ≢ 0 → (c : ℕ) → c < cells → w (cell_address tail c) ≢ 0
 IsUsedIn w cells tail (Some place) = (tail ≢ 0) × (place.bucket ≡ tail) × (place.fresh ≡ false) × (place.tail ≡ tail) × IsFirstClosed w tail cells (Some place.cell)
 
+-- the first cell of the least bucket of the part that isn't in the chain, or none
+abbrev pub IsFreshIn : Shape → Buckets → List ℕ → ℕ → Option Place → Type 0
+IsFreshIn shape part chain tail None = IsLeastOutside shape part chain None
+IsFreshIn shape part chain tail (Some place) = IsLeastOutside shape part chain (Some place.bucket) × (place.fresh ≡ true) × (place.cell ≡ 0) × (place.tail ≡ tail)
+
+-- the one, or else the other
 abbrev pub IsNextIn : Shape → Buckets → Words → List ℕ → Option Place → Type 0
-IsNextIn shape part w chain None = IsUsedIn w shape.cells (last_or 0 chain) None × IsLeastOutside shape part chain None
+IsNextIn shape part w chain None = IsUsedIn w shape.cells (last_or 0 chain) None × IsFreshIn shape part chain (last_or 0 chain) None
 IsNextIn shape part w chain (Some place) =
     IsUsedIn w shape.cells (last_or 0 chain) (Some place)
-    ⊎ (IsUsedIn w shape.cells (last_or 0 chain) None × IsLeastOutside shape part chain (Some place.bucket) × (place.fresh ≡ true) × (place.cell ≡ 0) × (place.tail ≡ last_or 0 chain))
+    ⊎ (IsUsedIn w shape.cells (last_or 0 chain) None × IsFreshIn shape part chain (last_or 0 chain) (Some place))

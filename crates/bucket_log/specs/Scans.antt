@@ -3,6 +3,7 @@ use Rattle.std.specs.Prelude.{◌≡◌, ◌⊎◌, ◌↔◌, ℕ, zero, suc, �
 use Rattle.persist_model.specs.Region.{Words}
 use Rattle.persist_model.specs.Records.{Record, Log, IsAmong, IsNewestFirst}
 use Rattle.persist_model.specs.ImageRecords.{cell_address, IsRecordOf}
+use Rattle.region_layout.specs.declared.cell.Cell.{Cell}
 use Rattle.region_layout.specs.Cell.{record_of, cell_at}
 use Rattle.bucket_log.specs.declared.scanning.Placed.{Placed}
 
@@ -17,10 +18,14 @@ pub record IsLogIn (cells : ℕ) (w : Words) (chain : List ℕ) (log : Log) : Ty
 abbrev pub placed_at : Words → ℕ → Placed
 placed_at w at = record { at = at; cell = cell_at w at }
 
+-- the cell with its address, or nothing where it is closed
+abbrev pub open_cell : ℕ → Cell → List Placed
+open_cell at cell = if cell.gate == 0 then [] else record { at = at; cell = cell } ∷ []
+
 -- the open cells among the first n of a bucket, in order
 abbrev pub open_cells : Words → ℕ → ℕ → List Placed
 open_cells w b zero = []
-open_cells w b (suc n) = open_cells w b n ++ (if w (cell_address b n) == 0 then [] else placed_at w (cell_address b n) ∷ [])
+open_cells w b (suc n) = open_cells w b n ++ open_cell (cell_address b n) (cell_at w (cell_address b n))
 
 -- those of all buckets, in the chain's order
 abbrev pub chain_cells : Words → ℕ → List ℕ → List Placed

@@ -7,7 +7,7 @@ ghost use Rattle.atomic_list.specs.Reads.{SameLog};
 ghost use Rattle.atomic_list.specs.Walk.{chain_of};
 ghost use Rattle.region_layout.specs.Layout.{layout_shape, IsPart};
 ghost use Rattle.bucket_log.specs.Places.{IsNextPlace};
-ghost use Rattle.bucket_log.specs.Reads.{IsLogOf, IsLogOfPart, IsFirstClosed, IsLeastOutside, IsUsedIn, IsNextIn};
+ghost use Rattle.bucket_log.specs.Reads.{IsLogOf, IsLogOfPart, IsFirstClosed, IsLeastOutside, IsUsedIn, IsFreshIn, IsNextIn};
 
 use crate::append::Place;
 use crate::chain::{chain_end, is_in_chain};
@@ -60,14 +60,11 @@ fn used_place<W: Look>(words: &W, layout: Layout, tail: u32) -> Option<Place>
     })
 }
 
-fn read_place<W: Look>(words: &W, layout: Layout, part: Buckets) -> Option<Place>
+// The first cell of the least bucket of the part that isn't in the chain.
+fn fresh_place<W: Look>(words: &W, layout: Layout, part: Buckets, tail: u32) -> Option<Place>
     requires { IsLogOfPart layout part (length (W.words words.now)) (slice_index (W.words words.now)) }
-    ensures { IsNextIn (layout_shape layout) part (slice_index (W.words words.now)) (chain_of (layout_shape layout) (slice_index (W.words words.now))) result }
+    ensures { IsFreshIn (layout_shape layout) part (chain_of (layout_shape layout) (slice_index (W.words words.now))) tail result }
 {
-    let tail = chain_end(words, layout).last;
-    if let Some(place) = used_place(words, layout, tail) {
-        return Some(place);
-    }
     let bucket = least_outside(words, layout, part)?;
     Some(Place {
         bucket,
@@ -75,6 +72,17 @@ fn read_place<W: Look>(words: &W, layout: Layout, part: Buckets) -> Option<Place
         fresh: true,
         tail,
     })
+}
+
+fn read_place<W: Look>(words: &W, layout: Layout, part: Buckets) -> Option<Place>
+    requires { IsLogOfPart layout part (length (W.words words.now)) (slice_index (W.words words.now)) }
+    ensures { IsNextIn (layout_shape layout) part (slice_index (W.words words.now)) (chain_of (layout_shape layout) (slice_index (W.words words.now))) result }
+{
+    let tail = chain_end(words, layout).last;
+    match used_place(words, layout, tail) {
+        Some(place) => Some(place),
+        None => fresh_place(words, layout, part, tail),
+    }
 }
 
 /// The next place of a partition: the first closed cell of the chain's last bucket, and where that is full the first cell of the

@@ -5,7 +5,7 @@ ghost use Rattle.atomic_list.specs.Reads.{SameLog};
 ghost use Rattle.atomic_list.specs.Walk.{chain_of};
 ghost use Rattle.region_layout.specs.Layout.{layout_shape};
 ghost use Rattle.bucket_log.specs.Reads.{IsLogOf};
-ghost use Rattle.bucket_log.specs.Scans.{record_of_placed, open_cells, chain_cells, IsLogIn, IsSortedOf};
+ghost use Rattle.bucket_log.specs.Scans.{record_of_placed, open_cell, open_cells, chain_cells, IsLogIn, IsSortedOf};
 
 use atomic_list::after;
 use persist_model::{List, Look, NoMemory};
@@ -19,6 +19,19 @@ pub struct Placed {
     pub cell: Cell,
 }
 
+// Puts an open cell behind those found.
+fn keep_open(found: &mut Vec<Placed>, at: u32, cell: Cell) -> Result<(), NoMemory>
+    ensures { OnOk result (found.new.items ≡ found.old.items ++ open_cell at cell) }
+{
+    if cell.gate == 0 {
+        return Ok(());
+    }
+    match found.push(Placed { at, cell }) {
+        Ok(()) => Ok(()),
+        Err(refused) => Err(AllocError::from(refused).into()),
+    }
+}
+
 // Puts the open cells of a bucket behind those found.
 fn scan_bucket<W: Look>(words: &W, layout: Layout, bucket: u32, found: &mut Vec<Placed>) -> Result<(), NoMemory>
     requires bucket { bucket + (8 + 8 * layout.cells) ≤ length (W.words words.now) }
@@ -27,12 +40,7 @@ fn scan_bucket<W: Look>(words: &W, layout: Layout, bucket: u32, found: &mut Vec<
 {
     for cell in 0..layout.cells {
         let at = bucket + 8 + 8 * cell;
-        let read = read_cell(words, at);
-        if read.gate != 0 {
-            if let Err(refused) = found.push(Placed { at, cell: read }) {
-                return Err(AllocError::from(refused).into());
-            }
-        }
+        keep_open(found, at, read_cell(words, at))?;
     }
     Ok(())
 }

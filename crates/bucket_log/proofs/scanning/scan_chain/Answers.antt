@@ -1,0 +1,15 @@
+use Rattle.std.specs.Prelude.{slice_index, length}
+use Rattle.std.proofs.Common.{◌≡◌, arith, ap, sym, ◌∙◌, ◌++◌}
+use Rattle.atomic_list.specs.Walk.{chain_of}
+use Rattle.region_layout.specs.Layout.{layout_shape}
+use Rattle.bucket_log.specs.Scans.{chain_cells, open_cells}
+use Rattle.bucket_log.proofs.Walking.{in_chain, next_is, next_among, bucket_inside, good_chain, walk_node, walk_goes_on, walk_stops, walk_is_over, IsWalked}
+use Rattle.bucket_log.proofs.Scans.{chain_cells-push, walked_more}
+use Rattle.bucket_log.proofs.scanning.scan_chain.Goals as goal
+
+pub after-next-requires-clause-node : goal.after-next-requires-clause-node
+after-next-requires-clause-node g c = in_chain c.args.layout (length (g.W.Look.words c.args.words.now)) (slice_index (g.W.Look.words c.args.words.now)) c.loop.last c.requires (walk_node (λ front. c.loop.found.items ≡ chain_cells (slice_index (g.W.Look.words c.args.words.now)) c.args.layout.cells front) (chain_of (layout_shape c.args.layout) (slice_index (g.W.Look.words c.args.words.now))) c.loop.last c.loop.counter c.loop.invariant)
+
+pub scan_bucket-requires-clause-bucket : goal.scan_bucket-requires-clause-bucket
+scan_bucket-requires-clause-bucket g c = bucket_inside c.args.layout (length (g.W.Look.words c.args.words.now)) (slice_index (g.W.Look.words c.args.words.now)) c.after-next.result c.requires
+    (next_among c.args.layout (length (g.W.Look.words c.args.words.now)) (slice_index (g.W.Look.words c.args.words.now)) c.after-next.result c.requires c.after-next.ensures.in_chain c.if-next-eq0.false)
