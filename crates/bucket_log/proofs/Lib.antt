@@ -11,3 +11,4 @@ pub mod AppendPlans
 pub mod Walking
 pub mod NextPlaces
 pub mod Scans
+pub mod ScanLogs

@@ -1,11 +1,15 @@
 -- What is read along a chain are its records.
-use Rattle.std.proofs.Common.{◌≡◌, ◌≢◌, ◌⊎◌, ◌↔◌, inl, inr, ℕ, zero, suc, ◌+◌, ◌*◌, ◌<◌, ◌≤◌, Bool, true, false, cond, ◌==◌, List, [], ◌∷◌, ◌++◌, length, map, reverse, refl, ap, sym, ◌∙◌, arith, subst, append_assoc, append-nil}
+use Rattle.std.proofs.Common.{◌≡◌, ◌≢◌, ◌⊎◌, ◌↔◌, inl, inr, ℕ, zero, suc, ◌+◌, ◌*◌, ◌<◌, ◌≤◌, Bool, true, false, cond, ◌==◌, List, [], ◌∷◌, ◌++◌, length, map, reverse, refl, ap, sym, ◌∙◌, arith, subst, append_assoc, append-nil, nat_lt}
 use Rattle.std.specs.Prelude.{slice_index_or, IsPermutation, sum_by}
 use Rattle.std.proofs.lemmas.Bool.Decides.{nat_tests, eqb_tells}
 use Rattle.std.proofs.lemmas.List.Sorted.{IsPermutation-sym, Contains-permutation, sum_by-IsPermutation}
 use Rattle.std.proofs.lemmas.List.{reverse-append}
 use Rattle.std.proofs.lemmas.List.Sums.{sum_by-append, sum_by-cons}
 use Rattle.std.specs.List.{Contains}
+use Rattle.std.specs.List.Sorted.{IsSortedByKey}
+use Rattle.std.specs.Ordering.{is_lt, nat_cmp, ordering_then}
+use Rattle.std.specs.declared.cmp.Ordering.TheVariants.{Less, Equal, Greater}
+use Rattle.std.proofs.lemmas.Bool.{ltb-false}
 use Rattle.persist_model.specs.Region.{Words}
 use Rattle.persist_model.specs.Records.{Record, Log, IsAmong, IsNewer, IsNewestFirst}
 use Rattle.persist_model.specs.Shape.{Shape, IsBucketOf, heap}
@@ -199,6 +203,32 @@ ascends (x ∷ z ∷ zs) h =
 ascending : (found sorted : List Placed) → IsSortedOf found sorted → IsAscending sorted
 ascending found sorted h = ascends sorted (λ k d lt. (let e : k + 1 ≡ suc k = omega arith in
     subst (λ n. ComesBefore (slice_index_or sorted k d) (slice_index_or sorted n d)) e (h.ascending k d (omega (arith, lt)))))
+
+-- from the sort's own clause
+pair_by : (x y u v : Bool) → is_lt (ordering_then (cond x Less (cond y Equal Greater)) (cond u Less (cond v Equal Greater))) ≡ false → (x ≡ false) × ((y ≡ false) ⊎ (u ≡ false))
+pair_by true y u v h = cc
+pair_by false false u v h = (refl, inl refl)
+pair_by false true true v h = cc
+pair_by false true false v h = (refl, inr refl)
+
+pair_order : (a b c d : ℕ) → is_lt (ordering_then (nat_cmp a c) (nat_cmp b d)) ≡ false → (c < a) ⊎ ((c ≡ a) × (d ≤ b))
+pair_order a b c d h =
+    let k = pair_by (nat_lt a c) (a == c) (nat_lt b d) (b == d) h in
+    let le : c ≤ a = ltb-false a c k.0 in
+    elim (eqb_tells a c) [
+      | inl e ↦ (let same = e.1 in elim k.1 [ inl off ↦ absurd (clash e.0 off) | inr second ↦ inr (sym same, ltb-false b d second) ])
+      | inr e ↦ (let ne = e.1 in inl (omega (arith, le, ne)))
+    ]
+  where
+    clash : (a == c) ≡ true → (a == c) ≡ false → ⊥
+    clash on off = cc
+
+abbrev pub key_of : Placed → ℕ × ℕ
+key_of placed = (placed.cell.gate, placed.at)
+
+pub sorted_pairs : (xs : List Placed) → IsSortedByKey key_of (λ x y. ordering_then (nat_cmp x.0 y.0) (nat_cmp x.1 y.1)) xs →
+    (k : ℕ) (d : Placed) → k + 1 < length xs → ComesBefore (slice_index_or xs k d) (slice_index_or xs (k + 1) d)
+sorted_pairs xs h k d lt = pair_order (slice_index_or xs (k + 1) d).cell.gate (slice_index_or xs (k + 1) d).at (slice_index_or xs k d).cell.gate (slice_index_or xs k d).at (h k d (omega arith) lt)
 
 -- ---- membership
 

@@ -66,6 +66,14 @@ pub last_inside : (layout : Layout) (size : ℕ) (w : Words) → IsLogOf layout 
     last_or 0 (chain_of (layout_shape layout) w) + (8 + 8 * layout.cells) ≤ size
 last_inside layout size w log ne = bucket_inside layout size w (last_or 0 (chain_of (layout_shape layout) w)) log (among_last (chain_of (layout_shape layout) w) ne)
 
+-- the part's buckets are among all
+pub part_inside : (layout : Layout) (part : Buckets) (size : ℕ) (w : Words) → IsLogOfPart layout part size w → part.first + part.count ≤ layout.buckets
+part_inside layout part size w log =
+    let fit = parts_fit (layout_shape layout) log.log.has_list.part (good_chain layout size w log.log).below in
+    let first = log.is_part.0 in
+    let count = log.is_part.1 in
+    omega (arith, fit, first, count)
+
 -- a bucket or none in the layout's terms
 pub in_chain : (layout : Layout) (size : ℕ) (w : Words) (b : ℕ) → IsLogOf layout size w → (b ≡ 0) ⊎ IsAmong (chain_of (layout_shape layout) w) b → IsInChain w b
 in_chain layout size w b log h = subst (λ s. (b ≡ 0) ⊎ IsAmong (chain_of s w) b) (sym log.has_layout) h
@@ -131,11 +139,12 @@ walk_next shape part P chain last count good h =
     (subst (λ ys. next_in ys (last_or 0 h.front) ≡ first_or 0 h.back) (sym h.chain_is)
     (next_of_front shape part h.front h.back (subst (AreBuckets (IsBucketOf shape part)) h.chain_is good.buckets) (subst HasNoRepeats h.chain_is good.once)))
 
-pub walk_goes_on : (shape : Shape) (part : ℕ) (P : List ℕ → Type 0) (chain : List ℕ) (last count next : ℕ) → IsGoodChain shape part chain → (h : IsWalked P chain last count) →
-    next ≡ next_in chain last → next ≢ 0 → (P h.front → P (h.front ++ next ∷ [])) → IsWalked P chain next (count + 1)
-walk_goes_on shape part P chain last count next good h e ne grows = go h.front h.back h.chain_is h.count_is (e ∙ walk_next shape part P chain last count good h) (grows h.holds)
+-- one bucket further, where Q holds then
+pub walk_goes_to : (shape : Shape) (part : ℕ) (P Q : List ℕ → Type 0) (chain : List ℕ) (last count next : ℕ) → IsGoodChain shape part chain → (h : IsWalked P chain last count) →
+    next ≡ next_in chain last → next ≢ 0 → (P h.front → Q (h.front ++ next ∷ [])) → IsWalked Q chain next (count + 1)
+walk_goes_to shape part P Q chain last count next good h e ne grows = go h.front h.back h.chain_is h.count_is (e ∙ walk_next shape part P chain last count good h) (grows h.holds)
   where
-    go : (front back : List ℕ) → chain ≡ front ++ back → count ≡ length front → next ≡ first_or 0 back → P (front ++ next ∷ []) → IsWalked P chain next (count + 1)
+    go : (front back : List ℕ) → chain ≡ front ++ back → count ≡ length front → next ≡ first_or 0 back → Q (front ++ next ∷ []) → IsWalked Q chain next (count + 1)
     go front [] is len q more = absurd (ne q)
     go front (y ∷ ys) is len q more = record {
       front = front ++ y ∷ [];
@@ -143,8 +152,12 @@ walk_goes_on shape part P chain last count next good h e ne grows = go h.front h
       chain_is = is ∙ sym (append_assoc front (y ∷ []) ys);
       last_is = q ∙ sym (last-push 0 front y);
       count_is = (let l = length-append front (y ∷ []) in omega (arith, l, len));
-      holds = subst (λ n. P (front ++ n ∷ [])) q more;
+      holds = subst (λ n. Q (front ++ n ∷ [])) q more;
     }
+
+pub walk_goes_on : (shape : Shape) (part : ℕ) (P : List ℕ → Type 0) (chain : List ℕ) (last count next : ℕ) → IsGoodChain shape part chain → (h : IsWalked P chain last count) →
+    next ≡ next_in chain last → next ≢ 0 → (P h.front → P (h.front ++ next ∷ [])) → IsWalked P chain next (count + 1)
+walk_goes_on shape part P chain last count next good h e ne grows = walk_goes_to shape part P P chain last count next good h e ne grows
 
 -- the whole chain has been walked
 pub record IsAtEnd (P : List ℕ → Type 0) (chain : List ℕ) (last count : ℕ) : Type 0 where
