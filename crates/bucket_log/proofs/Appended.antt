@@ -35,7 +35,7 @@ use Rattle.bucket_log.specs.declared.append.Place.{Place}
 use Rattle.bucket_log.specs.Words.{IsLogWord, IsPartWord, SameRecords, AddsRecord, KeepsLog, AddsToLog}
 use Rattle.bucket_log.specs.Plans.{closing, body, insertion_of, append_plan}
 use Rattle.bucket_log.specs.Places.{IsPlaceBy}
-use Rattle.bucket_log.specs.Appends.{CanAppend, KeepsOrAdds, region_append, AppendLeaves, EachAppendingImage, AppendEnds, EachImageOfAppends, AppendsEnd}
+use Rattle.bucket_log.specs.Appends.{CanAppend, NextPlacesTake, KeepsOrAdds, region_append, AppendLeaves, EachAppendingImage, AppendEnds, EachImageOfAppends, AppendsEnd}
 use Rattle.bucket_log.specs.States.{less_room, AppendsAreStates, AppendsTakeCell}
 use Rattle.bucket_log.proofs.Partitions.{few_parts, log_word_out, log_word_own, part_word_below, part_of_cell}
 use Rattle.bucket_log.proofs.RecordSets.{same_cell}
@@ -154,7 +154,7 @@ view_cell : (shape : Shape) (p q b c : ℕ) (w : Words) → IsBucketOf shape q b
 view_cell shape p q b c w is = same_cell (view p w) w (cell_address b c) (λ a low high. view_behind p w a (let e = is.3 in omega (arith, e, low)))
 
 -- the records of a chain are the same in the view
-view_records : (shape : Shape) (p : ℕ) (w : Words) (chain : List ℕ) → AreBuckets (IsBucketOf shape p) chain → (r : Record) →
+pub view_records : (shape : Shape) (p : ℕ) (w : Words) (chain : List ℕ) → AreBuckets (IsBucketOf shape p) chain → (r : Record) →
     IsRecordOf shape.cells chain (view p w) r ↔ IsRecordOf shape.cells chain w r
 view_records shape p w chain buckets r = (
   (λ h. record {
@@ -295,6 +295,9 @@ module _ (shape : Shape) (ok : IsAllowed shape) (p : ℕ) (inside : p < shape.pa
   }
 
 -- ---- the laws
+
+pub next_places_take : NextPlacesTake
+next_places_take shape p w chain place r rest next at gate = record { at_rest = rest; is_place = next.is_place; below = next.below; at = at; gate = gate }
 
 pub each_appending_image : EachAppendingImage
 each_appending_image shape p z v xs place r k ok inside can h = view_images shape ok p inside z v xs place r can (IsPartWord shape p) k (λ a m. m) h

@@ -12,7 +12,7 @@ use Rattle.region_layout.specs.Layout.{IsAllowed}
 use Rattle.bucket_log.specs.declared.append.Place.{Place}
 use Rattle.bucket_log.specs.Words.{IsPartWord, KeepsLog, AddsToLog}
 use Rattle.bucket_log.specs.Plans.{append_plan, place_address}
-use Rattle.bucket_log.specs.Places.{IsPlace}
+use Rattle.bucket_log.specs.Places.{IsPlace, IsNextPlace}
 
 -- The partition's list is at rest, the place may take a record, and this record stands there with an open gate.
 pub record CanAppend (shape : Shape) (p : ℕ) (w : Words) (chain : List ℕ) (place : Place) (r : Record) : Type 0 where
@@ -21,6 +21,11 @@ pub record CanAppend (shape : Shape) (p : ℕ) (w : Words) (chain : List ℕ) (p
   pub below : place.cell < shape.cells
   pub at : r.at ≡ place_address place
   pub gate : r.lsn ≢ 0
+
+-- the next place of a list at rest takes any record that stands there
+abbrev pub NextPlacesTake : Type 0
+NextPlacesTake = (shape : Shape) (p : ℕ) (w : Words) (chain : List ℕ) (place : Place) (r : Record) →
+    IsAtRest shape p w chain → IsNextPlace shape p w chain place → r.at ≡ place_address place → r.lsn ≢ 0 → CanAppend shape p w chain place r
 
 -- v has the records before, or those and the new one with one cell less room
 abbrev pub KeepsOrAdds : Shape → ℕ → Words → List ℕ → Record → Words → Type 0

@@ -2,7 +2,11 @@
 use Rattle.std.specs.Prelude.{◌≡◌, ◌⊎◌, ◌↔◌, ℕ, zero, suc, ◌+◌, ◌*◌, ◌<◌, ◌≤◌, ◌==◌, if◌then◌else◌, List, [], ◌∷◌, ◌++◌, length, slice_index_or, IsPermutation}
 use Rattle.persist_model.specs.Region.{Words}
 use Rattle.persist_model.specs.Records.{Record, Log, IsAmong, IsNewestFirst}
+use Rattle.persist_model.specs.Shape.{Shape, log_words}
+use Rattle.persist_model.specs.Chain.{view}
 use Rattle.persist_model.specs.ImageRecords.{cell_address, IsRecordOf}
+use Rattle.persist_model.specs.Sound.{IsListOf, HasChain, HasState}
+use Rattle.persist_model.specs.State.{State}
 use Rattle.region_layout.specs.declared.cell.Cell.{Cell}
 use Rattle.region_layout.specs.Cell.{record_of, cell_at}
 use Rattle.bucket_log.specs.declared.scanning.Placed.{Placed}
@@ -39,3 +43,15 @@ ComesBefore x y = (x.cell.gate < y.cell.gate) ⊎ ((x.cell.gate ≡ y.cell.gate)
 pub record IsSortedOf (found sorted : List Placed) : Type 0 where
   pub same : IsPermutation found sorted
   pub ascending : (k : ℕ) (d : Placed) → k + 1 < length sorted → ComesBefore (slice_index_or sorted k d) (slice_index_or sorted (k + 1) d)
+
+-- ---- the laws
+
+-- the log of a partition's view is that of the words
+abbrev pub ViewsHaveLogs : Type 0
+ViewsHaveLogs = (shape : Shape) (p : ℕ) (w : Words) (chain : List ℕ) (log : Log) → IsListOf shape p w chain →
+    IsLogIn shape.cells (view p w) chain log ↔ IsLogIn shape.cells w chain log
+
+-- of a region with one partition it is the state's log
+abbrev pub LogsAreStates : Type 0
+LogsAreStates = (shape : Shape) (z : Words) (s : State) (chain : List ℕ) (log : Log) → shape.partitions ≡ 1 → HasState shape z s → HasChain shape z 0 chain →
+    IsLogIn shape.cells (log_words shape z) chain log → log ≡ s.log
