@@ -32,7 +32,7 @@ state_with_heap shape w v s same h = record {
   lists = λ p lt. subst (λ z. IsListOf shape p z (h.chains p)) (sym same) (h.lists p lt);
   records = subst (λ z. AreRecords shape h.chains z s.log) (sym same) h.records;
   words = refl;
-  room = h.room ∙ ap (λ z p. room_of shape z p (h.chains p)) (sym same);
+  room = λ p lt. h.room p lt ∙ ap (λ z. room_of shape z p (h.chains p)) (sym same);
 }
 
 -- a value for each heap word, the one before or one for a covered word

@@ -14,7 +14,7 @@ use Rattle.persist_model.proofs.Projecting.{IsEventAway, AreAway, latest-push}
 -- ---- addresses
 
 -- where the list words of a partition stand
-list_words_cases : (p : ℕ) → p < 3 → ((p ≡ 0) × (list_words p ≡ 8)) ⊎ ((p ≡ 1) × (list_words p ≡ 21)) ⊎ ((p ≡ 2) × (list_words p ≡ 26))
+pub list_words_cases : (p : ℕ) → p < 3 → ((p ≡ 0) × (list_words p ≡ 8)) ⊎ ((p ≡ 1) × (list_words p ≡ 21)) ⊎ ((p ≡ 2) × (list_words p ≡ 26))
 list_words_cases zero lt = inl (refl, refl)
 list_words_cases (suc zero) lt = inr (inl (refl, refl))
 list_words_cases (suc (suc zero)) lt = inr (inr (refl, refl))

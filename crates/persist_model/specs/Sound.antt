@@ -38,7 +38,7 @@ pub record HasState (shape : Shape) (w : Words) (s : State) : Type 0 where
   pub lists : HaveChains shape w chains
   pub records : AreRecords shape chains (log_words shape w) s.log
   pub words : s.words ≡ heap_words shape w
-  pub room : s.room ≡ (λ p. room_of shape (log_words shape w) p (chains p))
+  pub room : (p : ℕ) → p < shape.partitions → s.room p ≡ room_of shape (log_words shape w) p (chains p)
 
 -- all nine rules
 pub record IsSound (size : ℕ) (w : Words) : Type 0 where

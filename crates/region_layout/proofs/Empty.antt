@@ -209,7 +209,7 @@ empty_has shape kinds w allowed fresh = record {
   lists = empty_chains shape kinds w allowed fresh;
   records = record { newest_first = tt; each = λ r. (λ h. absurd h, λ h. absurd h.2.is_among) };
   words = refl;
-  room = refl;
+  room = λ p lt. refl;
 }
 
 empty_sound : (shape : Shape) (w : Words) → IsSoundState shape (empty_state shape w)

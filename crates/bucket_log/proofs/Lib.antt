@@ -1,0 +1,14 @@
+pub mod ListFacts
+pub mod Addresses
+pub mod RecordSets
+pub mod Rooms
+pub mod Bodies
+pub mod Appending
+pub mod Partitions
+pub mod PartStates
+pub mod Appended
+pub mod AppendPlans
+pub mod Walking
+pub mod NextPlaces
+pub mod Scans
+pub mod ScanLogs

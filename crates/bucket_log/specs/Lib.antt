@@ -1,0 +1,7 @@
+pub mod Words
+pub mod Plans
+pub mod Places
+pub mod Appends
+pub mod States
+pub mod Reads
+pub mod Scans

@@ -1,0 +1,55 @@
+//! What the layers above use of the log, as functions that do nothing: the clause is the law.
+ghost use Rattle.bucket_log.specs.Plans.{AppendsHaveEvents};
+ghost use Rattle.bucket_log.specs.Appends.{NextPlacesTake, EachAppendingImage, AppendEnds, EachImageOfAppends, AppendsEnd};
+ghost use Rattle.bucket_log.specs.States.{AppendsAreStates, AppendsTakeCell};
+ghost use Rattle.bucket_log.specs.Scans.{ViewsHaveLogs, LogsAreStates};
+
+/// A fresh append has exactly 21 events and one for each cell of a bucket, another has 10.
+pub fn appends_have_events()
+    ensures { AppendsHaveEvents }
+{}
+
+/// The next place takes any record whose number isn't 0.
+pub fn next_places_take()
+    ensures { NextPlacesTake }
+{}
+
+/// At each prefix of an append, each image has the records before, or those and the new one with one cell less room.
+pub fn each_appending_image()
+    ensures { EachAppendingImage }
+{}
+
+/// An append leaves the new record beside those before, and nothing else of the log changes.
+pub fn append_ends()
+    ensures { AppendEnds }
+{}
+
+/// In each run of a prefix of an append, each image has the records before, or those and the new one.
+pub fn each_image_of_appends()
+    ensures { EachImageOfAppends }
+{}
+
+/// A run of a whole append leaves settled log words with the new record.
+pub fn appends_end()
+    ensures { AppendsEnd }
+{}
+
+/// An append takes the state of a region to the one with the record, at its gate's store.
+pub fn appends_are_states()
+    ensures { AppendsAreStates }
+{}
+
+/// An append takes one cell of the record's partition.
+pub fn appends_take_cell()
+    ensures { AppendsTakeCell }
+{}
+
+/// The log that is read in a partition's view is the partition's own.
+pub fn views_have_logs()
+    ensures { ViewsHaveLogs }
+{}
+
+/// The log of a region's only partition is that of its state.
+pub fn logs_are_states()
+    ensures { LogsAreStates }
+{}

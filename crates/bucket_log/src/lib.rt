@@ -1,0 +1,16 @@
+//! The log of records in the buckets of the list: where the next record goes, the plan of its append, and what is read back.
+#![tactic(auto)]
+
+mod append;
+mod chain;
+pub mod laws;
+mod parts;
+mod next_place;
+mod room_count;
+mod scanning;
+
+pub use append::{Place, append_event};
+pub use parts::{Closing, Giving, Part, Undoing, Update};
+pub use next_place::place;
+pub use room_count::room;
+pub use scanning::{Placed, scan};

@@ -1,0 +1,98 @@
+// Where the next record goes.
+ghost use Rattle.std.specs.Prelude.{◌≡◌, ◌↔◌, ◌<◌, ◌≤◌, ◌*◌, ◌+◌, ◌^◌, ℕ, IfSome, length, slice_index};
+ghost use Rattle.persist_model.specs.Chain.{last_or};
+ghost use Rattle.persist_model.specs.Region.{Words};
+ghost use Rattle.persist_model.specs.Sound.{room_of};
+ghost use Rattle.atomic_list.specs.Reads.{SameLog};
+ghost use Rattle.atomic_list.specs.Walk.{chain_of};
+ghost use Rattle.region_layout.specs.Layout.{layout_shape, IsPart};
+ghost use Rattle.bucket_log.specs.Places.{IsNextPlace};
+ghost use Rattle.bucket_log.specs.Reads.{IsLogOf, IsLogOfPart, IsFirstClosed, IsLeastOutside, IsUsedIn, IsFreshIn, IsNextIn};
+
+use crate::append::Place;
+use crate::chain::{chain_end, is_in_chain};
+use persist_model::Look;
+use region_layout::{Buckets, Layout};
+
+// The first closed cell of a bucket.
+fn first_closed<W: Look>(words: &W, layout: Layout, bucket: u32) -> Option<u32>
+    requires bucket { bucket + (8 + 8 * layout.cells) ≤ length (W.words words.now) }
+    requires small { length (W.words words.now) < 2 ^ 31 }
+    ensures { IsFirstClosed (slice_index (W.words words.now)) bucket layout.cells result }
+{
+    for cell in 0..layout.cells {
+        if words.word(bucket + 8 + 8 * cell) == 0 {
+            return Some(cell);
+        }
+    }
+    None
+}
+
+// The least bucket of the part that isn't in the chain.
+fn least_outside<W: Look>(words: &W, layout: Layout, part: Buckets) -> Option<u32>
+    requires { IsLogOfPart layout part (length (W.words words.now)) (slice_index (W.words words.now)) }
+    ensures { IsLeastOutside (layout_shape layout) part (chain_of (layout_shape layout) (slice_index (W.words words.now))) result }
+{
+    for j in part.first..part.first + part.count {
+        let bucket = layout.bucket(j);
+        if !is_in_chain(words, layout, bucket) {
+            return Some(bucket);
+        }
+    }
+    None
+}
+
+// The first closed cell of the chain's last bucket.
+fn used_place<W: Look>(words: &W, layout: Layout, tail: u32) -> Option<Place>
+    requires list { IsLogOf layout (length (W.words words.now)) (slice_index (W.words words.now)) }
+    requires tail { tail ≡ last_or 0 (chain_of (layout_shape layout) (slice_index (W.words words.now))) }
+    ensures { IsUsedIn (slice_index (W.words words.now)) layout.cells tail result }
+{
+    if tail == 0 {
+        return None;
+    }
+    let cell = first_closed(words, layout, tail)?;
+    Some(Place {
+        bucket: tail,
+        cell,
+        fresh: false,
+        tail,
+    })
+}
+
+// The first cell of the least bucket of the part that isn't in the chain.
+fn fresh_place<W: Look>(words: &W, layout: Layout, part: Buckets, tail: u32) -> Option<Place>
+    requires { IsLogOfPart layout part (length (W.words words.now)) (slice_index (W.words words.now)) }
+    ensures { IsFreshIn (layout_shape layout) part (chain_of (layout_shape layout) (slice_index (W.words words.now))) tail result }
+{
+    let bucket = least_outside(words, layout, part)?;
+    Some(Place {
+        bucket,
+        cell: 0,
+        fresh: true,
+        tail,
+    })
+}
+
+fn read_place<W: Look>(words: &W, layout: Layout, part: Buckets) -> Option<Place>
+    requires { IsLogOfPart layout part (length (W.words words.now)) (slice_index (W.words words.now)) }
+    ensures { IsNextIn (layout_shape layout) part (slice_index (W.words words.now)) (chain_of (layout_shape layout) (slice_index (W.words words.now))) result }
+{
+    let tail = chain_end(words, layout).last;
+    match used_place(words, layout, tail) {
+        Some(place) => Some(place),
+        None => fresh_place(words, layout, part, tail),
+    }
+}
+
+/// The next place of a partition: the first closed cell of the chain's last bucket, and where that is full the first cell of the
+/// least bucket of the part that isn't in the chain. There is none where the room is 0. It is the same in all words that have the same log.
+pub fn place<W: Look>(words: &W, layout: Layout, part: Buckets) -> Option<Place>
+    requires { IsLogOfPart layout part (length (W.words words.now)) (slice_index (W.words words.now)) }
+    ensures none { (w : Words) (p : ℕ) → SameLog (slice_index (W.words words.now)) w → IsPart (layout_shape layout) p part
+        → (result ≡ None) ↔ (room_of (layout_shape layout) w p (chain_of (layout_shape layout) w) ≡ 0) }
+    ensures next { (w : Words) (p : ℕ) → SameLog (slice_index (W.words words.now)) w → IsPart (layout_shape layout) p part
+        → IfSome result (λ place. IsNextPlace (layout_shape layout) p w (chain_of (layout_shape layout) w) place) }
+{
+    read_place(words, layout, part)
+}
