@@ -1,0 +1,5 @@
+pub mod Words
+pub mod Lists
+pub mod Scripts
+pub mod Stages
+pub mod Keeping

@@ -1,0 +1,13 @@
+//! The texts of scripts: how they are read, how a run of one is reported, and how one is generated.
+#![tactic(auto)]
+
+mod fault;
+mod read;
+mod script;
+
+pub use fault::{Fault, ScriptFault};
+pub use read::read_script;
+pub use script::{Command, Item, LaneText, Script, Turns};
+
+#[cfg(test)]
+mod tests;
