@@ -8,3 +8,4 @@ pub mod Lanes
 pub mod Commands
 pub mod Grammar
 pub mod Limits
+pub mod Report

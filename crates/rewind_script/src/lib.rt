@@ -3,10 +3,13 @@
 
 mod fault;
 mod read;
+mod report;
 mod script;
+mod write;
 
 pub use fault::{Fault, ScriptFault};
 pub use read::read_script;
+pub use report::{Fate, Got, How, Named, PairList, Printed, Report, write_report};
 pub use script::{Command, Item, LaneText, Script, Turns};
 
 #[cfg(test)]
