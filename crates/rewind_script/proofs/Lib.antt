@@ -3,3 +3,4 @@ pub mod Lists
 pub mod Scripts
 pub mod Stages
 pub mod Keeping
+pub mod Draws

@@ -9,3 +9,4 @@ pub mod Commands
 pub mod Grammar
 pub mod Limits
 pub mod Report
+pub mod Generator

@@ -2,12 +2,14 @@
 #![tactic(auto)]
 
 mod fault;
+mod generator;
 mod read;
 mod report;
 mod script;
 mod write;
 
 pub use fault::{Fault, ScriptFault};
+pub use generator::generate;
 pub use read::read_script;
 pub use report::{Fate, Got, How, Named, PairList, Printed, Report, write_report};
 pub use script::{Command, Item, LaneText, Script, Turns};
