@@ -211,8 +211,7 @@ kept_turn reading next t h is =
     let last = both (nat_le t.0 15 && nat_le 1 t.1) (nat_le (reading.total + t.1) 1000000) limits.0 in
     let first = both (nat_le t.0 15) (nat_le 1 t.1) last.0 in
     let one : Turns = record { lane = t.0; times = t.1 } in
-    subst (λ (n : Reading). IsReading n × (n.part ≡ reading.part)) (ok_same (turn_of reading t) next limits.1)
-    (
+    subst (λ (n : Reading). IsReading n × (n.part ≡ reading.part)) (ok_same (turn_of reading t) next limits.1) (
       record {
         sized = h.sized;
         kinds = h.kinds;

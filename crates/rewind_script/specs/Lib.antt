@@ -10,3 +10,4 @@ pub mod Grammar
 pub mod Limits
 pub mod Report
 pub mod Generator
+pub mod Served

@@ -8,10 +8,13 @@ use persist_model::{List, NoMemory};
 use std::alloc::Global;
 
 const LANES: u64 = 4;
+
 const TRANSACTIONS: u64 = 250;
+
 const PUTS: u64 = 4;
 
 const FACTOR: u64 = 6_364_136_223_846_793_005;
+
 const SUMMAND: u64 = 1_442_695_040_888_963_407;
 
 /// The lines before the lanes.

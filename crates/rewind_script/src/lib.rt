@@ -6,6 +6,7 @@ mod generator;
 mod read;
 mod report;
 mod script;
+mod served;
 mod write;
 
 pub use fault::{Fault, ScriptFault};

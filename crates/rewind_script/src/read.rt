@@ -147,7 +147,12 @@ impl Reading {
         }
     }
 
-    fn read_keyword(&mut self, alloc: Global, keyword: Keyword, args: &[&[u8]]) -> Result<(), Refusal>
+    fn read_keyword(
+        &mut self,
+        alloc: Global,
+        keyword: Keyword,
+        args: &[&[u8]],
+    ) -> Result<(), Refusal>
         requires { IsSmall self.old }
         ensures moves { Moves result self.new (after_keyword keyword self.old (texts args.now)) }
         ensures small { OnOk result (IsSmall self.new) }

@@ -100,7 +100,12 @@ impl Reading {
     }
 
     #[tactic(auto, unfolding(crate::specs::Lanes::after_ending))]
-    pub fn read_ending(&mut self, alloc: Global, commit: bool, args: &[&[u8]]) -> Result<(), Refusal>
+    pub fn read_ending(
+        &mut self,
+        alloc: Global,
+        commit: bool,
+        args: &[&[u8]],
+    ) -> Result<(), Refusal>
         requires { IsSmall self.old }
         ensures moves { Moves result self.new (after_ending commit self.old (texts args.now)) }
         ensures small { OnOk result (IsSmall self.new) }
