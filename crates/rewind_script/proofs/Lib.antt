@@ -4,3 +4,4 @@ pub mod Scripts
 pub mod Stages
 pub mod Keeping
 pub mod Draws
+pub mod Plain

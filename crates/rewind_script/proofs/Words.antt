@@ -28,7 +28,7 @@ lines_last text some none =
     ap lines_of_parts (slice_split_none is_line_feed text (λ k d h. fails_before_first is_line_feed text k d (omega (arith, none, h))))
     ∙ ap (λ t. cond t [] (text ∷ [])) (ne_eqb (length text) 0 (λ z. omega arith))
 
-before_more : (line : List ℕ) (parts : List (List ℕ)) → 0 < length parts → lines_of_parts (line ∷ parts) ≡ strip_carriage_return line ∷ lines_of_parts parts
+pub before_more : (line : List ℕ) (parts : List (List ℕ)) → 0 < length parts → lines_of_parts (line ∷ parts) ≡ strip_carriage_return line ∷ lines_of_parts parts
 before_more line [] h = absurd (omega arith)
 before_more line (next ∷ parts) h = refl
 
@@ -95,7 +95,7 @@ position_at p xs n some =
     (λ (past : length xs ≤ position_or_len p xs). absurd (some_none (sym some ∙ ap (λ t. cond t (Some (position_or_len p xs)) None) (le-ltb _ _ past))))
     (cases_lt (position_or_len p xs) (length xs))
 
-kept : (word : List ℕ) (parts : List (List ℕ)) → filter (λ w. not (length w == 0)) (word ∷ parts) ≡ unless_empty word ++ filter (λ w. not (length w == 0)) parts
+pub kept : (word : List ℕ) (parts : List (List ℕ)) → filter (λ w. not (length w == 0)) (word ∷ parts) ≡ unless_empty word ++ filter (λ w. not (length w == 0)) parts
 kept [] parts = refl
 kept (b ∷ bs) parts = ap (λ t. cond (not t) ((b ∷ bs) ∷ filter (λ w. not (length w == 0)) parts) (filter (λ w. not (length w == 0)) parts)) (ne_eqb (length (b ∷ bs)) 0 (λ z. omega arith))
 

@@ -11,3 +11,4 @@ pub mod Limits
 pub mod Report
 pub mod Generator
 pub mod Served
+pub mod Load
