@@ -251,7 +251,7 @@ kept_turns reading next args h was is =
 
 -- ---- lanes and transactions
 
-abbrev closed : Part → List LaneText → List Item → List LaneText
+abbrev pub closed : Part → List LaneText → List Item → List LaneText
 closed p lanes items = if is_lane p then lanes ++ record { items = items } ∷ [] else lanes
 
 pub closed-all : (p : Part) (kinds : List Kind) (lanes : List LaneText) (items : List Item) → All (IsLaneText kinds) lanes → All (IsItem kinds) items → All (IsLaneText kinds) (closed p lanes items)
@@ -264,7 +264,7 @@ closed-count part.Lane lanes items total apart none sum = omega (arith, sum, sum
 closed-count part.Transaction lanes items total apart none sum = cc
 closed-count _ lanes items total apart none sum = omega (arith, sum, ap count_transactions (none refl))
 
-abbrev lane_of : Reading → Reading
+abbrev pub lane_of : Reading → Reading
 lane_of reading = record reading { part = part.Lane; lanes = closed reading.part reading.lanes reading.items; items = [] }
 
 pub kept_lane : (reading next : Reading) (args : List (List ℕ)) → IsReading reading → is_transaction reading.part ≡ false → after_lane reading args ≡ Ok next → IsReading next
@@ -308,13 +308,13 @@ kept_checkpoint reading next args h inside is =
       early = λ e. let bad : false ≡ true = sym (ap is_early inside) ∙ e in cc;
     })
 
-abbrev begun : Reading → ℕ → Reading
+abbrev pub begun : Reading → ℕ → Reading
 begun reading set = record reading { part = part.Transaction; transactions = reading.transactions + 1; set = set; commands = [] }
 
-abbrev begin_limit : Reading → ℕ → Result Reading Fault
+abbrev pub begin_limit : Reading → ℕ → Result Reading Fault
 begin_limit reading set = guard (nat_lt reading.transactions 65536) fault.Limit >>= λ _. Ok (begun reading set)
 
-abbrev begin_set : Reading → List ℕ → Result Reading Fault
+abbrev pub begin_set : Reading → List ℕ → Result Reading Fault
 begin_set reading list = set_of reading list >>= begin_limit reading
 
 pub kept_begin : (reading next : Reading) (args : List (List ℕ)) → IsReading reading → reading.part ≡ part.Lane → after_begin reading args ≡ Ok next → IsReading next
@@ -414,19 +414,19 @@ reaches reading map key x there is =
     let held = guarded (holds reading.set map) fault.Held x low.1 in
     (there, held, cells_key (slice_index_or reading.kinds map Tree) key low.0)
 
-abbrev put_reached : Reading → ℕ → ℕ → ℕ → Result Reading Fault
+abbrev pub put_reached : Reading → ℕ → ℕ → ℕ → Result Reading Fault
 put_reached reading key value map = reached reading map key >>= λ _. with_command reading (command.Put map key value)
 
-abbrev put_value : Reading → ℕ → ℕ → ℕ → Result Reading Fault
+abbrev pub put_value : Reading → ℕ → ℕ → ℕ → Result Reading Fault
 put_value reading key value map = guard (not (value == 0)) fault.Value >>= λ _. put_reached reading key value map
 
-abbrev put_structure : Reading → ℕ → ℕ → ℕ → Result Reading Fault
+abbrev pub put_structure : Reading → ℕ → ℕ → ℕ → Result Reading Fault
 put_structure reading s key value = structure reading s >>= put_value reading key value
 
-abbrev put_third : Reading → List (List ℕ) → ℕ → ℕ → Result Reading Fault
+abbrev pub put_third : Reading → List (List ℕ) → ℕ → ℕ → Result Reading Fault
 put_third reading args s key = numeral (arg args 2) >>= put_structure reading s key
 
-abbrev put_second : Reading → List (List ℕ) → ℕ → Result Reading Fault
+abbrev pub put_second : Reading → List (List ℕ) → ℕ → Result Reading Fault
 put_second reading args s = numeral (arg args 1) >>= put_third reading args s
 
 pub kept_put : (reading next : Reading) (args : List (List ℕ)) → IsReading reading → reading.part ≡ part.Transaction → after_put reading args ≡ Ok next → IsReading next

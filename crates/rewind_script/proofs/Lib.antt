@@ -5,3 +5,5 @@ pub mod Stages
 pub mod Keeping
 pub mod Draws
 pub mod Plain
+pub mod Passing
+pub mod Generated

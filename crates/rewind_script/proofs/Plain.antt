@@ -72,7 +72,7 @@ no_blank b h =
 abbrev pub body : List ℕ → List ℕ → List ℕ
 body word numbers = word ++ flat_map spaced numbers
 
-abbrev are_small : List ℕ → Bool
+abbrev pub are_small : List ℕ → Bool
 are_small numbers = list_all (λ n. nat_lt n (2 ^ 64)) numbers
 
 unless_some : (word : List ℕ) → 0 < length word → unless_empty word ≡ word ∷ []
