@@ -27,7 +27,7 @@ use Rattle.rewind_script.specs.Commands.{after_put, reached}
 use Rattle.rewind_script.specs.Grammar.{Meaning, script, script_from, blank, after_line, after_words, is_whole, meaning_of_reading}
 use Rattle.rewind_script.specs.Report.{line}
 use Rattle.rewind_script.specs.Generator.{state_after, next_state, drawn, keys_of, put_line, repeated, transaction, transaction_on, lane_text, head_text, generated}
-use Rattle.rewind_script.specs.Load.{drawn_list, drawn_put, drawn_transaction, transaction_of_puts, drawn_lane, generated_script, GeneratedIsScript}
+use Rattle.rewind_script.specs.Load.{drawn_list, drawn_put, drawn_transaction, transaction_of_puts, drawn_lane, generated_script}
 use Rattle.rewind_script.proofs.Stages.{apart_lane}
 use Rattle.rewind_script.proofs.Keeping.{put_second, put_third, put_structure, begin_set, begin_limit, begun, closed, lane_of}
 use Rattle.rewind_script.proofs.Plain.{is_printable, are_small, number-decimal}
@@ -298,7 +298,8 @@ whole_end : (n : ℕ) (last : Reading) (meaning : Meaning) → is_whole last ≡
 unfolding script_from
 whole_end n last meaning whole means = ap (λ b. if b then Ok (meaning_of_reading last) else Err (Line n fault.Unfinished)) whole ∙ ap Ok means
 
-pub generated_is_script : GeneratedIsScript
+-- The text of each seed is a script.
+pub generated_is_script : (seed : ℕ) → script (generated seed) ≡ Ok (generated_script seed)
 unfolding script generated may_stand
 generated_is_script seed =
     let text = repeated lane_text 2250 4 seed in

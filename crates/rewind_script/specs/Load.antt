@@ -1,8 +1,8 @@
 -- The script that is generated from a seed.
-use Rattle.std.specs.Prelude.{◌≡◌, ℕ, zero, suc, ◌+◌, ◌*◌, ◌%◌, ◌^◌, List, [], ◌∷◌, ◌++◌, false, true, Ok}
+use Rattle.std.specs.Prelude.{ℕ, zero, suc, ◌+◌, ◌%◌, ◌^◌, List, [], ◌∷◌, false, true}
 use Rattle.region_layout.specs.declared.layout.Kind.TheVariants.{Cells, Tree, Hash}
-use Rattle.rewind_script.specs.Generator.{state_after, next_state, drawn, keys_of, generated}
-use Rattle.rewind_script.specs.Grammar.{Meaning, script}
+use Rattle.rewind_script.specs.Generator.{state_after, next_state, drawn, keys_of}
+use Rattle.rewind_script.specs.Grammar.{Meaning}
 use Rattle.rewind_script.specs.declared.script.Item.{Item}
 use Rattle.rewind_script.specs.declared.script.Item.TheVariants as item
 use Rattle.rewind_script.specs.declared.script.Command.{Command}
@@ -34,7 +34,3 @@ generated_script seed = record {
   lanes = drawn_list drawn_lane 2250 4 seed;
   batch = false;
 }
-
--- The text of each seed is a script.
-abbrev pub GeneratedIsScript : Type 0
-GeneratedIsScript = (seed : ℕ) → script (generated seed) ≡ Ok (generated_script seed)

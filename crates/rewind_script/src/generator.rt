@@ -2,6 +2,8 @@
 
 ghost use Rattle.std.specs.Prelude.{◌≡◌, ◌+◌, ◌*◌, ◌++◌, IfOk, OnOk};
 ghost use Rattle.rewind_script.specs.Generator.{next_state, state_after, drawn, keys_of, put_line, repeated, transaction, lane_text, generated};
+ghost use Rattle.rewind_script.specs.Grammar.{script};
+ghost use Rattle.rewind_script.specs.Load.{generated_script};
 
 use crate::write::{append, append_line};
 use persist_model::{List, NoMemory};
@@ -41,7 +43,8 @@ impl Draws {
 /// keys and the values.
 #[tactic(auto, unfolding(crate::specs::Generator::generated))]
 pub fn generate(alloc: Global, seed: u64) -> Result<List<u8>, NoMemory>
-    ensures { IfOk result (λ text. text ≡ generated seed) }
+    ensures text { IfOk result (λ text. text ≡ generated seed) }
+    ensures script { IfOk result (λ text. script text ≡ Ok (generated_script seed)) }
 {
     let mut text = List::new(alloc);
     let mut draws = Draws { state: seed };
