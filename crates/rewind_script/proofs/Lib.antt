@@ -1,0 +1,9 @@
+pub mod Words
+pub mod Lists
+pub mod Scripts
+pub mod Stages
+pub mod Keeping
+pub mod Draws
+pub mod Plain
+pub mod Passing
+pub mod Generated

@@ -1,0 +1,13 @@
+use Rattle.std.proofs.Common.{◌∙◌}
+use Rattle.rewind_script.specs.Generator.{lane_text}
+use Rattle.rewind_script.proofs.Draws.{first-text, next-text, next-state}
+use Rattle.rewind_script.proofs.generator.append_lanes.Goals as goal
+
+pub loop-number-init : goal.loop-number-init
+loop-number-init c = first-text lane_text 2250 c.args.draws.now.state c.args.text.now
+
+pub loop-number-preserved : goal.loop-number-preserved
+loop-number-preserved c = (
+  next-text lane_text 2250 c.loop-number.number c.args.draws.now.state c.loop-number.draws.state c.args.text.now c.loop-number.text c.append_lane.new.text c.loop-number.invariant.0 c.loop-number.invariant.1 c.in_ok-append_lane.ensures.text,
+  next-state 2250 c.loop-number.number c.args.draws.now.state c.loop-number.draws.state c.append_lane.new.draws.state c.loop-number.invariant.1 (c.in_ok-append_lane.ensures.state),
+)

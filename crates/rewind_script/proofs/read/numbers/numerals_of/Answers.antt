@@ -1,0 +1,18 @@
+use Rattle.std.proofs.Common.{◌≡◌, ◌∙◌, ◌++◌, ◌∷◌, [], sym, ap, arith, subst}
+use Rattle.std.proofs.lemmas.Result.{err_from_is_err_and}
+use Rattle.rewind_script.specs.Steps.{numerals}
+use Rattle.rewind_script.specs.Answers.{texts}
+use Rattle.rewind_script.proofs.Lists.{numerals-on, numerals-off, numerals-done}
+use Rattle.rewind_script.proofs.read.numbers.numerals_of.Goals as goal
+
+pub returns-in_err-numeral_of : goal.returns-in_err-numeral_of
+returns-in_err-numeral_of c =
+    let p = err_from_is_err_and c.from_residual.result c.from_residual.ensures.1 in
+    rw (p.1, p.2) (numerals-off c.loop-word.list.items c.loop-word.word-index c.args.args.now _ (numerals (texts c.args.args.now)) c.in_err-numeral_of.field-0.0 (omega arith) c.in_err-numeral_of.ensures c.loop-word.invariant)
+
+pub loop-word-preserved : goal.loop-word-preserved
+loop-word-preserved c =
+    rw c.in_ok-push.ensures.items (numerals-on c.loop-word.list.items c.loop-word.word-index c.args.args.now _ c.in_ok-numeral_of.field-0 (numerals (texts c.args.args.now)) (omega arith) c.in_ok-numeral_of.ensures c.loop-word.invariant)
+
+pub returns : goal.returns
+returns c = sym c.loop-word.invariant ∙ numerals-done c.loop-word.list.items c.loop-word.word-index c.args.args.now (omega arith)

@@ -1,0 +1,14 @@
+pub mod Text
+pub mod Steps
+pub mod Order
+pub mod Answers
+pub mod Head
+pub mod TurnLines
+pub mod Lanes
+pub mod Commands
+pub mod Grammar
+pub mod Limits
+pub mod Report
+pub mod Generator
+pub mod Served
+pub mod Load

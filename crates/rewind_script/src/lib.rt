@@ -1,0 +1,19 @@
+//! The texts of scripts: how they are read, how a run of one is reported, and how one is generated.
+#![tactic(auto)]
+
+mod fault;
+mod generator;
+mod read;
+mod report;
+mod script;
+mod served;
+mod write;
+
+pub use fault::{Fault, ScriptFault};
+pub use generator::generate;
+pub use read::read_script;
+pub use report::{Fate, Got, How, Named, PairList, Printed, Report, write_report};
+pub use script::{Command, Item, LaneText, Script, Turns};
+
+#[cfg(test)]
+mod tests;
