@@ -1,0 +1,2 @@
+//! A balanced search tree in the words of one structure.
+#![tactic(auto)]
