@@ -5,3 +5,5 @@ pub mod Maps
 pub mod Ordering
 pub mod Puts
 pub mod Removals
+pub mod Counting
+pub mod Framing
