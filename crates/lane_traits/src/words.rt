@@ -1,12 +1,25 @@
 ghost use Rattle.std.specs.Prelude.{◌≡◌, ◌↔◌, ℕ, OnOk, OnErr, IfOk, Err, []};
 ghost use Rattle.lane_traits.specs.Space.{Space, IsDataWord, IsOwn, IsTaken, AreSpare, written, given};
 
+use persist_model::NoMemory;
+
 /// Why the words of a structure weren't changed.
 #[derive(Clone, Copy, Debug, PartialEq, Eq)]
 pub enum WordsRefusal {
     /// No block can be taken.
     HeapFull = 1,
     NoMemory = 2,
+}
+
+impl From<NoMemory> for WordsRefusal {
+    ghost use Rattle.std.specs.Prelude.{◌≡◌};
+    ghost use Rattle.lane_traits.specs.declared.words.WordsRefusal.TheVariants.{NoMemory as Refused};
+
+    ghost from_gives = { λ _ refusal. refusal ≡ Refused };
+
+    fn from(_: NoMemory) -> Self {
+        WordsRefusal::NoMemory
+    }
 }
 
 /// A key of a map and its value.
