@@ -1,12 +1,12 @@
 -- How many nodes a tree has: a heap has few blocks, and a high tree many nodes.
-use Rattle.std.proofs.Common.{◌≡◌, ◌≢◌, inl, inr, ℕ, zero, suc, ◌+◌, ◌*◌, ◌<◌, ◌≤◌, true, false, if◌then◌else◌, ◌==◌, max, List, [], ◌∷◌, ◌++◌, length, refl, ap, sym, ◌∙◌, arith, subst, length-append}
+use Rattle.std.proofs.Common.{◌≡◌, ◌≢◌, ◌⊎◌, inl, inr, ℕ, zero, suc, ◌+◌, ◌*◌, ◌<◌, ◌≤◌, true, false, if◌then◌else◌, ◌==◌, max, List, [], ◌∷◌, ◌++◌, length, refl, ap, sym, ◌∙◌, arith, subst, length-append}
 use Rattle.std.proofs.lemmas.Bool.Decides.{nat_tests, eqb_tells}
 use Rattle.persist_model.specs.Records.{IsAmong}
 use Rattle.persist_model.specs.Chain.{Each, IsAbsent, HasNoRepeats, without}
 use Rattle.lane_traits.specs.Space.{Land, IsBlock, IsOwn}
 use Rattle.region_layout.specs.TreeMap.{Tree, Leaf, Node, height, EachNode, AreOwn, blocks}
 use Rattle.persist_tree.specs.Trees.{IsIn, IsApart}
-use Rattle.persist_tree.proofs.Nodes.{in_blocks, of_blocks}
+use Rattle.persist_tree.proofs.Nodes.{in_blocks, of_blocks, among_left, among_right}
 
 -- ---- lists without repeats
 
@@ -79,6 +79,44 @@ pub blocks-once : (t : Tree) → IsApart t → HasNoRepeats (blocks t)
 blocks-once Leaf h = tt
 blocks-once (Node b k v l r) h = once_joined (blocks l) b (blocks r) (blocks-once l h.3) (λ m. h.0 (of_blocks l b m)) (absent_of b (blocks r) (λ m. h.1 (of_blocks r b m))) (blocks-once r h.4)
     (λ c m n. h.2 c (of_blocks l c m) (of_blocks r c n))
+
+-- the parts of a list without repeats
+pub record IsSplitOnce (xs : List ℕ) (y : ℕ) (ys : List ℕ) : Type 0 where
+  pub left : HasNoRepeats xs
+  pub right : HasNoRepeats ys
+  pub out_left : IsAmong xs y → ⊥
+  pub out_right : IsAmong ys y → ⊥
+  pub apart : (c : ℕ) → IsAmong xs c → IsAmong ys c → ⊥
+
+among_at : (xs : List ℕ) (y : ℕ) (ys : List ℕ) (c : ℕ) → (c ≡ y) ⊎ IsAmong ys c → IsAmong (xs ++ y ∷ ys) c
+among_at xs y ys c h = among_right xs (y ∷ ys) c h
+
+once_split : (xs : List ℕ) (y : ℕ) (ys : List ℕ) → HasNoRepeats (xs ++ y ∷ ys) → IsSplitOnce xs y ys
+once_split [] y ys h = record { left = tt; right = h.1; out_left = λ m. m; out_right = not_among y ys h.0; apart = λ c m n. m }
+once_split (x ∷ xs) y ys h =
+    let rest = once_split xs y ys h.1 in
+    record {
+      left = (absent_of x xs (λ m. not_among x (xs ++ y ∷ ys) h.0 (among_left xs (y ∷ ys) x m)), rest.left);
+      right = rest.right;
+      out_left = λ m. elim m [
+        | inl e ↦ not_among x (xs ++ y ∷ ys) h.0 (among_at xs y ys x (inl (sym e)))
+        | inr k ↦ rest.out_left k
+      ];
+      out_right = rest.out_right;
+      apart = λ c m n. elim m [
+        | inl e ↦ not_among x (xs ++ y ∷ ys) h.0 (among_at xs y ys x (inr (subst (IsAmong ys) e n)))
+        | inr k ↦ rest.apart c k n
+      ];
+    }
+
+pub once-apart : (t : Tree) → HasNoRepeats (blocks t) → IsApart t
+once-apart Leaf h = tt
+once-apart (Node b k v l r) h =
+    let s = once_split (blocks l) b (blocks r) h in
+    (λ m. s.out_left (in_blocks l b m), λ m. s.out_right (in_blocks r b m), λ c m n. s.apart c (in_blocks l c m) (in_blocks r c n), once-apart l s.left, once-apart r s.right)
+
+pub apart_same : (t u : Tree) → blocks u ≡ blocks t → IsApart t → IsApart u
+apart_same t u e h = once-apart u (subst HasNoRepeats (sym e) (blocks-once t h))
 
 each_joined : (P : ℕ → Type 0) (xs : List ℕ) (y : ℕ) (ys : List ℕ) → Each P xs → P y → Each P ys → Each P (xs ++ y ∷ ys)
 each_joined P [] y ys left here right = (here, right)

@@ -4,23 +4,23 @@ use Rattle.region_layout.specs.TreeMap.{Tree, Leaf, Node, height, EachNode, in_o
 use Rattle.persist_tree.specs.Trees.{IsIn, left_of, right_of, turned_left, turned_right, lowered_left, lowered_right, joined}
 use Rattle.persist_tree.proofs.Nodes.{by_test, same_blocks}
 
-turned_right-order : {X : Type 0} (f : ℕ → ℕ → ℕ → X) (t : Tree) → in_order f (turned_right t) ≡ in_order f t
+pub turned_right-order : {X : Type 0} (f : ℕ → ℕ → ℕ → X) (t : Tree) → in_order f (turned_right t) ≡ in_order f t
 turned_right-order f Leaf = refl
 turned_right-order f (Node b k v Leaf r) = refl
 turned_right-order f (Node b k v (Node c j u ll lr) r) = sym (append_assoc (in_order f ll) _ _)
 
-turned_left-order : {X : Type 0} (f : ℕ → ℕ → ℕ → X) (t : Tree) → in_order f (turned_left t) ≡ in_order f t
+pub turned_left-order : {X : Type 0} (f : ℕ → ℕ → ℕ → X) (t : Tree) → in_order f (turned_left t) ≡ in_order f t
 turned_left-order f Leaf = refl
 turned_left-order f (Node b k v l Leaf) = refl
 turned_left-order f (Node b k v l (Node c j u rl rr)) = append_assoc (in_order f l) _ _
 
-lowered_left-order : {X : Type 0} (f : ℕ → ℕ → ℕ → X) (b k v : ℕ) (l r : Tree) → in_order f (lowered_left b k v l r) ≡ in_order f (Node b k v l r)
+pub lowered_left-order : {X : Type 0} (f : ℕ → ℕ → ℕ → X) (b k v : ℕ) (l r : Tree) → in_order f (lowered_left b k v l r) ≡ in_order f (Node b k v l r)
 lowered_left-order f b k v l r =
     by_test (λ t. in_order f t ≡ in_order f (Node b k v l r)) (nat_lt (height (left_of l)) (height (right_of l))) _ _
     (turned_right-order f (Node b k v (turned_left l) r) ∙ ap (λ xs. xs ++ f b k v ∷ in_order f r) (turned_left-order f l))
     (turned_right-order f (Node b k v l r))
 
-lowered_right-order : {X : Type 0} (f : ℕ → ℕ → ℕ → X) (b k v : ℕ) (l r : Tree) → in_order f (lowered_right b k v l r) ≡ in_order f (Node b k v l r)
+pub lowered_right-order : {X : Type 0} (f : ℕ → ℕ → ℕ → X) (b k v : ℕ) (l r : Tree) → in_order f (lowered_right b k v l r) ≡ in_order f (Node b k v l r)
 lowered_right-order f b k v l r =
     by_test (λ t. in_order f t ≡ in_order f (Node b k v l r)) (nat_lt (height (right_of r)) (height (left_of r))) _ _
     (turned_left-order f (Node b k v l (turned_right r)) ∙ ap (λ xs. in_order f l ++ f b k v ∷ xs) (turned_right-order f r))

@@ -7,3 +7,4 @@ pub mod Puts
 pub mod Removals
 pub mod Counting
 pub mod Framing
+pub mod Turning

@@ -48,6 +48,13 @@ pub record HasTree (s : Space) (a : ℕ) : Type 0 where
   pub tree : Tree
   pub stands : StandsAt s a tree
 
+pub record HasNode (s : Space) (b : ℕ) : Type 0 where
+  pub k : ℕ
+  pub v : ℕ
+  pub l : Tree
+  pub r : Tree
+  pub stands : StandsAt s b (Node b k v l r)
+
 -- the block is the node of these trees then
 abbrev pub Hangs : Space → Space → ℕ → ℕ → ℕ → Type 0
 Hangs s u b left right = (k v : ℕ) (l r : Tree) → AreParts s b left right k v l r → IsRebuilt (λ c. c ≡ b) 3 s u b (Node b k v l r)

@@ -41,14 +41,21 @@ turned_left Leaf = Leaf
 turned_left (Node b k v l Leaf) = Node b k v l Leaf
 turned_left (Node b k v l (Node c j u rl rr)) = Node c j u (Node b k v l rl) rr
 
+-- first the child is turned the other way, then the node
+abbrev pub turned_twice_right : ℕ → ℕ → ℕ → Tree → Tree → Tree
+turned_twice_right b k v l r = turned_right (Node b k v (turned_left l) r)
+
+abbrev pub turned_twice_left : ℕ → ℕ → ℕ → Tree → Tree → Tree
+turned_twice_left b k v l r = turned_left (Node b k v l (turned_right r))
+
 -- the left side, or the right one, is higher by two
 abbrev pub lowered_left : ℕ → ℕ → ℕ → Tree → Tree → Tree
 lowered_left b k v l r =
-    if nat_lt (height (left_of l)) (height (right_of l)) then turned_right (Node b k v (turned_left l) r) else turned_right (Node b k v l r)
+    if nat_lt (height (left_of l)) (height (right_of l)) then turned_twice_right b k v l r else turned_right (Node b k v l r)
 
 abbrev pub lowered_right : ℕ → ℕ → ℕ → Tree → Tree → Tree
 lowered_right b k v l r =
-    if nat_lt (height (right_of r)) (height (left_of r)) then turned_left (Node b k v l (turned_right r)) else turned_left (Node b k v l r)
+    if nat_lt (height (right_of r)) (height (left_of r)) then turned_twice_left b k v l r else turned_left (Node b k v l r)
 
 -- the node with these sides, of which one may be higher by two
 abbrev pub joined : ℕ → ℕ → ℕ → Tree → Tree → Tree
