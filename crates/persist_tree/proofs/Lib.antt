@@ -8,3 +8,4 @@ pub mod Removals
 pub mod Counting
 pub mod Framing
 pub mod Turning
+pub mod Building

@@ -84,10 +84,10 @@ module _ (s : Space) (b c right k v j u : ℕ) (ll lr r : Tree) (h : AreParts s 
   right_apart : IsApart (Node c j u ll (Node b k v lr r))
   right_apart = apart_same (Node b k v (Node c j u ll lr) r) (Node c j u ll (Node b k v lr r)) (turned_right-order (λ x y z. x) (Node b k v (Node c j u ll lr) r)) h.apart
 
-  right_first : AreParts s b (s.word (c + 4)) right k v lr r
+  pub right_first : AreParts s b (s.word (c + 4)) right k v lr r
   right_first = record { own = h.own; key = h.key; value = h.value; on_left = on_right s c c j u ll lr h.on_left; on_right = h.on_right; apart = right_apart.4 }
 
-  right_second : (u₁ : Space) → IsRebuilt (λ d. d ≡ b) 3 s u₁ b (Node b k v lr r) → AreParts u₁ c (s.word (c + 3)) b j u ll (Node b k v lr r)
+  pub right_second : (u₁ : Space) → IsRebuilt (λ d. d ≡ b) 3 s u₁ b (Node b k v lr r) → AreParts u₁ c (s.word (c + 3)) b j u ll (Node b k v lr r)
   right_second u₁ first = record {
     own = own_beside s u₁ b h.own first.changes c h.on_left.own.0;
     key = word_beside s u₁ b h.own first.changes c 1 h.on_left.own.0 (λ e. right_apart.1 (inl e)) (omega arith) ∙ h.on_left.laid.0.key;
@@ -97,7 +97,7 @@ module _ (s : Space) (b c right k v j u : ℕ) (ll lr r : Tree) (h : AreParts s 
     apart = right_apart;
   }
 
-  right_whole : (u₁ u₂ : Space) → Hangs s u₁ b (s.word (c + 4)) right → Hangs u₁ u₂ c (s.word (c + 3)) b
+  pub right_whole : (u₁ u₂ : Space) → Hangs s u₁ b (s.word (c + 4)) right → Hangs u₁ u₂ c (s.word (c + 3)) b
       → IsRebuilt (IsIn (Node b k v (Node c j u ll lr) r)) 9 s u₂ c (Node c j u ll (Node b k v lr r))
   right_whole u₁ u₂ hang₁ hang₂ =
       let first = hang₁ k v lr r right_first in
@@ -115,10 +115,10 @@ module _ (s : Space) (b c left k v j u : ℕ) (l rl rr : Tree) (h : AreParts s b
   left_apart : IsApart (Node c j u (Node b k v l rl) rr)
   left_apart = apart_same (Node b k v l (Node c j u rl rr)) (Node c j u (Node b k v l rl) rr) (turned_left-order (λ x y z. x) (Node b k v l (Node c j u rl rr))) h.apart
 
-  left_first : AreParts s b left (s.word (c + 3)) k v l rl
+  pub left_first : AreParts s b left (s.word (c + 3)) k v l rl
   left_first = record { own = h.own; key = h.key; value = h.value; on_left = h.on_left; on_right = on_left s c c j u rl rr h.on_right; apart = left_apart.3 }
 
-  left_second : (u₁ : Space) → IsRebuilt (λ d. d ≡ b) 3 s u₁ b (Node b k v l rl) → AreParts u₁ c b (s.word (c + 4)) j u (Node b k v l rl) rr
+  pub left_second : (u₁ : Space) → IsRebuilt (λ d. d ≡ b) 3 s u₁ b (Node b k v l rl) → AreParts u₁ c b (s.word (c + 4)) j u (Node b k v l rl) rr
   left_second u₁ first = record {
     own = own_beside s u₁ b h.own first.changes c h.on_right.own.0;
     key = word_beside s u₁ b h.own first.changes c 1 h.on_right.own.0 (λ e. left_apart.0 (inl e)) (omega arith) ∙ h.on_right.laid.0.key;
@@ -128,7 +128,7 @@ module _ (s : Space) (b c left k v j u : ℕ) (l rl rr : Tree) (h : AreParts s b
     apart = left_apart;
   }
 
-  left_whole : (u₁ u₂ : Space) → Hangs s u₁ b left (s.word (c + 3)) → Hangs u₁ u₂ c b (s.word (c + 4))
+  pub left_whole : (u₁ u₂ : Space) → Hangs s u₁ b left (s.word (c + 3)) → Hangs u₁ u₂ c b (s.word (c + 4))
       → IsRebuilt (IsIn (Node b k v l (Node c j u rl rr))) 9 s u₂ c (Node c j u (Node b k v l rl) rr)
   left_whole u₁ u₂ hang₁ hang₂ =
       let first = hang₁ k v l rl left_first in
@@ -150,7 +150,7 @@ module _ (s : Space) (b c d right k v j u i w : ℕ) (ll m n r : Tree) (h : AreP
   twice_right_inner : StandsAt s (s.word (c + 4)) (Node d i w m n)
   twice_right_inner = on_right s c c j u ll (Node d i w m n) h.on_left
 
-  twice_right_first : AreParts s c (s.word (c + 3)) (s.word (d + 3)) j u ll m
+  pub twice_right_first : AreParts s c (s.word (c + 3)) (s.word (d + 3)) j u ll m
   twice_right_first = record {
     own = h.on_left.own.0;
     key = h.on_left.laid.0.key;
@@ -160,7 +160,7 @@ module _ (s : Space) (b c d right k v j u i w : ℕ) (ll m n r : Tree) (h : AreP
     apart = twice_right_apart.3;
   }
 
-  twice_right_second : (u₁ : Space) → IsRebuilt (λ e. e ≡ c) 3 s u₁ c (Node c j u ll m) → AreParts u₁ b (s.word (d + 4)) right k v n r
+  pub twice_right_second : (u₁ : Space) → IsRebuilt (λ e. e ≡ c) 3 s u₁ c (Node c j u ll m) → AreParts u₁ b (s.word (d + 4)) right k v n r
   twice_right_second u₁ first = record {
     own = own_beside s u₁ c h.on_left.own.0 first.changes b h.own;
     key = word_beside s u₁ c h.on_left.own.0 first.changes b 1 h.own (λ e. h.apart.0 (inl e)) (omega arith) ∙ h.key;
@@ -170,7 +170,7 @@ module _ (s : Space) (b c d right k v j u i w : ℕ) (ll m n r : Tree) (h : AreP
     apart = twice_right_apart.4;
   }
 
-  twice_right_third : (u₁ u₂ : Space) → IsRebuilt (λ e. e ≡ c) 3 s u₁ c (Node c j u ll m) → IsRebuilt (λ e. e ≡ b) 3 u₁ u₂ b (Node b k v n r)
+  pub twice_right_third : (u₁ u₂ : Space) → IsRebuilt (λ e. e ≡ c) 3 s u₁ c (Node c j u ll m) → IsRebuilt (λ e. e ≡ b) 3 u₁ u₂ b (Node b k v n r)
       → AreParts u₂ d c b i w (Node c j u ll m) (Node b k v n r)
   twice_right_third u₁ u₂ first second =
       let own_b = own_beside s u₁ c h.on_left.own.0 first.changes b h.own in
@@ -186,7 +186,7 @@ module _ (s : Space) (b c d right k v j u i w : ℕ) (ll m n r : Tree) (h : AreP
         apart = twice_right_apart;
       }
 
-  twice_right_whole : (u₁ u₂ u₃ : Space) → Hangs s u₁ c (s.word (c + 3)) (s.word (d + 3)) → Hangs u₁ u₂ b (s.word (d + 4)) right → Hangs u₂ u₃ d c b
+  pub twice_right_whole : (u₁ u₂ u₃ : Space) → Hangs s u₁ c (s.word (c + 3)) (s.word (d + 3)) → Hangs u₁ u₂ b (s.word (d + 4)) right → Hangs u₂ u₃ d c b
       → IsRebuilt (IsIn (Node b k v (Node c j u ll (Node d i w m n)) r)) 9 s u₃ d (Node d i w (Node c j u ll m) (Node b k v n r))
   twice_right_whole u₁ u₂ u₃ hang₁ hang₂ hang₃ =
       let first = hang₁ j u ll m twice_right_first in
@@ -209,7 +209,7 @@ module _ (s : Space) (b c d left k v j u i w : ℕ) (l m n rr : Tree) (h : ArePa
   twice_left_inner : StandsAt s (s.word (c + 3)) (Node d i w m n)
   twice_left_inner = on_left s c c j u (Node d i w m n) rr h.on_right
 
-  twice_left_first : AreParts s c (s.word (d + 4)) (s.word (c + 4)) j u n rr
+  pub twice_left_first : AreParts s c (s.word (d + 4)) (s.word (c + 4)) j u n rr
   twice_left_first = record {
     own = h.on_right.own.0;
     key = h.on_right.laid.0.key;
@@ -219,7 +219,7 @@ module _ (s : Space) (b c d left k v j u i w : ℕ) (l m n rr : Tree) (h : ArePa
     apart = twice_left_apart.4;
   }
 
-  twice_left_second : (u₁ : Space) → IsRebuilt (λ e. e ≡ c) 3 s u₁ c (Node c j u n rr) → AreParts u₁ b left (s.word (d + 3)) k v l m
+  pub twice_left_second : (u₁ : Space) → IsRebuilt (λ e. e ≡ c) 3 s u₁ c (Node c j u n rr) → AreParts u₁ b left (s.word (d + 3)) k v l m
   twice_left_second u₁ first = record {
     own = own_beside s u₁ c h.on_right.own.0 first.changes b h.own;
     key = word_beside s u₁ c h.on_right.own.0 first.changes b 1 h.own (λ e. h.apart.1 (inl e)) (omega arith) ∙ h.key;
@@ -229,7 +229,7 @@ module _ (s : Space) (b c d left k v j u i w : ℕ) (l m n rr : Tree) (h : ArePa
     apart = twice_left_apart.3;
   }
 
-  twice_left_third : (u₁ u₂ : Space) → IsRebuilt (λ e. e ≡ c) 3 s u₁ c (Node c j u n rr) → IsRebuilt (λ e. e ≡ b) 3 u₁ u₂ b (Node b k v l m)
+  pub twice_left_third : (u₁ u₂ : Space) → IsRebuilt (λ e. e ≡ c) 3 s u₁ c (Node c j u n rr) → IsRebuilt (λ e. e ≡ b) 3 u₁ u₂ b (Node b k v l m)
       → AreParts u₂ d b c i w (Node b k v l m) (Node c j u n rr)
   twice_left_third u₁ u₂ first second =
       let own_b = own_beside s u₁ c h.on_right.own.0 first.changes b h.own in
@@ -245,7 +245,7 @@ module _ (s : Space) (b c d left k v j u i w : ℕ) (l m n rr : Tree) (h : ArePa
         apart = twice_left_apart;
       }
 
-  twice_left_whole : (u₁ u₂ u₃ : Space) → Hangs s u₁ c (s.word (d + 4)) (s.word (c + 4)) → Hangs u₁ u₂ b left (s.word (d + 3)) → Hangs u₂ u₃ d b c
+  pub twice_left_whole : (u₁ u₂ u₃ : Space) → Hangs s u₁ c (s.word (d + 4)) (s.word (c + 4)) → Hangs u₁ u₂ b left (s.word (d + 3)) → Hangs u₂ u₃ d b c
       → IsRebuilt (IsIn (Node b k v l (Node c j u (Node d i w m n) rr))) 9 s u₃ d (Node d i w (Node b k v l m) (Node c j u n rr))
   twice_left_whole u₁ u₂ u₃ hang₁ hang₂ hang₃ =
       let first = hang₁ j u n rr twice_left_first in
