@@ -9,3 +9,5 @@ pub mod Counting
 pub mod Framing
 pub mod Turning
 pub mod Building
+pub mod Rebuilding
+pub mod Growing
