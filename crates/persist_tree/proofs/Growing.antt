@@ -46,6 +46,9 @@ finds_in s t a x key b same here h = subst (λ (y : Space). Finds y a key b) sam
 
 -- ---- growth
 
+pub builds_from : (built : ℕ → ℕ → ℕ → Tree → Tree → Tree) (n : ℕ) (s u : Space) (b left right x y link : ℕ) → x ≡ left → y ≡ right → Builds built n s u b x y link → Builds built n s u b left right link
+builds_from built n s u b left right x y link is_left is_right h = subst (λ z. Builds built n s u b z right link) is_left (subst (λ z. Builds built n s u b x z link) is_right h)
+
 pub grows_in : (s t u : Space) (a x fresh key value link : ℕ) → t ≡ s → x ≡ a → Grows t u x fresh key value link → Grows s u a fresh key value link
 grows_in s t u a x fresh key value link same here h = subst (λ (y : Space). Grows y u a fresh key value link) same (subst (λ y. Grows t u y fresh key value link) here h)
 

@@ -11,3 +11,4 @@ pub mod Turning
 pub mod Building
 pub mod Rebuilding
 pub mod Growing
+pub mod Descending

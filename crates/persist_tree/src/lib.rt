@@ -2,6 +2,8 @@
 #![tactic(auto)]
 
 mod fields;
+mod grow;
 mod hang;
 mod join;
+mod search;
 mod turn;
