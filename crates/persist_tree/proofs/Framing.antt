@@ -46,13 +46,13 @@ pub laid_keys : (w : Words) (t : Tree) → IsLaid w t → EachNode (λ b k v. w 
 laid_keys w Leaf laid = tt
 laid_keys w (Node b k v l r) laid = (laid.0.key, laid_keys w l laid.1, laid_keys w r laid.2)
 
-key_below : (w : Words) (t : Tree) (m c : ℕ) → EachNode (λ b k v. w (b + 1) ≡ k) t → AreBelow m t → IsIn t c → w (c + 1) < m
+pub key_below : (w : Words) (t : Tree) (m c : ℕ) → EachNode (λ b k v. w (b + 1) ≡ k) t → AreBelow m t → IsIn t c → w (c + 1) < m
 key_below w Leaf m c keys below h = absurd h
 key_below w (Node b k v l r) m c keys below (inl e) = subst (λ x. w (x + 1) < m) (sym e) (subst (λ x. x < m) (sym keys.0) below.0)
 key_below w (Node b k v l r) m c keys below (inr (inl h)) = key_below w l m c keys.1 below.1 h
 key_below w (Node b k v l r) m c keys below (inr (inr h)) = key_below w r m c keys.2 below.2 h
 
-key_above : (w : Words) (t : Tree) (m c : ℕ) → EachNode (λ b k v. w (b + 1) ≡ k) t → AreAbove m t → IsIn t c → m < w (c + 1)
+pub key_above : (w : Words) (t : Tree) (m c : ℕ) → EachNode (λ b k v. w (b + 1) ≡ k) t → AreAbove m t → IsIn t c → m < w (c + 1)
 key_above w Leaf m c keys above h = absurd h
 key_above w (Node b k v l r) m c keys above (inl e) = subst (λ x. m < w (x + 1)) (sym e) (subst (λ x. m < x) (sym keys.0) above.0)
 key_above w (Node b k v l r) m c keys above (inr (inl h)) = key_above w l m c keys.1 above.1 h

@@ -12,3 +12,4 @@ pub mod Building
 pub mod Rebuilding
 pub mod Growing
 pub mod Descending
+pub mod Shrinking

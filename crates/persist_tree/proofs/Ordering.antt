@@ -20,11 +20,11 @@ pub entries_ascend : (t : Tree) → IsOrdered t → IsAscending (entries t)
 entries_ascend Leaf h = h
 entries_ascend (Node b k v l r) h = ascending_joined (entries l) (k, v) (entries r) (entries_ascend l h.2) (entries_before k l h.0) (entries_after k r h.1) (entries_ascend r h.3)
 
-below_of : (m : ℕ) (t : Tree) → AreBefore m (entries t) → AreBelow m t
+pub below_of : (m : ℕ) (t : Tree) → AreBefore m (entries t) → AreBelow m t
 below_of m Leaf h = h
 below_of m (Node b k v l r) h = let s = before_parts m (entries l) (k, v) (entries r) h in (s.1, below_of m l s.0, below_of m r s.2)
 
-above_of : (m : ℕ) (t : Tree) → AreAfter m (entries t) → AreAbove m t
+pub above_of : (m : ℕ) (t : Tree) → AreAfter m (entries t) → AreAbove m t
 above_of m Leaf h = h
 above_of m (Node b k v l r) h = let s = after_parts m (entries l) (k, v) (entries r) h in (s.1, above_of m l s.0, above_of m r s.2)
 
