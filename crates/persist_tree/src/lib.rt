@@ -6,4 +6,5 @@ mod grow;
 mod hang;
 mod join;
 mod search;
+mod shrink;
 mod turn;
