@@ -13,3 +13,4 @@ pub mod Rebuilding
 pub mod Growing
 pub mod Descending
 pub mod Shrinking
+pub mod Whole

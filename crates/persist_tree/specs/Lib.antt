@@ -1,3 +1,5 @@
 pub mod Trees
 pub mod Changes
 pub mod Below
+pub mod Calls
+pub mod Located

@@ -1,10 +1,14 @@
 //! A balanced search tree in the words of one structure.
 #![tactic(auto)]
 
+mod calls;
 mod fields;
 mod grow;
 mod hang;
 mod join;
+mod locate;
 mod search;
 mod shrink;
 mod turn;
+
+pub use calls::{get, needs, put, remove};
