@@ -14,3 +14,4 @@ pub mod Growing
 pub mod Descending
 pub mod Shrinking
 pub mod Whole
+pub mod Fullness

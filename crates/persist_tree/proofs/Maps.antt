@@ -157,3 +157,12 @@ without_ascends key (p ∷ ps) h = by_key (without_ascends key ps h.1) (key == p
     by_key : IsAscending (without_key key ps) → (a : Bool) → IsAscending (if a then ps else p ∷ without_key key ps)
     by_key again true = h.1
     by_key again false = (after_without p.0 key ps h.0, again)
+
+-- a key without a value is none of the map's
+pub without_missing : (key : ℕ) (ps : FiniteMap) → lookup key ps ≡ None → without_key key ps ≡ ps
+without_missing key [] none = refl
+without_missing key (p ∷ ps) none = by_key (without_missing key ps) (key == p.0) none
+  where
+    by_key : (lookup key ps ≡ None → without_key key ps ≡ ps) → (a : Bool) → (if a then Some p.1 else lookup key ps) ≡ None → (if a then ps else p ∷ without_key key ps) ≡ p ∷ ps
+    by_key again true none = absurd (cc)
+    by_key again false none = ap (λ xs. p ∷ xs) (again none)

@@ -19,6 +19,7 @@ use Rattle.persist_tree.proofs.Puts.{with_node-each, with_node-in, with_node-ent
 use Rattle.persist_tree.proofs.Removals.{without_node-each, without_node-in, without_node-entries, without_node-ordered, without_node-absent}
 use Rattle.persist_tree.proofs.Counting.{absent_of, not_among, blocks-once}
 use Rattle.persist_tree.proofs.Framing.{blocks_apart, put_same, put_other, laid_kept, laid_keys, apart_of, block_own}
+use Rattle.persist_tree.proofs.Maps.{without_missing}
 use Rattle.persist_tree.proofs.Rebuilding.{standing_apart}
 
 -- ---- parts of a whole tree
@@ -340,3 +341,102 @@ module _ (s u : Space) (root key link : ℕ) (t : Tree) (h : IsTree s.land s.wor
         ∙ shrunk.changes.elsewhere a (λ b i m above below e. out_before (record { block = b; index = i; own = block_own s.land t b h.own m; place = e; above = above; below = below }));
     writes = let few = shrunk.changes.writes in omega (arith, few);
   }
+
+-- ---- an insertion in code
+
+pub insert_can : (s t : Space) (root key top fresh : ℕ) → AreSpare s → IsTaken s fresh t → CanInsert s root key → top ≡ s.word (root + 1) → CanGrow t top fresh key
+insert_can s t root key top fresh spare is_taken h here =
+    subst (λ (y : Space). CanGrow y top fresh key) (sym is_taken.space)
+    (subst (λ x. CanGrow (taken fresh s) x fresh key) (sym here)
+    (record { tree = h.tree; is = growing_of s fresh is_taken.block (spare.apart fresh is_taken.among).1 root key h.tree h.is h.absent }))
+
+module _ (s t u : Space) (root key value top fresh link : ℕ) (spare : AreSpare s) (is_taken : IsTaken s fresh t) (here : top ≡ s.word (root + 1)) (grows : Grows t u top fresh key value link) where
+  grows_from : Grows (taken fresh s) u (s.word (root + 1)) fresh key value link
+  grows_from = subst (λ (y : Space). Grows y u (s.word (root + 1)) fresh key value link) is_taken.space (subst (λ x. Grows t u x fresh key value link) here grows)
+
+  pub insert_own : CanInsert s root key → IsOwn u.land root
+  insert_own h =
+      let done = grows_from h.tree (growing_of s fresh is_taken.block (spare.apart fresh is_taken.among).1 root key h.tree h.is h.absent) in
+      subst (λ (y : Land). IsOwn y root) (sym done.changes.land) (taken_own s fresh is_taken.block (spare.apart fresh is_taken.among).1 root h.is.root_own)
+
+  pub insert_made : (v : Space) (x : ℕ) → 1 ≤ value → v ≡ written (root + 1) x u → x ≡ link → Inserts s v root key value
+  insert_made v x positive made same tree h absent =
+      subst (λ (y : Space). IsInserted s y root key value tree) (sym (made ∙ ap (λ z. written (root + 1) z u) same))
+      (inserted s fresh is_taken.block (spare.apart fresh is_taken.among).1 u root key value link tree h absent positive is_taken.among grows_from)
+
+-- ---- the calls
+
+pub map_in : (s t : Space) (root : ℕ) → t ≡ s → IsMap s root → IsMap t root
+map_in s t root same h = subst (λ (y : Space). IsMap y root) (sym same) h
+
+pub can_insert : (s t : Space) (root key b : ℕ) → t ≡ s → Locates s root key b → b ≡ 0 → IsMap s root → CanInsert t root key
+can_insert s t root key b same locates none h =
+    subst (λ (y : Space). CanInsert y root key) (sym same) (record { tree = h.is.tree; is = h.is.is; absent = located_absent s root key b h.is.tree locates none h.is.is })
+
+pub inserts_in : (s t u : Space) (root key value : ℕ) → t ≡ s → Inserts t u root key value → Inserts s u root key value
+inserts_in s t u root key value same h = subst (λ (y : Space). Inserts y u root key value) same h
+
+module _ (s u : Space) (root key value b : ℕ) (locates : Locates s root key b) (none : b ≡ 0) (inserts : Inserts s u root key value) where
+  pub put_new-contents : (m : FiniteMap) → Holds s root m → Holds u root (with_pair key value m)
+  put_new-contents m h =
+      let absent = located_absent s root key b h.tree locates none h.is in
+      let done = inserts h.tree h.is absent in
+      record { tree = with_node done.taken.block key value h.tree; is = done.tree; entries_are = ap (with_pair key value) h.entries_are ∙ sym (with_node-entries done.taken.block key value h.tree h.is.ordered absent) }
+
+  pub put_new : (h : IsMap s root) → IsInserted s u root key value h.is.tree
+  put_new h = inserts h.is.tree h.is.is (located_absent s root key b h.is.tree locates none h.is.is)
+
+  pub put_new-writes : WritesFew s u root
+  put_new-writes t h = (inserts t h (located_absent s root key b t locates none h)).writes
+
+module _ (s u : Space) (root key value b : ℕ) (locates : Locates s root key b) (some : b ≡ 0 → ⊥) (positive : 1 ≤ value) (made : u ≡ written (b + 2) value s) where
+  pub put_old-contents : (m : FiniteMap) → Holds s root m → Holds u root (with_pair key value m)
+  put_old-contents m h =
+      let there = some_at s root key b h.tree locates some h.is in
+      subst (λ (y : Space). Holds y root (with_pair key value m)) (sym (made ∙ ap (λ x. written (x + 2) value s) (locates h.tree h.is)))
+      (record { tree = with_value key value h.tree; is = overwritten s root key value h.tree h.is there positive; entries_are = ap (with_pair key value) h.entries_are ∙ sym (with_value-entries key value h.tree h.is.ordered there) })
+
+  pub put_old-others : IsMap s root → KeepsOthers s u
+  put_old-others h a out_before out_after =
+      ap (λ (y : Space). y.word a) made
+      ∙ put_other (b + 2) value a s.word (λ e. out_before (record { block = b; index = 2; own = located_own s root key b locates some h; place = e; above = omega arith; below = omega arith }))
+
+  pub put_old-writes : WritesFew s u root
+  put_old-writes t h = let e = ap (λ (y : Space). y.writes) made in omega (arith, e)
+
+  pub put_old-blocks : KeepsBlocks s u
+  put_old-blocks = record { land = ap (λ (y : Space). y.land) made; spare = ap (λ (y : Space). y.spare) made }
+
+pub can_shrink : (s t : Space) (root key top b : ℕ) → t ≡ s → top ≡ s.word (root + 1) → Locates s root key b → (b ≡ 0 → ⊥) → IsMap s root → CanShrink t top key
+can_shrink s t root key top b same here locates some h =
+    subst (λ (y : Space). CanShrink y top key) (sym same) (subst (λ x. CanShrink s x key) (sym here)
+    (record { tree = h.is.tree; is = record { stands = whole_stands s root h.is.tree h.is.is; ordered = h.is.is.ordered; present = some_at s root key b h.is.tree locates some h.is.is } }))
+
+module _ (s t u : Space) (root key top link b : ℕ) (locates : Locates s root key b) (some : b ≡ 0 → ⊥) (same : t ≡ s) (here : top ≡ s.word (root + 1)) (shrinks : Shrinks t u top key link) where
+  shrinks_from : Shrinks s u (s.word (root + 1)) key link
+  shrinks_from = subst (λ (y : Space). Shrinks y u (s.word (root + 1)) key link) same (subst (λ x. Shrinks t u x key link) here shrinks)
+
+  pub remove_land : IsMap s root → u.land ≡ s.land
+  remove_land h = (shrinks_from h.is.tree (record { stands = whole_stands s root h.is.tree h.is.is; ordered = h.is.is.ordered; present = some_at s root key b h.is.tree locates some h.is.is })).changes.land
+
+  pub remove_own : IsMap s root → IsOwn u.land root
+  remove_own h = subst (λ (y : Land). IsOwn y root) (sym (remove_land h)) h.is.is.root_own
+
+  module _ (v w : Space) (x : ℕ) (made : v ≡ written (root + 1) x u) (is_link : x ≡ link) where
+    pub remove_give : IsMap s root → IsOwn v.land b
+    remove_give h = subst (λ (y : Space). IsOwn y.land b) (sym made) (subst (λ (y : Land). IsOwn y b) (sym (remove_land h)) (located_own s root key b locates some h))
+
+    module _ (gave : w ≡ given b v) where
+      pub removed_by : (tree : Tree) → IsTree s.land s.word root tree → IsRemoved s w root key tree
+      removed_by tree h = subst (λ (y : Space). IsRemoved s y root key tree)
+          (sym (gave ∙ ap (given b) (made ∙ ap (λ z. written (root + 1) z u) is_link) ∙ ap (λ y. given y (written (root + 1) link u)) (locates tree h)))
+          (removed s u root key link tree h (some_at s root key b tree locates some h) shrinks_from)
+
+      pub remove_contents : (m : FiniteMap) → Holds s root m → Holds w root (without_key key m)
+      remove_contents m h = record { tree = without_node key h.tree; is = (removed_by h.tree h.is).tree; entries_are = ap (without_key key) h.entries_are ∙ sym (without_node-entries key h.tree h.is.ordered) }
+
+-- a removal of a key that isn't there
+pub without_absent : (s u : Space) (root key b : ℕ) → u ≡ s → Locates s root key b → b ≡ 0 → (m : FiniteMap) → Holds s root m → Holds u root (without_key key m)
+without_absent s u root key b same locates none m h =
+    subst (λ (y : Space). Holds y root (without_key key m)) (sym same)
+    (subst (Holds s root) (sym (without_missing key m (sym (value_none s root key b locates none m h)))) h)
