@@ -1,3 +1,5 @@
+pub mod Layout
+pub mod Apart
 pub mod FiniteMap
 pub mod HeapBlocks
 pub mod TreeMap

@@ -1,2 +1,7 @@
-//! Where the words of a region stand, and what the blocks of a structure hold.
+//! Where the things of a region stand: its header, the buckets of its log, and the blocks of its heap.
 #![tactic(auto)]
+
+pub mod laws;
+mod layout;
+
+pub use layout::{Buckets, Kind, Layout, Policy};
