@@ -15,3 +15,5 @@ pub mod Descending
 pub mod Shrinking
 pub mod Whole
 pub mod Fullness
+pub mod Lawful
+pub mod Walking

@@ -3,3 +3,4 @@ pub mod Changes
 pub mod Below
 pub mod Calls
 pub mod Located
+pub mod Laws

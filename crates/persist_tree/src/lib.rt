@@ -2,13 +2,16 @@
 #![tactic(auto)]
 
 mod calls;
+mod collect;
 mod fields;
 mod grow;
 mod hang;
 mod join;
+pub mod laws;
 mod locate;
 mod search;
 mod shrink;
 mod turn;
 
 pub use calls::{get, needs, put, remove};
+pub use collect::walk;
