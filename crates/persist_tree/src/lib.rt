@@ -1,0 +1,17 @@
+//! A balanced search tree in the words of one structure.
+#![tactic(auto)]
+
+mod calls;
+mod collect;
+mod fields;
+mod grow;
+mod hang;
+mod join;
+pub mod laws;
+mod locate;
+mod search;
+mod shrink;
+mod turn;
+
+pub use calls::{get, needs, put, remove};
+pub use collect::walk;
