@@ -1,0 +1,4 @@
+pub mod Lists
+pub mod ChainLaws
+pub mod Searching
+pub mod Blocks

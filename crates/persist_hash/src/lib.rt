@@ -1,0 +1,2 @@
+//! A hash in the words of one structure.
+#![tactic(auto)]
