@@ -2,3 +2,4 @@ pub mod Lists
 pub mod ChainLaws
 pub mod Searching
 pub mod Blocks
+pub mod Changing

@@ -4,7 +4,7 @@ use Rattle.persist_model.specs.Region.{Words}
 use Rattle.persist_model.specs.Records.{IsAmong}
 use Rattle.lane_traits.specs.Device.{MAX_WORDS}
 use Rattle.lane_traits.specs.Space.{Land, Space, IsOwn, IsDataWord}
-use Rattle.region_layout.specs.HashMap.{Node, IsChain, EachNode}
+use Rattle.region_layout.specs.HashMap.{Node, Chains, IsChain, EachNode, IsHash, chain_number, chain_word, directory_of}
 
 -- the address of the link behind these nodes of a chain whose first link stands here
 abbrev pub link_behind : ℕ → List Node → ℕ
@@ -56,3 +56,27 @@ chain_from (suc n) w link =
 -- how many nodes a search has before it
 unfoldable pub nodes_left : Words → ℕ → ℕ
 nodes_left w link = length (chain_from MAX_WORDS w link)
+
+-- the block of the first node, or 0
+abbrev pub first_block : List Node → ℕ
+first_block [] = 0
+first_block (n ∷ ns) = n.block
+
+-- Where a key is, or would be: the directory block of its chain, the link behind the nodes that haven't the key, and the node with it.
+pub record IsPlaceOf (s : Space) (root key : ℕ) (ns : List Node) (directory link node : ℕ) : Type 0 where
+  pub directory_is : directory ≡ directory_of s.word root (chain_number key)
+  pub front : List Node
+  pub rest : List Node
+  pub parts : ns ≡ front ++ rest
+  pub passed : HasNotKey key front
+  pub head : IsHead key rest
+  pub node_is : node ≡ first_block rest
+  pub link_is : directory ≢ 0 → link ≡ link_behind (chain_word directory (chain_number key)) front
+
+pub record HasHash (s : Space) (root : ℕ) : Type 0 where
+  pub chains : Chains
+  pub is : IsHash s.land s.word root chains
+
+-- this chain in place of another
+abbrev pub put_chain : ℕ → List Node → Chains → Chains
+put_chain c ns chains = λ d. if d == c then ns else chains d
