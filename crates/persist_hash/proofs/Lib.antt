@@ -3,3 +3,4 @@ pub mod ChainLaws
 pub mod Searching
 pub mod Blocks
 pub mod Changing
+pub mod Places

@@ -1,5 +1,5 @@
 -- A search in a chain.
-use Rattle.std.proofs.Common.{◌≡◌, ◌≢◌, ◌⊎◌, inl, inr, ⊎_elim, ℕ, ◌+◌, ◌<◌, ◌≤◌, List, [], ◌∷◌, ◌++◌, length, refl, ap, sym, ◌∙◌, arith, subst}
+use Rattle.std.proofs.Common.{◌≡◌, ◌≢◌, ◌⊎◌, inl, inr, ⊎_elim, ℕ, ◌+◌, ◌^◌, ◌<◌, ◌≤◌, List, [], ◌∷◌, ◌++◌, length, refl, ap, sym, ◌∙◌, arith, subst}
 use Rattle.persist_model.specs.Region.{Words}
 use Rattle.lane_traits.specs.Device.{MAX_WORDS}
 use Rattle.lane_traits.specs.Space.{Land, Space, IsOwn, IsDataWord}
@@ -10,16 +10,24 @@ use Rattle.persist_hash.proofs.ChainLaws.{each_joined, each_left, each_right, no
 pub data_word : (land : Land) (b i : ℕ) → IsOwn land b → 0 < i → i < 16 → IsDataWord land (b + i)
 data_word land b i own above below = record { block = b; index = i; own = own; place = refl; above = above; below = below }
 
-pub sought_first : (s : Space) (at key : ℕ) (chain : HasChain s at) → IsSought s at key at (s.word at)
-sought_first s at key chain = record {
+pub sought_first : (s : Space) (at key node : ℕ) → HasChain s at → node ≡ s.word at → IsSought s at key at node
+sought_first s at key node chain node_is = record {
   front = [];
   rest = chain.nodes;
   begins = chain.begins;
   link_is = refl;
   «data» = chain.begins.«data»;
-  node_is = refl;
+  node_is = node_is;
   passed = tt;
 }
+
+-- what a chain begins with is a number of 32 bits
+chain_fits : (land : Land) (w : Words) (link : ℕ) (ns : List Node) → AreOwnNodes land ns → IsChain w link ns → link < 2 ^ 32
+chain_fits land w link [] own laid = omega (arith, laid)
+chain_fits land w link (n ∷ ns) own laid = let f = own.0.0.fits in let e = laid.0 in omega (arith, f, e)
+
+pub first_fits : (s : Space) (at : ℕ) → HasChain s at → s.word at < 2 ^ 32
+first_fits s at chain = chain_fits s.land s.word (s.word at) chain.nodes chain.begins.own chain.begins.laid
 
 -- a link that isn't 0 names a node
 pub record IsNodeAt (s : Space) (node : ℕ) (rest : List Node) : Type 0 where
@@ -67,9 +75,9 @@ link_behind-last at [] n = refl
 link_behind-last at (m ∷ front) n = link_behind-last (m.block + 3) front n
 
 -- one node further
-pub sought_next : (s : Space) (at key link node : ℕ) (sought : IsSought s at key link node) → node ≢ 0 → key ≢ s.word (node + 1)
-    → IsSought s at key (node + 3) (s.word (node + 3))
-sought_next s at key link node sought positive other =
+pub sought_next : (s : Space) (at key link node next : ℕ) (sought : IsSought s at key link node) → node ≢ 0 → key ≢ s.word (node + 1)
+    → next ≡ s.word (node + 3) → IsSought s at key (node + 3) next
+sought_next s at key link node next sought positive other next_is =
     let at_node = sought_node s at key link node sought positive in
     let first = at_node.first in
     let joined : (sought.front ++ first ∷ []) ++ at_node.more ≡ sought.front ++ sought.rest =
@@ -80,9 +88,14 @@ sought_next s at key link node sought positive other =
       begins = subst (BeginsChain s at) (sym joined) sought.begins;
       link_is = ap (λ b. b + 3) at_node.block ∙ sym (link_behind-last at sought.front first);
       «data» = data_word s.land node 3 at_node.own (omega arith) (omega arith);
-      node_is = refl;
+      node_is = next_is;
       passed = each_joined (λ n. key ≢ n.key) sought.front (first ∷ []) sought.passed ((λ e. other (e ∙ sym at_node.key)), tt);
     }
+
+pub next_fits : (s : Space) (at key link node : ℕ) → IsSought s at key link node → node ≢ 0 → s.word (node + 3) < 2 ^ 32
+next_fits s at key link node sought positive =
+    let at_node = sought_node s at key link node sought positive in
+    chain_fits s.land s.word (s.word (node + 3)) at_node.more at_node.own_more at_node.laid
 
 length-right : (ns ms : List Node) → length ms ≤ length (ns ++ ms)
 length-right [] ms = omega arith

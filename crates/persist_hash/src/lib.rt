@@ -1,2 +1,8 @@
 //! A hash in the words of one structure.
 #![tactic(auto)]
+
+mod fields;
+mod lookup;
+mod search;
+
+pub use lookup::{get, needs};
