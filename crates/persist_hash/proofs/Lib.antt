@@ -4,3 +4,4 @@ pub mod Searching
 pub mod Blocks
 pub mod Changing
 pub mod Places
+pub mod Entries
