@@ -84,23 +84,26 @@ lookup-without_key k key [] h = none_either (k == key) None
     none_either false x = refl
 lookup-without_key k key (p ∷ ps) h = step (key == p.0) (eqb_tells key p.0) (lookup-without_key k key ps h.1)
   where
+    gone : key ≡ p.0 → lookup k ps ≡ changed_at key None k (lookup k (p ∷ ps))
+    gone e = ⊎_elim
+        (λ here. let on = here.0 in rw on (lookup_after k ps (subst (λ x. AreAfter x ps) (sym (here.1 ∙ e)) h.0)))
+        (λ there. let off = there.0 in let no : (k == p.0) ≡ false = (let f = there.1 in grind (arith, nat_tests)) in rw (off, no) refl)
+        (eqb_tells k key)
+
+    swap : key ≢ p.0 → (if k == p.0 then Some p.1 else changed_at key None k (lookup k ps)) ≡ changed_at key None k (lookup k (p ∷ ps))
+    swap ne = ⊎_elim
+        (λ here. let e = here.1 in let on = here.0 in
+            let off : (k == key) ≡ false = (let f : k ≢ key = (λ g. ne (sym g ∙ e)) in grind (arith, nat_tests)) in
+            rw (on, off) refl)
+        (λ there. let off = there.0 in rw off refl)
+        (eqb_tells k p.0)
+
     step : (t : Bool) → ((t ≡ true) × (key ≡ p.0)) ⊎ ((t ≡ false) × (key ≢ p.0)) → lookup k (without_key key ps) ≡ changed_at key None k (lookup k ps)
         → lookup k (if t then ps else p ∷ without_key key ps) ≡ changed_at key None k (lookup k (p ∷ ps))
-    step true tells again = ⊎_elim
-        (λ same. let e = same.1 in ⊎_elim
-            (λ here. let on = here.0 in rw on (lookup_after k ps (subst (λ x. AreAfter x ps) (sym (here.1 ∙ e)) h.0)))
-            (λ there. let off = there.0 in let no : (k == p.0) ≡ false = (let f = there.1 in grind (arith, nat_tests)) in rw (off, no) refl)
-            (eqb_tells k key))
-        (λ other. absurd (let q = other.0 in cc))
-        tells
+    step true tells again = ⊎_elim (λ same. gone same.1) (λ other. absurd (let q = other.0 in cc)) tells
     step false tells again = ⊎_elim
         (λ same. absurd (let q = same.0 in cc))
-        (λ other. ap (λ x. if k == p.0 then Some p.1 else x) again ∙ ⊎_elim
-            (λ here. let e = here.1 in let on = here.0 in
-                let off : (k == key) ≡ false = (let f : k ≢ key = (λ g. other.1 (sym g ∙ e)) in grind (arith, nat_tests)) in
-                rw (on, off) refl)
-            (λ there. let off = there.0 in rw off refl)
-            (eqb_tells k p.0))
+        (λ other. ap (λ x. if k == p.0 then Some p.1 else x) again ∙ swap other.1)
         tells
 
 after_without : (n key : ℕ) (m : FiniteMap) → AreAfter n m → AreAfter n (without_key key m)
