@@ -26,7 +26,7 @@ put_chain_other c d ns chains ne = let off : (d == c) ≡ false = grind (arith, 
 
 -- The nodes of a chain become these. All other words of blocks that were the structure's before stay, but for the link to the first.
 pub record ChangesChain (land : Land) (w : Words) (root : ℕ) (chains : Chains) (c : ℕ) (later : Land) (u : Words) (ns : List Node) : Type 0 where
-  pub elsewhere : (b i : ℕ) → IsOwn land b → (IsAmong (blocks (chains c)) b → ⊥) → 0 < i → i < 16 → b + i ≢ chain_word (directory_of w root c) c → u (b + i) ≡ w (b + i)
+  pub elsewhere : (b i : ℕ) → IsOwn land b → (IsAmong (blocks (chains c)) b → ⊥) → 0 < i → i < 9 → b + i ≢ chain_word (directory_of w root c) c → u (b + i) ≡ w (b + i)
   pub laid : IsChain u (u (chain_word (directory_of w root c) c)) ns
   pub kept : (b : ℕ) → IsOwn land b → (IsAmong (blocks (chains c)) b → ⊥) → IsOwn later b
   pub own : (b : ℕ) → IsAmong (blocks ns) b → IsOwn later b
@@ -156,7 +156,7 @@ pub record OpensDirectory (land : Land) (w : Words) (root c directory : ℕ) (la
   pub all : (b : ℕ) → IsOwn later b → IsOwn land b ⊎ (b ≡ directory)
   pub named : directory_of u root c ≡ directory
   pub empty : (i : ℕ) → i < 8 → u (directory + 1 + i) ≡ 0
-  pub elsewhere : (b i : ℕ) → IsOwn land b → 0 < i → i < 16 → b + i ≢ root + 1 + c / 8 → u (b + i) ≡ w (b + i)
+  pub elsewhere : (b i : ℕ) → IsOwn land b → 0 < i → i < 9 → b + i ≢ root + 1 + c / 8 → u (b + i) ≡ w (b + i)
 
 no_chain : (land : Land) (w u : Words) (ns : List Node) → ((b : ℕ) → IsAmong (blocks ns) b → IsOwn land b) → IsChain w 0 ns → IsChain u 0 ns
 no_chain land w u [] own h = refl
@@ -181,17 +181,17 @@ opened land w root chains c directory later u p below none h = record {
           ∙ ap w place)))
           (chain_kept w u (first_link w root d) (chains d) (λ b i k pos small. node_word d lt b i k pos small) (p.laid d lt)))
       (eqb_tells (d / 8) (c / 8));
-  own_directory = λ d ld there. by_index d ld (λ x. x ≢ 0 → IsOwn later x) (λ e ne there. h.kept (w (root + 1 + d)) (p.own_directory d ld there)) (λ e there. h.own) there;
+  own_directory = λ d ld there. by_index d ld (λ x. x ≢ 0 → IsOwn later x) (λ ne there. h.kept (w (root + 1 + d)) (p.own_directory d ld there)) (λ e there. h.own) there;
   own_node = λ d b lt k. h.kept b (p.own_node d b lt k);
-  root_no_directory = λ d ld. by_index d ld (λ x. x ≢ root) (λ e ne. p.root_no_directory d ld) (λ e same. h.not_own (subst (IsOwn land) (sym same) p.root_own));
+  root_no_directory = λ d ld. by_index d ld (λ x. x ≢ root) (λ ne. p.root_no_directory d ld) (λ e same. h.not_own (subst (IsOwn land) (sym same) p.root_own));
   root_no_node = p.root_no_node;
   directories_once = λ d e ld le ne. by_index d ld (λ x. x ≢ 0 → x ≢ u (root + 1 + e))
-      (λ f other there. by_index e le (λ y. w (root + 1 + d) ≢ y) (λ g another. p.directories_once d e ld le ne there)
+      (λ other there. by_index e le (λ y. w (root + 1 + d) ≢ y) (λ another. p.directories_once d e ld le ne there)
           (λ g same. h.not_own (subst (IsOwn land) same (p.own_directory d ld there))))
       (λ f there. by_index e le (λ y. directory ≢ y)
-          (λ g another same. h.not_own (subst (IsOwn land) (sym same) (p.own_directory e le (λ z. positive (same ∙ z)))))
+          (λ another same. h.not_own (subst (IsOwn land) (sym same) (p.own_directory e le (λ z. positive (same ∙ z)))))
           (λ g same. ne (f ∙ sym g)));
-  directory_no_node = λ d e ld le. by_index d ld (λ x. IsAmong (blocks (chains e)) x → ⊥) (λ f other. p.directory_no_node d e ld le)
+  directory_no_node = λ d e ld le. by_index d ld (λ x. IsAmong (blocks (chains e)) x → ⊥) (λ other. p.directory_no_node d e ld le)
       (λ f k. h.not_own (p.own_node e directory le k));
   nodes_once = p.nodes_once;
   nodes_apart = p.nodes_apart;
@@ -223,10 +223,10 @@ opened land w root chains c directory later u p below none h = record {
         ap u (sym place) ∙ h.elsewhere root (1 + d) p.root_own (omega arith) (omega (arith, ld)) (λ e. ne (omega (arith, e))) ∙ ap w place
 
     -- what a word of the root names: what it named, or the new block
-    by_index : (d : ℕ) → d < 8 → (P : ℕ → Type 0) → ((e : d ≢ c / 8) → d ≢ c / 8 → P (w (root + 1 + d))) → (d ≡ c / 8 → P directory) → P (u (root + 1 + d))
+    by_index : (d : ℕ) → d < 8 → (P : ℕ → Type 0) → (d ≢ c / 8 → P (w (root + 1 + d))) → (d ≡ c / 8 → P directory) → P (u (root + 1 + d))
     by_index d ld P other here = ⊎_elim
         (λ same. subst P (sym (ap (λ k. u (root + 1 + k)) same.1 ∙ h.named)) (here same.1))
-        (λ apart. subst P (sym (rooted d ld apart.1)) (other apart.1 apart.1))
+        (λ apart. subst P (sym (rooted d ld apart.1)) (other apart.1))
         (eqb_tells d (c / 8))
 
     node_word : (d : ℕ) → d < CHAINS → (b i : ℕ) → IsAmong (blocks (chains d)) b → 0 < i → i < 4 → u (b + i) ≡ w (b + i)

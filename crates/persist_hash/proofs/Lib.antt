@@ -5,3 +5,5 @@ pub mod Blocks
 pub mod Changing
 pub mod Places
 pub mod Entries
+pub mod Adding
+pub mod Puts

@@ -85,3 +85,37 @@ at_most (suc n) xs once below =
 pub each_of : (P : ℕ → Type 0) (xs : List ℕ) → ((x : ℕ) → IsAmong xs x → P x) → Each P xs
 each_of P [] f = tt
 each_of P (x ∷ xs) f = (f x (inl refl), each_of P xs (λ y h. f y (inr h)))
+
+-- ---- one element
+
+pub decide : (xs : List ℕ) (b : ℕ) → IsAmong xs b ⊎ (IsAmong xs b → ⊥)
+decide [] b = inr (λ h. h)
+decide (x ∷ xs) b = ⊎_elim
+    (λ same. inl (inl same.1))
+    (λ other. ⊎_elim (λ h. inl (inr h)) (λ absent. inr (λ k. ⊎_elim other.1 absent k)) (decide xs b))
+    (eqb_tells b x)
+
+pub among_more : (xs ys : List ℕ) (y b : ℕ) → IsAmong (xs ++ ys) b → IsAmong (xs ++ y ∷ ys) b
+among_more [] ys y b h = inr h
+among_more (x ∷ xs) ys y b (inl e) = inl e
+among_more (x ∷ xs) ys y b (inr h) = inr (among_more xs ys y b h)
+
+pub among_here : (xs ys : List ℕ) (y : ℕ) → IsAmong (xs ++ y ∷ ys) y
+among_here [] ys y = inl refl
+among_here (x ∷ xs) ys y = inr (among_here xs ys y)
+
+pub among_fewer : (xs ys : List ℕ) (y b : ℕ) → IsAmong (xs ++ y ∷ ys) b → b ≢ y → IsAmong (xs ++ ys) b
+among_fewer [] ys y b (inl e) ne = absurd (ne e)
+among_fewer [] ys y b (inr h) ne = h
+among_fewer (x ∷ xs) ys y b (inl e) ne = inl e
+among_fewer (x ∷ xs) ys y b (inr h) ne = inr (among_fewer xs ys y b h ne)
+
+pub once_fewer : (xs ys : List ℕ) (y : ℕ) → HasNoRepeats (xs ++ y ∷ ys) → HasNoRepeats (xs ++ ys) × (IsAmong (xs ++ ys) y → ⊥)
+once_fewer [] ys y once = (once.1, of_absent ys y once.0)
+once_fewer (x ∷ xs) ys y once =
+    let again = once_fewer xs ys y once.1 in
+    let apart = of_absent (xs ++ y ∷ ys) x once.0 in
+    (
+      (absent_of (xs ++ ys) x (λ h. apart (among_more xs ys y x h)), again.0),
+      ⊎_elim (λ e. apart (subst (λ b. IsAmong (xs ++ y ∷ ys) b) e (among_here xs ys y))) again.1,
+    )
