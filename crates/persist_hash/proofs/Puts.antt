@@ -1,5 +1,5 @@
 -- A put: the words are the map with the pair then.
-use Rattle.std.proofs.Common.{◌≡◌, ◌≢◌, ◌⊎◌, inl, inr, ⊎_elim, ℕ, ◌+◌, ◌*◌, ◌/◌, ◌%◌, ◌<◌, ◌≤◌, true, false, Bool, if◌then◌else◌, ◌==◌, nat_lt, List, [], ◌∷◌, ◌++◌, length, Option, Some, None, refl, ap, sym, ◌∙◌, arith, subst}
+use Rattle.std.proofs.Common.{◌≡◌, ◌≢◌, ◌⊎◌, inl, inr, ⊎_elim, ℕ, ◌+◌, ◌*◌, ◌/◌, ◌%◌, ◌<◌, ◌≤◌, true, false, Bool, if◌then◌else◌, ◌==◌, nat_lt, ltb-true, ◌-◌, List, [], ◌∷◌, ◌++◌, length, Option, Some, None, refl, ap, sym, ◌∙◌, arith, subst}
 use Rattle.std.proofs.lemmas.Bool.Decides.{nat_tests, eqb_tells}
 use Rattle.persist_model.specs.Region.{Words}
 use Rattle.persist_model.specs.Records.{IsAmong}
@@ -114,4 +114,200 @@ node_added land w root chains key value node u p some block fresh absent filled 
         (p.own_directory (chain_number key / 8) q some)
         (λ f. p.directory_no_node (chain_number key / 8) (chain_number key) q (chain_below key) (subst (IsAmong (blocks (chains (chain_number key)))) f k))
         (omega (arith, small)) (omega arith) (e ∙ place)
+
+-- the chain of a key that isn't there has no node with it
+absent_key : (s : Space) (root key : ℕ) (chains : Chains) (directory link node : ℕ) → IsHash s.land s.word root chains
+    → IsPlaceOf s root key (chains (chain_number key)) directory link node → node ≡ 0 → HasNotKey key (chains (chain_number key))
+absent_key s root key chains directory link node h place none =
+    let empty = none_there s root key chains directory link node h place none in
+    subst (HasNotKey key) (sym place.parts)
+    (each_joined (λ n. key ≢ n.key) place.front place.rest place.passed (subst (HasNotKey key) (sym empty) tt))
+
+-- the entries with the pair are those of the changed chain
+entries_put : (s : Space) (root key value : ℕ) (contents : FiniteMap) (holds : Holds s root contents) (u : Space) (ns : List Node)
+    → IsHash u.land u.word root (put_chain (chain_number key) ns holds.chains)
+    → ((k : ℕ) → lookup k (pairs ns) ≡ changed_at key (Some value) k (lookup k (pairs (holds.chains (chain_number key))))) → Holds u root (with_pair key value contents)
+entries_put s root key value contents holds u ns is look = record {
+  chains = put_chain (chain_number key) ns holds.chains;
+  is = is;
+  ascending = ascending-with_pair key value contents holds.ascending;
+  lookup_is = lookup_changed key (Some value) contents (with_pair key value contents) ns holds.chains holds.lookup_is
+      (λ k. lookup-with_pair k key value contents) look;
+}
+
+linked_words : (land : Land) (w : Words) (root c node key value : ℕ) → IsOwn land (directory_of w root c) → IsBlock land node → (IsOwn land node → ⊥)
+    → HasNewNode land w root c node key value
+        (put_word (chain_word (directory_of w root c) c) node (put_word (node + 3) (w (chain_word (directory_of w root c) c)) (put_word (node + 2) value (put_word (node + 1) key w))))
+linked_words land w root c node key value own block fresh = record {
+  elsewhere = λ b i has pos small ne.
+      let ne_node : b ≢ node = (λ e. fresh (subst (IsOwn land) e has)) in
+      let apart : (j : ℕ) → j < 16 → b + i ≢ node + j =
+          (λ j lt. blocks_apart (with_block node land) b node i j (own_more land node b has) (own_new land node block) ne_node (omega (arith, small)) lt) in
+      put_other slot node (b + i) w3 ne ∙ put_other (node + 3) (w slot) (b + i) w2 (apart 3 (omega arith))
+      ∙ put_other (node + 2) value (b + i) w1 (apart 2 (omega arith)) ∙ put_other (node + 1) key (b + i) w (apart 1 (omega arith));
+  named = put_same slot node w3;
+  key_is = put_other slot node (node + 1) w3 (slot_apart 1 (omega arith)) ∙ put_other (node + 3) (w slot) (node + 1) w2 (λ e. omega (arith, e))
+      ∙ put_other (node + 2) value (node + 1) w1 (λ e. omega (arith, e)) ∙ put_same (node + 1) key w;
+  value_is = put_other slot node (node + 2) w3 (slot_apart 2 (omega arith)) ∙ put_other (node + 3) (w slot) (node + 2) w2 (λ e. omega (arith, e))
+      ∙ put_same (node + 2) value w1;
+  next_is = put_other slot node (node + 3) w3 (slot_apart 3 (omega arith)) ∙ put_same (node + 3) (w slot) w2;
+}
+  where
+    slot : ℕ
+    slot = chain_word (directory_of w root c) c
+
+    w1 : Words
+    w1 = put_word (node + 1) key w
+
+    w2 : Words
+    w2 = put_word (node + 2) value (put_word (node + 1) key w)
+
+    w3 : Words
+    w3 = put_word (node + 3) (w (chain_word (directory_of w root c) c)) (put_word (node + 2) value (put_word (node + 1) key w))
+
+    slot_apart : (j : ℕ) → j < 16 → node + j ≢ chain_word (directory_of w root c) c
+    slot_apart j lt e =
+        let place : chain_word (directory_of w root c) c ≡ directory_of w root c + (1 + c % 8) = omega arith in
+        blocks_apart (with_block node land) node (directory_of w root c) j (1 + c % 8) (own_new land node block) (own_more land node (directory_of w root c) own)
+        (λ f. fresh (subst (IsOwn land) (sym f) own)) lt (omega arith) (e ∙ place)
+
+-- a new node in a chain that has a directory block
+pub holds_added : (s u : Space) (root key value : ℕ) (contents : FiniteMap) (holds : Holds s root contents) (directory link node slot : ℕ)
+    → IsPlaceOf s root key (holds.chains (chain_number key)) directory link node → AreSpare s → node ≡ 0 → directory ≢ 0 → 1 ≤ value
+    → slot ≡ chain_word directory (chain_number key) → AddsNode slot key value s u → Holds u root (with_pair key value contents)
+holds_added s u root key value contents holds directory link node slot place spare none some filled slot_is adds =
+    let c = chain_number key in
+    let p = placed_of s.land s.word root holds.chains holds.is in
+    let new = adds.node in
+    let fresh : IsOwn s.land new → ⊥ = (λ own. (spare.apart new adds.among).1 own.1) in
+    let there : directory_of s.word root c ≢ 0 = (λ z. some (place.directory_is ∙ z)) in
+    let at : slot ≡ chain_word (directory_of s.word root c) c = slot_is ∙ ap (λ x. chain_word x c) place.directory_is in
+    let words = linked_words s.land s.word root c new key value (p.own_directory (c / 8) (index_below c (chain_below key)) there) adds.block fresh in
+    let is = node_added s.land s.word root holds.chains key value new
+        (linked (chain_word (directory_of s.word root c) c) new key value (taken new s)).word p there adds.block fresh
+        (absent_key s root key holds.chains directory link node holds.is place none) filled words in
+    subst (λ (v : Space). Holds v root (with_pair key value contents)) (sym (adds.space ∙ ap (λ x. linked x new key value (taken new s)) at))
+    (entries_put s root key value contents holds (linked (chain_word (directory_of s.word root c) c) new key value (taken new s))
+        (record { block = new; key = key; value = value } ∷ holds.chains c)
+        (of_placed (with_block new s.land) (linked (chain_word (directory_of s.word root c) c) new key value (taken new s)).word root
+            (put_chain c (record { block = new; key = key; value = value } ∷ holds.chains c) holds.chains) is)
+        (λ k. refl))
+
+pub takes_one : (s u : Space) (slot key value : ℕ) → AddsNode slot key value s u → TakesBlocks 1 s u
+takes_one s u slot key value adds = record {
+  blocks = adds.node ∷ [];
+  many = refl;
+  took = (adds.among, (ap (λ (v : Space). v.land) adds.space, ap (λ (v : Space). v.spare) adds.space));
+}
+
+pub writes_four : (s u : Space) (slot key value : ℕ) → AddsNode slot key value s u → u.writes ≤ s.writes + 12
+writes_four s u slot key value adds = let e = ap (λ (v : Space). v.writes) adds.space in omega (arith, e)
+
+-- ---- a directory block more
+
+opened_words : ℕ → ℕ → Words → Words
+opened_words at directory w = λ a. if a == at then directory else (if nat_lt directory a then (if nat_lt a (directory + 9) then 0 else w a) else w a)
+
+opened_named : (at directory : ℕ) (w : Words) → opened_words at directory w at ≡ directory
+unfolding opened_words
+opened_named at directory w = let on : (at == at) ≡ true = grind (arith, nat_tests) in rw on refl
+
+opened_empty : (at directory i : ℕ) (w : Words) → directory + (1 + i) ≢ at → i < 8 → opened_words at directory w (directory + (1 + i)) ≡ 0
+unfolding opened_words
+opened_empty at directory i w ne lt =
+    let off : (directory + (1 + i) == at) ≡ false = grind (arith, nat_tests) in
+    let low : nat_lt directory (directory + (1 + i)) ≡ true = grind (arith, nat_tests) in
+    let high : nat_lt (directory + (1 + i)) (directory + 9) ≡ true = grind (arith, nat_tests) in
+    rw (off, low, high) refl
+
+opened_other : (at directory a : ℕ) (w : Words) → a ≢ at → ((i : ℕ) → i < 8 → a ≢ directory + (1 + i)) → opened_words at directory w a ≡ w a
+unfolding opened_words
+opened_other at directory a w ne out =
+    let off : (a == at) ≡ false = grind (arith, nat_tests) in
+    rw off (step (nat_lt directory a) (nat_lt a (directory + 9)) refl refl)
+  where
+    step : (s t : Bool) → nat_lt directory a ≡ s → nat_lt a (directory + 9) ≡ t → (if s then (if t then 0 else w a) else w a) ≡ w a
+    step true true low high = absurd (
+        let above : directory < a = ltb-true directory a low in
+        let under : a < directory + 9 = ltb-true a (directory + 9) high in
+        out (a - (directory + 1)) (omega (arith, above, under)) (omega (arith, above)))
+    step true false low high = refl
+    step false t low high = refl
+
+opens_directory : (land : Land) (w : Words) (root c directory : ℕ) → IsOwn land root → c < 64 → IsBlock land directory → (IsOwn land directory → ⊥)
+    → OpensDirectory land w root c directory (with_block directory land) (opened_words (root + 1 + c / 8) directory w)
+opens_directory land w root c directory own below block fresh = record {
+  not_own = fresh;
+  own = own_new land directory block;
+  kept = own_more land directory;
+  all = own_either land directory;
+  named = opened_named (root + 1 + c / 8) directory w;
+  empty = λ i lt.
+      let place : directory + (1 + i) ≡ directory + 1 + i = omega arith in
+      ap (opened_words (root + 1 + c / 8) directory w) (sym place) ∙ opened_empty (root + 1 + c / 8) directory i w (λ e. root_apart (1 + i) (omega (arith, lt)) e) lt;
+  elsewhere = λ b i has pos small ne. opened_other (root + 1 + c / 8) directory (b + i) w ne
+      (λ j lt. blocks_apart (with_block directory land) b directory i (1 + j) (own_more land directory b has) (own_new land directory block)
+          (λ e. fresh (subst (IsOwn land) e has)) (omega (arith, small)) (omega (arith, lt)));
+}
+  where
+    root_apart : (j : ℕ) → j < 16 → directory + j ≢ root + 1 + c / 8
+    root_apart j lt e =
+        let q = index_below c below in
+        let place : root + 1 + c / 8 ≡ root + (1 + c / 8) = omega arith in
+        blocks_apart (with_block directory land) directory root j (1 + c / 8) (own_new land directory block) (own_more land directory root own)
+        (λ f. fresh (subst (IsOwn land) (sym f) own)) lt (omega (arith, q)) (e ∙ place)
+
+-- what the code leaves is a node more in the words with the new directory block
+new_chain : (s u : Space) (root key value directory node : ℕ) → IsOwn s.land root → IsBlock s.land directory → (IsOwn s.land directory → ⊥)
+    → IsBlock (with_block directory s.land) node → (IsOwn (with_block directory s.land) node → ⊥)
+    → OpensChain root (chain_number key / 8) directory (chain_number key % 8) node key value (taken node (taken directory s)) u
+    → HasNewNode (with_block directory s.land) (opened_words (root + 1 + chain_number key / 8) directory s.word) root (chain_number key) node key value u.word
+new_chain s u root key value directory node own block fresh node_block node_fresh h = record {
+  elsewhere = λ b i has pos small ne. ⊎_elim
+      (λ at. let e = at.1 in ap u.word (e ∙ place) ∙ h.named ∙ sym (ap w1 e ∙ opened_named (root + 1 + c / 8) directory s.word))
+      (λ off. ⊎_elim
+          (λ same. let e : b ≡ directory = same.1 in
+              let shift : b + i ≡ directory + (1 + (i - 1)) = omega (arith, e, pos) in
+              let other : i - 1 ≢ c % 8 = (λ f. ne (slot_is (b + i) (i - 1) shift f)) in
+              let under : i - 1 < 8 = omega (arith, small, pos) in
+              ap u.word shift ∙ h.links (i - 1) under ∙ no_link (i - 1) (c % 8) node other
+              ∙ sym (ap w1 shift ∙ opened_empty (root + 1 + c / 8) directory (i - 1) s.word (λ g. off.1 (shift ∙ g)) under))
+          (λ other. h.elsewhere b i (own_more (with_block directory s.land) node b has) other.1 (λ f. node_fresh (subst (IsOwn (with_block directory s.land)) f has))
+              (omega (arith, small)) (λ f. off.1 (f ∙ sym place))
+              ∙ sym (opened_other (root + 1 + c / 8) directory (b + i) s.word off.1
+              (λ j lt. blocks_apart (with_block directory s.land) b directory i (1 + j) has (own_new s.land directory block) other.1 (omega (arith, small)) (omega (arith, lt)))))
+          (eqb_tells b directory))
+      (eqb_tells (b + i) (root + 1 + c / 8));
+  named = ap u.word slot_at ∙ h.links (c % 8) (omega arith) ∙ this_link (c % 8) node;
+  key_is = h.key_is;
+  value_is = h.value_is;
+  next_is = h.next_is ∙ sym (ap w1 slot_at ∙ opened_empty (root + 1 + c / 8) directory (c % 8) s.word (λ e. directory_apart (1 + c % 8) (omega arith) e) (omega arith));
+}
+  where
+    c : ℕ
+    c = chain_number key
+
+    w1 : Words
+    w1 = opened_words (root + 1 + chain_number key / 8) directory s.word
+
+    place : root + 1 + chain_number key / 8 ≡ root + (1 + chain_number key / 8)
+    place = omega arith
+
+    slot_at : chain_word (directory_of (opened_words (root + 1 + chain_number key / 8) directory s.word) root (chain_number key)) (chain_number key) ≡ directory + (1 + chain_number key % 8)
+    slot_at = ap (λ x. chain_word x (chain_number key)) (opened_named (root + 1 + chain_number key / 8) directory s.word) ∙ (let e : directory + 1 + chain_number key % 8 ≡ directory + (1 + chain_number key % 8) = omega arith in e)
+
+    slot_is : (a j : ℕ) → a ≡ directory + (1 + j) → j ≡ chain_number key % 8 → a ≡ chain_word (directory_of (opened_words (root + 1 + chain_number key / 8) directory s.word) root (chain_number key)) (chain_number key)
+    slot_is a j e f = e ∙ ap (λ x. directory + (1 + x)) f ∙ sym slot_at
+
+    no_link : (i k n : ℕ) → i ≢ k → link_to k n i ≡ 0
+    no_link i k n ne = let off : (i == k) ≡ false = grind (arith, nat_tests) in rw off refl
+
+    this_link : (k n : ℕ) → link_to k n k ≡ n
+    this_link k n = let on : (k == k) ≡ true = grind (arith, nat_tests) in rw on refl
+
+    directory_apart : (j : ℕ) → j < 16 → directory + j ≢ root + 1 + chain_number key / 8
+    directory_apart j lt e =
+        let q = index_below (chain_number key) (chain_below key) in
+        blocks_apart (with_block directory s.land) directory root j (1 + chain_number key / 8) (own_new s.land directory block) (own_more s.land directory root own)
+        (λ f. fresh (subst (IsOwn s.land) (sym f) own)) lt (omega (arith, q)) (e ∙ place)
 
