@@ -7,3 +7,4 @@ pub mod Places
 pub mod Entries
 pub mod Adding
 pub mod Puts
+pub mod Removals

@@ -1,10 +1,11 @@
 -- A put: the words are the map with the pair then.
-use Rattle.std.proofs.Common.{◌≡◌, ◌≢◌, ◌⊎◌, inl, inr, ⊎_elim, ℕ, ◌+◌, ◌*◌, ◌/◌, ◌%◌, ◌<◌, ◌≤◌, true, false, Bool, if◌then◌else◌, ◌==◌, nat_lt, ltb-true, ◌-◌, List, [], ◌∷◌, ◌++◌, length, Option, Some, None, refl, ap, sym, ◌∙◌, arith, subst}
+use Rattle.std.proofs.Common.{◌≡◌, ◌≢◌, ◌⊎◌, inl, inr, ⊎_elim, ℕ, ◌+◌, ◌*◌, ◌/◌, ◌%◌, ◌<◌, ◌≤◌, true, false, Bool, if◌then◌else◌, ◌==◌, not, nat_lt, ltb-true, ◌-◌, List, [], ◌∷◌, ◌++◌, length, Option, Some, None, refl, ap, sym, ◌∙◌, arith, subst}
+use Rattle.std.specs.Prelude.{filter}
 use Rattle.std.proofs.lemmas.Bool.Decides.{nat_tests, eqb_tells}
 use Rattle.persist_model.specs.Region.{Words}
 use Rattle.persist_model.specs.Records.{IsAmong}
 use Rattle.persist_model.specs.Chain.{HasNoRepeats}
-use Rattle.lane_traits.specs.Space.{Land, Space, AreSpare, IsBlock, IsOwn, with_owner, put_word, taken, written}
+use Rattle.lane_traits.specs.Space.{Land, Space, AreSpare, IsBlock, IsOwn, with_owner, is_not, put_word, taken, written}
 use Rattle.lane_traits.proofs.Among.{absent_of}
 use Rattle.lane_traits.proofs.Writes.{put_same, put_other}
 use Rattle.region_layout.specs.FiniteMap.{FiniteMap, lookup, with_pair}
@@ -311,3 +312,51 @@ new_chain s u root key value directory node own block fresh node_block node_fres
         blocks_apart (with_block directory s.land) directory root j (1 + chain_number key / 8) (own_new s.land directory block) (own_more s.land directory root own)
         (λ f. fresh (subst (IsOwn s.land) (sym f) own)) lt (omega (arith, q)) (e ∙ place)
 
+among_kept : (b : ℕ) (xs : List ℕ) (x : ℕ) → IsAmong (filter (is_not b) xs) x → IsAmong xs x × (x ≢ b)
+among_kept b [] x h = absurd h
+among_kept b (y ∷ ys) x h = step (y == b) (eqb_tells y b) h (among_kept b ys x)
+  where
+    step : (t : Bool) → ((t ≡ true) × (y ≡ b)) ⊎ ((t ≡ false) × (y ≢ b)) → IsAmong (if not t then y ∷ filter (is_not b) ys else filter (is_not b) ys) x
+        → (IsAmong (filter (is_not b) ys) x → IsAmong ys x × (x ≢ b)) → IsAmong (y ∷ ys) x × (x ≢ b)
+    step true tells k again = (inr (again k).0, (again k).1)
+    step false tells (inl e) again = (inl e, ⊎_elim (λ same. absurd (let q = same.0 in cc)) (λ other. λ f. other.1 (sym e ∙ f)) tells)
+    step false tells (inr k) again = (inr (again k).0, (again k).1)
+
+-- a new node in a chain that had no directory block
+pub holds_opened : (s u : Space) (root key value : ℕ) (contents : FiniteMap) (holds : Holds s root contents) (directory link node index place : ℕ)
+    → IsPlaceOf s root key (holds.chains (chain_number key)) directory link node → AreSpare s → node ≡ 0 → directory ≡ 0 → 1 ≤ value
+    → index ≡ chain_number key / 8 → place ≡ chain_number key % 8 → AddsDirectory root index place key value s u → Holds u root (with_pair key value contents)
+holds_opened s u root key value contents holds directory link node index place at spare none missing filled index_is place_is adds =
+    let c = chain_number key in
+    let p = placed_of s.land s.word root holds.chains holds.is in
+    let block = adds.directory in
+    let new = adds.node in
+    let fresh : IsOwn s.land block → ⊥ = (λ own. (spare.apart block adds.among).1 own.1) in
+    let new_spare = among_kept block s.spare new adds.node_among in
+    let new_fresh : IsOwn (with_block block s.land) new → ⊥ = (λ own. ⊎_elim (λ was. (spare.apart new new_spare.0).1 was.1) new_spare.1 (own_either s.land block new own)) in
+    let below = chain_below key in
+    let before : directory_of s.word root c ≡ 0 = sym at.directory_is ∙ missing in
+    let w1 = opened_words (root + 1 + c / 8) block s.word in
+    let p1 = opened s.land s.word root holds.chains c block (with_block block s.land) w1 p below before (opens_directory s.land s.word root c block holds.is.root_own below adds.block fresh) in
+    let positive = adds.block.positive in
+    let some : directory_of w1 root c ≢ 0 = (λ z. let e = opened_named (root + 1 + c / 8) block s.word in omega (arith, e, z, positive)) in
+    let opens : OpensChain root (c / 8) block (c % 8) new key value (taken new (taken block s)) u =
+        subst (λ x. OpensChain root (c / 8) block x new key value (taken new (taken block s)) u) place_is
+        (subst (λ x. OpensChain root x block place new key value (taken new (taken block s)) u) index_is adds.opens) in
+    let is = node_added (with_block block s.land) w1 root holds.chains key value new u.word p1 some adds.node_block new_fresh
+        (absent_key s root key holds.chains directory link node holds.is at none) filled
+        (new_chain s u root key value block new holds.is.root_own adds.block fresh adds.node_block new_fresh opens) in
+    entries_put s root key value contents holds u (record { block = new; key = key; value = value } ∷ holds.chains c)
+    (of_placed u.land u.word root (put_chain c (record { block = new; key = key; value = value } ∷ holds.chains c) holds.chains)
+        (subst (λ (l : Land). IsPlaced l u.word root (put_chain c (record { block = new; key = key; value = value } ∷ holds.chains c) holds.chains)) (sym opens.land) is))
+    (λ k. refl)
+
+pub takes_two : (s u : Space) (root index place key value : ℕ) → AddsDirectory root index place key value s u → TakesBlocks 2 s u
+takes_two s u root index place key value adds = record {
+  blocks = adds.directory ∷ adds.node ∷ [];
+  many = refl;
+  took = (adds.among, (adds.node_among, (adds.opens.land, adds.opens.spare)));
+}
+
+pub writes_twelve : (s u : Space) (root index place key value : ℕ) → AddsDirectory root index place key value s u → u.writes ≤ s.writes + 12
+writes_twelve s u root index place key value adds = let e = adds.opens.writes in omega (arith, e)
