@@ -79,7 +79,7 @@ once_more (y ∷ ys) x once absent = (
   once_more ys x once.1 (λ h. absent (inr h)),
 )
 
-kept_all : (xs : List ℕ) (x : ℕ) → (IsAmong xs x → ⊥) → filter (is_not x) xs ≡ xs
+pub kept_all : (xs : List ℕ) (x : ℕ) → (IsAmong xs x → ⊥) → filter (is_not x) xs ≡ xs
 kept_all [] x absent = refl
 kept_all (y ∷ ys) x absent =
     let off : (y == x) ≡ false = apart_eq y x (λ e. absent (inl (sym e))) in

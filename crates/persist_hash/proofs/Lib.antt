@@ -1,0 +1,10 @@
+pub mod Lists
+pub mod ChainLaws
+pub mod Searching
+pub mod Blocks
+pub mod Changing
+pub mod Places
+pub mod Entries
+pub mod Adding
+pub mod Puts
+pub mod Removals
