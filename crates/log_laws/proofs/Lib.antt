@@ -33,8 +33,3 @@ pub mod MoveNeeds
 pub mod MoveRooms
 pub mod SameLists
 pub mod Views
-pub mod SameLists
-pub mod Views
-pub mod Moving
-pub mod MoveNeeds
-pub mod MoveRooms

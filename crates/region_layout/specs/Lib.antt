@@ -9,6 +9,3 @@ pub mod TreeMap
 pub mod CellsMap
 pub mod HashMap
 pub mod Contents
-pub mod FiniteMap
-pub mod HeapBlocks
-pub mod TreeMap
