@@ -3,7 +3,7 @@ use super::{List, NoMemory, Pick, pick_index};
 
 #[test]
 fn picks_a_candidate(rt: HostRuntime) {
-    // Word 56 is the gate of the first script's end record.
+    // Word 56 is the gate of the second cell of a log with one cell a bucket.
     let cases = [
         (Pick::Old, 56, 3, 0),
         (Pick::New, 56, 3, 2),

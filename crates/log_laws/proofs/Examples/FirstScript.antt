@@ -1,4 +1,5 @@
--- The image that the first 23 events of the first script leave with the newest values: an update of word 103 from 0 to 7.
+-- A put of 7 under key 3 of a cells map, in a fresh region. Its first 23 events leave this image with the newest values: an
+-- update of word 103 from 0 to 7 in the log, and the new value in the word.
 use Rattle.std.proofs.Common.{◌≡◌, ℕ, List, [], ◌∷◌, refl, sym, ◌∙◌, arith}
 use Rattle.persist_model.specs.Shape.{SECOND_MAGIC, part_of}
 use Rattle.persist_model.specs.Records.{Record, IsLoser}

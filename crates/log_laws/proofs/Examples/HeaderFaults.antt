@@ -1,4 +1,4 @@
--- Changes of the first script's image that break one of the first four rules.
+-- Changes of the image of a put that break one of the first four rules.
 use Rattle.std.proofs.Common.{◌∷◌, refl}
 use Rattle.persist_model.specs.Faults.{IsFirstFault}
 use Rattle.log_laws.proofs.Soundness.{shape_some}

@@ -1,4 +1,4 @@
--- Changes of the first script's image, and logs in buckets of 16 cells, that break the record rule, the order rule or the room rule.
+-- Changes of the image of a put, and logs in buckets of 16 cells, that break the record rule, the order rule or the room rule.
 use Rattle.std.proofs.Common.{ℕ, List, [], ◌∷◌, refl}
 use Rattle.persist_model.specs.Faults.{IsFirstFault}
 use Rattle.persist_model.specs.Sound.{IsSound}

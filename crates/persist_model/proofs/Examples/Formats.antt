@@ -1,7 +1,8 @@
 -- The numbers of the region's format, and addresses that follow from them.
-use Rattle.std.proofs.Common.{◌≡◌, ℕ, ◌+◌, ◌*◌, [], ◌∷◌, refl}
+use Rattle.std.proofs.Common.{◌≡◌, ℕ, ◌+◌, ◌*◌, [], ◌∷◌, refl, arith}
 use Rattle.persist_model.specs.declared.format.TheConstants as constants
-use Rattle.persist_model.specs.Shape.{Shape, FIRST_MAGIC, SECOND_MAGIC, shape_of, bucket, heap, block, words_of_shape, first_bucket, count_buckets, part_of, list_words}
+use Rattle.persist_model.specs.Records.{Record, IsUpdate, IsCompensation, IsRollback, IsEnd, IsCheckpoint, IsDeletion}
+use Rattle.persist_model.specs.Shape.{Shape, bucket_size, FIRST_MAGIC, SECOND_MAGIC, shape_of, bucket, heap, block, words_of_shape, first_bucket, count_buckets, part_of, list_words}
 use Rattle.persist_model.specs.Chain.{HEAD, TAIL, TO_APPEND, LAST_TAIL, TO_REMOVE, view, word_behind, word_before, last_or, without}
 
 -- the bytes R, W, N and D, and the number of the format in the low half
@@ -17,6 +18,13 @@ magics = (refl, refl)
 
 list_constants : (constants.HEAD ≡ HEAD) × (constants.TAIL ≡ TAIL) × (constants.TO_APPEND ≡ TO_APPEND) × (constants.LAST_TAIL ≡ LAST_TAIL) × (constants.TO_REMOVE ≡ TO_REMOVE)
 list_constants = (refl, refl, refl, refl, refl)
+
+sizes : (shape : Shape) → (bucket shape 0 ≡ constants.HEADER_WORDS) × (bucket_size shape ≡ constants.BUCKET_HEADER_WORDS + constants.CELL_WORDS * shape.cells) × (block shape 1 ≡ heap shape + constants.BLOCK_WORDS)
+sizes shape = (omega arith, refl, omega arith)
+
+kinds : (r : Record) → (r.kind ≡ constants.UPDATE → IsUpdate r) × (r.kind ≡ constants.COMPENSATION → IsCompensation r) × (r.kind ≡ constants.ROLLBACK → IsRollback r)
+    × (r.kind ≡ constants.END → IsEnd r) × (r.kind ≡ constants.CHECKPOINT → IsCheckpoint r) × (r.kind ≡ constants.DELETION → IsDeletion r)
+kinds r = ((λ e. e), (λ e. e), (λ e. e), (λ e. e), (λ e. e), λ e. e)
 
 -- the largest region
 largest : words_of_shape (record { policy = 1; cells = 16; buckets = 1024; blocks = 65536; structures = 1; format = 1; partitions = 1 }) ≡ constants.MAX_WORDS
