@@ -1,5 +1,5 @@
 -- Draws that follow others.
-use Rattle.std.proofs.Common.{◌≡◌, ℕ, zero, suc, ◌+◌, ◌*◌, List, [], ◌∷◌, ◌++◌, refl, sym, ◌∙◌, ap, arith, append_assoc, append-nil}
+use Rattle.std.proofs.Common.{◌≡◌, ℕ, zero, suc, ◌+◌, ◌*◌, List, ◌++◌, refl, sym, ◌∙◌, ap, arith, append_assoc, append-nil}
 use Rattle.rewind_script.specs.Generator.{state_after, next_state, repeated}
 
 pub state_after-add : (a b x : ℕ) → state_after (a + b) x ≡ state_after b (state_after a x)

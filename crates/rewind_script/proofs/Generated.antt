@@ -1,14 +1,11 @@
 -- The text of each seed is a script.
-use Rattle.std.proofs.Common.{◌≡◌, ℕ, zero, suc, ◌+◌, ◌-◌, ◌*◌, ◌/◌, ◌%◌, ◌<◌, ◌≤◌, ◌^◌, List, [], ◌∷◌, ◌++◌, length, refl, sym, ◌∙◌, ap, subst, arith, Bool, true, false, ◌&&◌, ◌||◌, not, ◌==◌, nat_lt, nat_le, lt-ltb, le-leb, Option, Some, None, map, append_assoc, append-nil, if◌then◌else◌, decimal, Result, Ok, Err, codes, length-append, ne_eqb}
-use Rattle.std.specs.List.{list_all}
+use Rattle.std.proofs.Common.{◌≡◌, ℕ, zero, suc, ◌+◌, ◌*◌, ◌%◌, ◌<◌, ◌≤◌, ◌^◌, List, [], ◌∷◌, ◌++◌, length, refl, sym, ◌∙◌, ap, subst, arith, Bool, true, false, ◌&&◌, not, ◌==◌, nat_lt, nat_le, lt-ltb, le-leb, append_assoc, append-nil, if◌then◌else◌, decimal, Ok, Err, codes, length-append, ne_eqb}
 use Rattle.std.specs.Str.Lines.{lines}
-use Rattle.region_layout.specs.declared.layout.Policy.TheVariants.{Force, NoForce}
+use Rattle.region_layout.specs.declared.layout.Policy.TheVariants.{Force}
 use Rattle.region_layout.specs.declared.layout.Kind.{Kind}
 use Rattle.region_layout.specs.declared.layout.Kind.TheVariants.{Cells, Tree, Hash}
-use Rattle.rewind_script.specs.declared.fault.Fault.{Fault}
 use Rattle.rewind_script.specs.declared.fault.Fault.TheVariants as fault
-use Rattle.rewind_script.specs.declared.fault.ScriptFault.{ScriptFault}
-use Rattle.rewind_script.specs.declared.fault.ScriptFault.TheVariants.{Line, NoMemory}
+use Rattle.rewind_script.specs.declared.fault.ScriptFault.TheVariants.{Line}
 use Rattle.rewind_script.specs.declared.script.Command.{Command}
 use Rattle.rewind_script.specs.declared.script.Command.TheVariants as command
 use Rattle.rewind_script.specs.declared.script.Item.{Item}
@@ -20,7 +17,7 @@ use Rattle.rewind_script.specs.declared.read.reading.Keyword.TheVariants as keyw
 use Rattle.rewind_script.specs.declared.read.reading.Reading.{Reading}
 use Rattle.rewind_script.specs.Text.{words, number, spelled}
 use Rattle.rewind_script.specs.Steps.{◌>>=◌, guard, or_fault, numeral, numerals}
-use Rattle.rewind_script.specs.Order.{may_stand, keyword_of, is_transaction}
+use Rattle.rewind_script.specs.Order.{may_stand, keyword_of}
 use Rattle.rewind_script.specs.Head.{after_region, after_log, after_map}
 use Rattle.rewind_script.specs.Lanes.{with_bits, lanes_of, after_lane, after_begin, after_ending}
 use Rattle.rewind_script.specs.Commands.{after_put, reached}
@@ -30,7 +27,7 @@ use Rattle.rewind_script.specs.Generator.{state_after, next_state, drawn, keys_o
 use Rattle.rewind_script.specs.Load.{drawn_list, drawn_put, drawn_transaction, transaction_of_puts, drawn_lane, generated_script}
 use Rattle.rewind_script.proofs.Stages.{apart_lane}
 use Rattle.rewind_script.proofs.Keeping.{put_second, put_third, put_structure, begin_set, begin_limit, begun, closed, lane_of}
-use Rattle.rewind_script.proofs.Plain.{is_printable, are_small, number-decimal}
+use Rattle.rewind_script.proofs.Plain.{are_small, number-decimal}
 use Rattle.rewind_script.proofs.Passing.{Passes, pass-nothing, pass-both, pass-line, pass-literal, at}
 
 -- ---- lines

@@ -1,5 +1,5 @@
 -- Each right line keeps what holds of a reading.
-use Rattle.std.proofs.Common.{◌≡◌, ◌⊎◌, ℕ, zero, suc, ◌+◌, ◌*◌, ◌^◌, ◌<◌, ◌≤◌, List, [], ◌∷◌, ◌++◌, length, refl, sym, ◌∙◌, ap, subst, arith, Bool, true, false, ◌&&◌, ◌||◌, not, ◌==◌, Result, Ok, Err, Option, Some, None, inl, inr, IsTrue, if◌then◌else◌, length-append, nat_lt, nat_le, ltb-true, leb-true}
+use Rattle.std.proofs.Common.{◌≡◌, ◌⊎◌, ℕ, ◌+◌, ◌*◌, ◌<◌, ◌≤◌, List, [], ◌∷◌, ◌++◌, length, refl, sym, ◌∙◌, ap, subst, arith, Bool, true, false, ◌&&◌, ◌||◌, not, ◌==◌, Result, Ok, Option, Some, None, inl, inr, IsTrue, if◌then◌else◌, length-append, nat_lt, nat_le, ltb-true, leb-true}
 use Rattle.std.specs.List.{All, slice_index_or, list_all}
 use Rattle.std.proofs.lemmas.List.Elements.{All-push, All-nil}
 use Rattle.std.proofs.lemmas.List.Sums.{sum_by-append}
@@ -7,7 +7,7 @@ use Rattle.region_layout.specs.Layout.{policy_number}
 use Rattle.region_layout.specs.declared.layout.Policy.{Policy}
 use Rattle.region_layout.specs.declared.layout.Policy.TheVariants.{Force, NoForce}
 use Rattle.region_layout.specs.declared.layout.Kind.{Kind}
-use Rattle.region_layout.specs.declared.layout.Kind.TheVariants.{Cells, Tree, Hash}
+use Rattle.region_layout.specs.declared.layout.Kind.TheVariants.{Tree}
 use Rattle.rewind_script.specs.declared.fault.Fault.{Fault}
 use Rattle.rewind_script.specs.declared.fault.Fault.TheVariants as fault
 use Rattle.rewind_script.specs.declared.script.Command.{Command}
@@ -29,7 +29,7 @@ use Rattle.rewind_script.specs.TurnLines.{add_turn, add_turns, turn_list, after_
 use Rattle.rewind_script.specs.Lanes.{structure, is_structure, set_of, with_bits, lanes_of, after_lane, after_begin, after_checkpoint, after_ending}
 use Rattle.rewind_script.specs.Commands.{after_put, after_key, after_savepoint, after_rollback, structure_key, reached, holds, is_cells, with_command, live_after, live_step}
 use Rattle.rewind_script.specs.Grammar.{after_keyword, after_words, after_line, is_passed_over, is_text_byte, blank, is_whole, meaning_of_reading}
-use Rattle.rewind_script.specs.Limits.{IsReading, IsWithinLimits, IsSized, IsSet, IsItem, IsLaneText, IsTurns, Reaches, Fits, AllFit, AreCommands, is_early, is_one, count_transactions, count_in_lanes, count_turns, begun_lanes, begun_transactions}
+use Rattle.rewind_script.specs.Limits.{IsReading, IsWithinLimits, IsSized, IsSet, IsItem, IsLaneText, IsTurns, Reaches, Fits, AllFit, AreCommands, is_early, is_one, count_transactions, count_in_lanes, begun_lanes, begun_transactions}
 use Rattle.rewind_script.proofs.Stages.{by_bind, by_guard, ok_same, both, positive, cells_key, named_set, early_region, early_log, early_partitions, early_map, early_turns, lane_checkpoint, lane_begin, inside_put, inside_del, inside_get, inside_savepoint, inside_rollback, inside_commit, inside_abort, apart_lane, early_counts}
 
 -- ---- before the lanes
@@ -91,7 +91,7 @@ kept_region reading next args h was is =
     let count = by_guard (length args == 3) fault.Count (λ _. region_buckets reading args policy.0) next policy.1.1 in
     let buckets = by_bind (numeral (arg args 1)) (region_blocks reading args policy.0) next count.1 in
     let blocks = by_bind (numeral (arg args 2)) (region_limits reading policy.0 buckets.0) next buckets.1.1 in
-    let limits = by_guard _ fault.Range (λ _. Ok (region_of reading policy.0 buckets.0 blocks.0)) next blocks.1.1 in
+    let limits = by_guard (nat_le 4 buckets.0 && nat_le buckets.0 1024 && nat_le 16 blocks.0 && nat_le blocks.0 65536) fault.Range (λ _. Ok (region_of reading policy.0 buckets.0 blocks.0)) next blocks.1.1 in
     let last = both (nat_le 4 buckets.0 && nat_le buckets.0 1024 && nat_le 16 blocks.0) (nat_le blocks.0 65536) limits.0 in
     let third = both (nat_le 4 buckets.0 && nat_le buckets.0 1024) (nat_le 16 blocks.0) last.0 in
     let first = both (nat_le 4 buckets.0) (nat_le buckets.0 1024) third.0 in
@@ -155,7 +155,7 @@ unfolding after_partitions
 kept_partitions reading next args h was is =
     let sized = by_guard (length args == 1) fault.Count (λ _. numeral (arg args 0) >>= partition_limits reading) next is in
     let count = by_bind (numeral (arg args 0)) (partition_limits reading) next sized.1 in
-    let limits = by_guard _ fault.Range (λ _. Ok (partitions_of reading count.0)) next count.1.1 in
+    let limits = by_guard (nat_le 1 count.0 && nat_le count.0 3 && nat_le (4 * count.0) reading.buckets) fault.Range (λ _. Ok (partitions_of reading count.0)) next count.1.1 in
     let last = both (nat_le 1 count.0 && nat_le count.0 3) (nat_le (4 * count.0) reading.buckets) limits.0 in
     let first = both (nat_le 1 count.0) (nat_le count.0 3) last.0 in
     let sizes : IsSized reading.cells reading.batch reading.buckets reading.blocks count.0 = record {
@@ -207,7 +207,7 @@ turn_of reading t = record reading { turns = reading.turns ++ record { lane = t.
 
 kept_turn : (reading next : Reading) (t : ℕ × ℕ) → IsReading reading → add_turn reading t ≡ Ok next → IsReading next × (next.part ≡ reading.part)
 kept_turn reading next t h is =
-    let limits = by_guard _ fault.Range (λ _. Ok (turn_of reading t)) next is in
+    let limits = by_guard (nat_le t.0 15 && nat_le 1 t.1 && nat_le (reading.total + t.1) 1000000) fault.Range (λ _. Ok (turn_of reading t)) next is in
     let last = both (nat_le t.0 15 && nat_le 1 t.1) (nat_le (reading.total + t.1) 1000000) limits.0 in
     let first = both (nat_le t.0 15) (nat_le 1 t.1) last.0 in
     let one : Turns = record { lane = t.0; times = t.1 } in

@@ -7,3 +7,4 @@ pub mod Draws
 pub mod Plain
 pub mod Passing
 pub mod Generated
+pub mod Examples

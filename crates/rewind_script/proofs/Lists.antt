@@ -5,7 +5,6 @@ use Rattle.rewind_script.specs.declared.read.refusal.Refusal.{Refusal}
 use Rattle.rewind_script.specs.declared.read.refusal.Refusal.TheVariants as refusal
 use Rattle.rewind_script.specs.declared.fault.Fault.{Fault}
 use Rattle.rewind_script.specs.declared.script.Command.{Command}
-use Rattle.rewind_script.specs.declared.script.Command.TheVariants as command
 use Rattle.rewind_script.specs.Steps.{◌>>=◌, numerals, numeral, guard}
 use Rattle.rewind_script.specs.TurnLines.{turn_list, turn, add_turn, add_turns}
 use Rattle.rewind_script.specs.Lanes.{with_bits, structure, is_structure, set_of}

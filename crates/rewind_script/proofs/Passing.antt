@@ -1,33 +1,21 @@
 -- Texts that a reading goes over without a fault.
-use Rattle.std.proofs.Common.{◌≡◌, ℕ, zero, suc, ◌+◌, ◌-◌, ◌*◌, ◌/◌, ◌%◌, ◌<◌, ◌≤◌, ◌^◌, List, [], ◌∷◌, ◌++◌, length, get_or, refl, sym, ◌∙◌, ap, subst, arith, cond, Bool, true, false, ◌&&◌, ◌||◌, not, ◌==◌, nat_lt, nat_le, lt-ltb, le-leb, Option, Some, None, map, append_assoc, append-nil, if◌then◌else◌, decimal, Result, Ok, Err, codes, length-append, bit_or, ne_eqb}
-use Rattle.std.specs.List.{list_all, slice_index, slice_index_or, flat_map}
-use Rattle.std.specs.Int.{is_in_range}
-use Rattle.std.specs.Int.Bits.{or_zero_l}
+use Rattle.std.proofs.Common.{◌≡◌, ℕ, ◌+◌, ◌<◌, List, [], ◌∷◌, ◌++◌, length, refl, ◌∙◌, ap, arith, true, false, ◌&&◌, ◌||◌, ◌==◌, map, append_assoc, if◌then◌else◌, decimal, Ok}
+use Rattle.std.specs.List.{list_all, slice_index}
 use Rattle.std.specs.Str.Lines.{lines}
-use Rattle.region_layout.specs.declared.layout.Policy.TheVariants.{Force, NoForce}
-use Rattle.region_layout.specs.declared.layout.Kind.{Kind}
+use Rattle.region_layout.specs.declared.layout.Policy.TheVariants.{Force}
 use Rattle.region_layout.specs.declared.layout.Kind.TheVariants.{Cells, Tree, Hash}
-use Rattle.rewind_script.specs.declared.fault.Fault.{Fault}
 use Rattle.rewind_script.specs.declared.fault.Fault.TheVariants as fault
 use Rattle.rewind_script.specs.declared.script.Command.{Command}
-use Rattle.rewind_script.specs.declared.script.Command.TheVariants as command
 use Rattle.rewind_script.specs.declared.script.Item.{Item}
-use Rattle.rewind_script.specs.declared.script.Item.TheVariants as item
 use Rattle.rewind_script.specs.declared.script.LaneText.{LaneText}
 use Rattle.rewind_script.specs.declared.read.reading.Part.{Part}
-use Rattle.rewind_script.specs.declared.read.reading.Part.TheVariants as part
 use Rattle.rewind_script.specs.declared.read.reading.Reading.{Reading}
-use Rattle.rewind_script.specs.Text.{words, number}
-use Rattle.rewind_script.specs.Steps.{◌>>=◌, guard, or_fault, numeral, numerals, arg}
-use Rattle.rewind_script.specs.Order.{may_stand, keyword_of, is_lane}
-use Rattle.rewind_script.specs.Lanes.{structure, set_of, with_bits, lanes_of, after_lane, after_begin, after_ending}
-use Rattle.rewind_script.specs.Commands.{after_put, reached, holds, is_cells, with_command}
-use Rattle.rewind_script.specs.Grammar.{script_from, after_line, after_words, after_keyword, is_passed_over, is_text_byte, at_line}
-use Rattle.rewind_script.specs.Report.{line, spaced}
+use Rattle.rewind_script.specs.Steps.{◌>>=◌, guard}
+use Rattle.rewind_script.specs.Grammar.{script_from, after_line, after_words, is_passed_over, is_text_byte}
+use Rattle.rewind_script.specs.Report.{line}
 use Rattle.rewind_script.proofs.Scripts.{goes_on}
 use Rattle.rewind_script.proofs.Stages.{both}
-use Rattle.rewind_script.proofs.Keeping.{put_second, put_third, put_structure, put_value, put_reached, begin_set, begin_limit, begun, closed, lane_of}
-use Rattle.rewind_script.proofs.Plain.{is_visible, is_printable, body, are_small, first_line, words-body, body_printable, number-decimal}
+use Rattle.rewind_script.proofs.Plain.{is_visible, is_printable, body, are_small, first_line, words-body, body_printable}
 
 -- after the text the one reading is the other, so many lines later
 pub record Passes (text : List ℕ) (before after : Reading) (count : ℕ) : Type 0 where
@@ -39,9 +27,9 @@ pass-nothing reading = record { reads = λ n rest. let e : n ≡ n + 0 = omega a
 pub pass-both : (first second : List ℕ) (a b c : Reading) (j k : ℕ) → Passes first a b j → Passes second b c k → Passes (first ++ second) a c (j + k)
 pass-both first second a b c j k one two = record {
   reads = λ n rest.
-    let count : n + j + k ≡ n + (j + k) = omega arith in
-    ap (λ t. script_from n a (lines t)) (append_assoc first second rest)
-    ∙ one.reads n (second ++ rest) ∙ two.reads (n + j) rest ∙ ap (λ m. script_from m c (lines rest)) count;
+      let count : n + j + k ≡ n + (j + k) = omega arith in
+      ap (λ t. script_from n a (lines t)) (append_assoc first second rest)
+      ∙ one.reads n (second ++ rest) ∙ two.reads (n + j) rest ∙ ap (λ m. script_from m c (lines rest)) count;
 }
 
 -- a line of a word and numbers
@@ -62,16 +50,16 @@ pub pass-line : (word numbers : List ℕ) (before after : Reading) → 0 < lengt
 unfolding after_line
 pass-line word numbers before after some visible plain small step = record {
   reads = λ n rest.
-    let printable = body_printable word numbers visible small in
-    let found = words-body word numbers some visible small in
-    let read : after_line before (body word numbers) ≡ Ok after =
-    ap (λ ws. if is_passed_over ws then Ok before else (guard (list_all is_text_byte (body word numbers)) fault.Byte >>= λ _. after_words before ws)) found
-    ∙ ap (λ t. if t then Ok before else (guard (list_all is_text_byte (body word numbers)) fault.Byte >>= λ _. after_words before (word ∷ map decimal numbers))) plain
-    ∙ ap (λ t. guard t fault.Byte >>= λ _. after_words before (word ∷ map decimal numbers)) (all_text (body word numbers) printable)
-    ∙ step in
-    ap (λ t. script_from n before (lines t)) (line_is word numbers rest)
-    ∙ ap (script_from n before) (first_line (body word numbers) rest printable)
-    ∙ goes_on n before after (body word numbers) (lines rest) read;
+      let printable = body_printable word numbers visible small in
+      let found = words-body word numbers some visible small in
+      let read : after_line before (body word numbers) ≡ Ok after =
+      ap (λ ws. if is_passed_over ws then Ok before else (guard (list_all is_text_byte (body word numbers)) fault.Byte >>= λ _. after_words before ws)) found
+      ∙ ap (λ t. if t then Ok before else (guard (list_all is_text_byte (body word numbers)) fault.Byte >>= λ _. after_words before (word ∷ map decimal numbers))) plain
+      ∙ ap (λ t. guard t fault.Byte >>= λ _. after_words before (word ∷ map decimal numbers)) (all_text (body word numbers) printable)
+      ∙ step in
+      ap (λ t. script_from n before (lines t)) (line_is word numbers rest)
+      ∙ ap (script_from n before) (first_line (body word numbers) rest printable)
+      ∙ goes_on n before after (body word numbers) (lines rest) read;
 }
 
 -- ---- the readings of a generated text
@@ -99,7 +87,7 @@ at p lanes items transactions set commands = record {
 pub pass-literal : (bs : List ℕ) (before after : Reading) → list_all is_printable bs ≡ true → after_line before bs ≡ Ok after → Passes (bs ++ 10 ∷ []) before after 1
 pass-literal bs before after printable step = record {
   reads = λ n rest.
-    ap (λ t. script_from n before (lines t)) (append_assoc bs (10 ∷ []) rest)
-    ∙ ap (script_from n before) (first_line bs rest printable)
-    ∙ goes_on n before after bs (lines rest) step;
+      ap (λ t. script_from n before (lines t)) (append_assoc bs (10 ∷ []) rest)
+      ∙ ap (script_from n before) (first_line bs rest printable)
+      ∙ goes_on n before after bs (lines rest) step;
 }

@@ -1,14 +1,14 @@
 -- Lines of words that a space parts, and numbers as they are written.
-use Rattle.std.proofs.Common.{◌≡◌, ℕ, zero, suc, ◌+◌, ◌-◌, ◌*◌, ◌/◌, ◌%◌, ◌<◌, ◌≤◌, ◌^◌, List, [], ◌∷◌, ◌++◌, length, get_or, take, refl, sym, ◌∙◌, ap, subst, arith, cond, Bool, true, false, ◌&&◌, ◌||◌, not, ◌==◌, eqb, ne_eqb, nat_lt, nat_le, lt-ltb, le-leb, leb-true, ltb-true, Option, Some, None, map, filter, append_assoc, append-nil, if◌then◌else◌, decimal}
+use Rattle.std.proofs.Common.{◌≡◌, ℕ, zero, suc, ◌+◌, ◌-◌, ◌*◌, ◌%◌, ◌<◌, ◌≤◌, ◌^◌, List, [], ◌∷◌, ◌++◌, length, take, refl, sym, ◌∙◌, ap, arith, Bool, true, false, ◌&&◌, ◌||◌, not, ◌==◌, ne_eqb, nat_lt, nat_le, lt-ltb, le-leb, leb-true, ltb-true, Some, None, map, filter, append-nil, if◌then◌else◌, decimal}
 use Rattle.std.specs.List.{list_all, All, slice_split, slice_index, flat_map}
 use Rattle.std.specs.Int.{is_in_range}
 use Rattle.std.specs.Char.{is_ascii_digit}
-use Rattle.std.specs.Str.Lines.{lines, lines_of_parts, strip_carriage_return}
+use Rattle.std.specs.Str.Lines.{lines, lines_of_parts}
 use Rattle.std.proofs.lemmas.List.Splits.{slice_split_at, slice_split_none, length-slice_split}
 use Rattle.std.proofs.lemmas.List.Elements.{All-nil, All-cons}
 use Rattle.std.proofs.lemmas.List.Folds.{list_all-append}
 use Rattle.std.proofs.lemmas.Fmt.{decimal_by_steps, decimal_nonempty, length-decimal-le}
-use Rattle.rewind_script.specs.Text.{words, is_blank, unless_empty, spelled, number, is_numeral, fitting}
+use Rattle.rewind_script.specs.Text.{words, is_blank, unless_empty, spelled, number, fitting}
 use Rattle.rewind_script.specs.Report.{spaced}
 use Rattle.rewind_script.proofs.Words.{before_more, kept, fitting-some}
 use Rattle.rewind_script.proofs.Stages.{both}

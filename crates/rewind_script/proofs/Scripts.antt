@@ -1,8 +1,5 @@
 -- A step of reading a script.
-use Rattle.std.proofs.Common.{◌≡◌, ℕ, ◌+◌, ◌≤◌, List, ◌∷◌, length, refl, sym, ◌∙◌, ap, Result, Ok, Err}
-use Rattle.std.specs.Str.Lines.{lines}
-use Rattle.rewind_script.specs.declared.fault.Fault.{Fault}
-use Rattle.rewind_script.specs.declared.script.Script.{Script}
+use Rattle.std.proofs.Common.{◌≡◌, ℕ, ◌+◌, List, ◌∷◌, sym, ◌∙◌, ap, Result, Ok, Err}
 use Rattle.rewind_script.specs.declared.fault.ScriptFault.{ScriptFault}
 use Rattle.rewind_script.specs.declared.read.refusal.Refusal.{Refusal}
 use Rattle.rewind_script.specs.declared.read.refusal.Refusal.TheVariants as refusal

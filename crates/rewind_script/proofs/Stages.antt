@@ -1,5 +1,5 @@
 -- Steps that were passed, and where lines may stand.
-use Rattle.std.proofs.Common.{◌≡◌, ℕ, zero, suc, ◌+◌, ◌*◌, ◌^◌, ◌<◌, ◌≤◌, List, [], ◌∷◌, ◌++◌, length, refl, sym, ◌∙◌, ap, subst, arith, Bool, true, false, ◌&&◌, ◌||◌, not, ◌==◌, Result, Ok, Err, nat_lt, nat_le, ltb-true, leb-true, bit_or}
+use Rattle.std.proofs.Common.{◌≡◌, ℕ, zero, suc, ◌^◌, ◌<◌, ◌≤◌, List, [], ◌∷◌, length, refl, sym, ◌∙◌, ap, arith, Bool, true, false, ◌&&◌, ◌||◌, not, ◌==◌, Result, Ok, Err, nat_lt, nat_le, ltb-true, leb-true, bit_or}
 use Rattle.std.specs.List.{list_all}
 use Rattle.std.proofs.lemmas.Nat.{le_or_l, le_or_r, or_lt, pow_pos}
 use Rattle.std.proofs.Math.Pow.{pow-lt}
@@ -8,7 +8,6 @@ use Rattle.region_layout.specs.declared.layout.Kind.TheVariants.{Cells, Tree, Ha
 use Rattle.rewind_script.specs.declared.fault.Fault.{Fault}
 use Rattle.rewind_script.specs.declared.read.reading.Part.{Part}
 use Rattle.rewind_script.specs.declared.read.reading.Part.TheVariants as part
-use Rattle.rewind_script.specs.declared.read.reading.Keyword.{Keyword}
 use Rattle.rewind_script.specs.declared.read.reading.Keyword.TheVariants as keyword
 use Rattle.rewind_script.specs.declared.read.reading.Reading.{Reading}
 use Rattle.rewind_script.specs.Steps.{◌>>=◌, guard, numeral, numerals}

@@ -1,12 +1,10 @@
-use Rattle.std.proofs.Common.{◌≡◌, ℕ, zero, suc, ◌+◌, ◌-◌, ◌*◌, ◌<◌, ◌≤◌, ◌^◌, List, [], ◌∷◌, ◌++◌, length, get_or, take, drop, refl, sym, ◌∙◌, ap, subst, arith, cond, Bool, true, false, eqb, ne_eqb, Option, Some, None, nat_lt, le-ltb, lt-ltb, filter, not, ◌==◌, length-drop, take_all, append-nil, drop-drop, ⊎_elim, map}
-use Rattle.std.specs.List.{slice_split, position, position_or_len, All, before_first, after_first}
+use Rattle.std.proofs.Common.{◌≡◌, ℕ, zero, suc, ◌+◌, ◌-◌, ◌*◌, ◌<◌, ◌≤◌, ◌^◌, List, [], ◌∷◌, ◌++◌, length, get_or, take, drop, refl, sym, ◌∙◌, ap, subst, arith, cond, Bool, true, false, eqb, ne_eqb, Some, None, le-ltb, lt-ltb, filter, not, ◌==◌, length-drop, take_all, drop-drop, ⊎_elim}
+use Rattle.std.specs.List.{slice_split, position, position_or_len}
 use Rattle.std.specs.Str.Lines.{lines, lines_of_parts, strip_carriage_return}
 use Rattle.std.proofs.lemmas.List.Splits.{slice_split_first, slice_split_none, length-slice_split}
 use Rattle.std.proofs.lemmas.List.Sums.{position_or_len_is, fails_before_first}
 use Rattle.std.proofs.lemmas.List.{nil_from_length}
-use Rattle.std.proofs.lemmas.List.Elements.{filter-append}
 use Rattle.std.proofs.lemmas.Bool.{cases_lt}
-use Rattle.std.proofs.Math.Seq.{drop-cons}
 use Rattle.rewind_script.specs.Text.{spelled, fitting, is_blank, words, unless_empty}
 
 not_true : (b : Bool) → (b ≡ true → ⊥) → b ≡ false

@@ -3,7 +3,6 @@ use Rattle.std.specs.Prelude.{◌≡◌, ℕ, ◌≤◌, List, length, Result, O
 use Rattle.std.specs.Global.{Vec}
 use Rattle.std.specs.Borrow.{Bor}
 use Rattle.rewind_script.specs.declared.fault.Fault.{Fault}
-use Rattle.rewind_script.specs.declared.fault.Fault.TheVariants as fault
 use Rattle.rewind_script.specs.declared.fault.ScriptFault.{ScriptFault}
 use Rattle.rewind_script.specs.declared.fault.ScriptFault.TheVariants.{Line, NoMemory}
 use Rattle.rewind_script.specs.declared.read.refusal.Refusal.{Refusal}

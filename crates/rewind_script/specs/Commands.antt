@@ -1,5 +1,5 @@
 -- The lines within a transaction.
-use Rattle.std.specs.Prelude.{◌≡◌, ℕ, ◌+◌, ◌/◌, ◌%◌, ◌^◌, List, [], ◌∷◌, ◌++◌, length, min, Bool, true, false, not, ◌||◌, ◌==◌, nat_lt, nat_le, Result, Ok, Err}
+use Rattle.std.specs.Prelude.{ℕ, ◌+◌, ◌/◌, ◌%◌, ◌^◌, List, [], ◌∷◌, ◌++◌, length, min, Bool, true, false, not, ◌||◌, ◌==◌, nat_lt, nat_le, Result, Ok}
 use Rattle.std.specs.List.{slice_index_or}
 use Rattle.rewind_script.specs.Steps.{◌>>=◌, guard, numeral, arg, sized}
 use Rattle.rewind_script.specs.Lanes.{structure}

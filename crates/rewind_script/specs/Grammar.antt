@@ -12,20 +12,16 @@ use Rattle.rewind_script.specs.Head.{after_region, after_log, after_partitions, 
 use Rattle.rewind_script.specs.TurnLines.{after_turns}
 use Rattle.rewind_script.specs.Lanes.{after_lane, after_begin, after_checkpoint, after_ending, lanes_of}
 use Rattle.rewind_script.specs.Commands.{after_put, after_key, after_savepoint, after_rollback}
-use Rattle.region_layout.specs.declared.layout.Policy.{Policy}
-use Rattle.region_layout.specs.declared.layout.Policy.TheVariants.{Force, NoForce}
+use Rattle.region_layout.specs.declared.layout.Policy.TheVariants.{Force}
 use Rattle.region_layout.specs.declared.layout.Kind.{Kind}
-use Rattle.region_layout.specs.declared.layout.Kind.TheVariants.{Cells, Tree, Hash}
 use Rattle.rewind_script.specs.declared.fault.Fault.{Fault}
 use Rattle.rewind_script.specs.declared.fault.Fault.TheVariants as fault
 use Rattle.rewind_script.specs.declared.fault.ScriptFault.{ScriptFault}
 use Rattle.rewind_script.specs.declared.fault.ScriptFault.TheVariants.{Line, NoMemory}
-use Rattle.rewind_script.specs.declared.script.Command.{Command}
 use Rattle.rewind_script.specs.declared.script.Command.TheVariants as command
 use Rattle.rewind_script.specs.declared.script.LaneText.{LaneText}
 use Rattle.rewind_script.specs.declared.script.Turns.{Turns}
 use Rattle.rewind_script.specs.declared.script.Script.{Script}
-use Rattle.rewind_script.specs.declared.read.reading.Part.{Part}
 use Rattle.rewind_script.specs.declared.read.reading.Part.TheVariants as part
 use Rattle.rewind_script.specs.declared.read.reading.Keyword.{Keyword}
 use Rattle.rewind_script.specs.declared.read.reading.Keyword.TheVariants as keyword

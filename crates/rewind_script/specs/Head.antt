@@ -1,14 +1,13 @@
 -- The lines before the lanes: the region, its log, its partitions and its maps.
-use Rattle.std.specs.Prelude.{◌≡◌, ℕ, ◌*◌, List, [], ◌∷◌, ◌++◌, length, Bool, true, false, ◌&&◌, ◌==◌, nat_lt, nat_le, Option, Some, None, Result, Ok, Err, if◌then◌else◌, codes}
+use Rattle.std.specs.Prelude.{ℕ, ◌*◌, List, [], ◌∷◌, ◌++◌, length, Bool, true, false, ◌&&◌, nat_lt, nat_le, Option, Some, None, Result, Ok, if◌then◌else◌, codes}
 use Rattle.std.specs.Str.{bytes_eq}
-use Rattle.rewind_script.specs.Steps.{◌>>=◌, guard, or_fault, numeral, arg, sized, named}
+use Rattle.rewind_script.specs.Steps.{◌>>=◌, guard, numeral, arg, sized, named}
 use Rattle.region_layout.specs.declared.layout.Policy.{Policy}
 use Rattle.region_layout.specs.declared.layout.Policy.TheVariants.{Force, NoForce}
 use Rattle.region_layout.specs.declared.layout.Kind.{Kind}
 use Rattle.region_layout.specs.declared.layout.Kind.TheVariants.{Cells, Tree, Hash}
 use Rattle.rewind_script.specs.declared.fault.Fault.{Fault}
 use Rattle.rewind_script.specs.declared.fault.Fault.TheVariants as fault
-use Rattle.rewind_script.specs.declared.read.reading.Part.{Part}
 use Rattle.rewind_script.specs.declared.read.reading.Part.TheVariants as part
 use Rattle.rewind_script.specs.declared.read.reading.Reading.{Reading}
 

@@ -1,5 +1,5 @@
 -- The lines that begin and end lanes and transactions.
-use Rattle.std.specs.Prelude.{◌≡◌, ℕ, ◌+◌, ◌^◌, List, [], ◌∷◌, ◌++◌, length, Bool, true, false, ◌&&◌, ◌==◌, nat_lt, Result, Ok, Err, if◌then◌else◌, bit_or}
+use Rattle.std.specs.Prelude.{◌≡◌, ℕ, ◌+◌, ◌^◌, List, [], ◌∷◌, ◌++◌, length, Bool, ◌&&◌, nat_lt, Result, Ok, Err, if◌then◌else◌, bit_or}
 use Rattle.std.specs.List.{list_all}
 use Rattle.rewind_script.specs.Steps.{◌>>=◌, guard, sized, numerals}
 use Rattle.rewind_script.specs.Order.{is_lane}
@@ -7,10 +7,8 @@ use Rattle.rewind_script.specs.declared.fault.Fault.{Fault}
 use Rattle.rewind_script.specs.declared.fault.Fault.TheVariants as fault
 use Rattle.rewind_script.specs.declared.read.refusal.Refusal.{Refusal}
 use Rattle.rewind_script.specs.declared.read.refusal.Refusal.TheVariants as refusal
-use Rattle.rewind_script.specs.declared.script.Item.{Item}
 use Rattle.rewind_script.specs.declared.script.Item.TheVariants as item
 use Rattle.rewind_script.specs.declared.script.LaneText.{LaneText}
-use Rattle.rewind_script.specs.declared.read.reading.Part.{Part}
 use Rattle.rewind_script.specs.declared.read.reading.Part.TheVariants as part
 use Rattle.rewind_script.specs.declared.read.reading.Reading.{Reading}
 

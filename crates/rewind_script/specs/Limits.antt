@@ -3,7 +3,7 @@ use Rattle.std.specs.Prelude.{◌≡◌, ◌⊎◌, ℕ, ◌+◌, ◌*◌, ◌^�
 use Rattle.std.specs.List.{sum_by, slice_index_or}
 use Rattle.region_layout.specs.Layout.{IsAllowed}
 use Rattle.region_layout.specs.declared.layout.Kind.{Kind}
-use Rattle.region_layout.specs.declared.layout.Kind.TheVariants.{Cells, Tree, Hash}
+use Rattle.region_layout.specs.declared.layout.Kind.TheVariants.{Cells, Tree}
 use Rattle.rewind_script.specs.Order.{is_transaction}
 use Rattle.rewind_script.specs.Commands.{holds, live_step}
 use Rattle.rewind_script.specs.Grammar.{Meaning, meaning_of}

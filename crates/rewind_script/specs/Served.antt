@@ -1,10 +1,10 @@
 -- The scripts that the program runs so far: puts on one map of cells, by one lane, under force with a simple log.
-use Rattle.std.specs.Prelude.{ℕ, List, [], ◌∷◌, length, Bool, true, false, not, ◌&&◌, ◌==◌, nat_le}
+use Rattle.std.specs.Prelude.{List, [], ◌∷◌, length, Bool, true, false, not, ◌&&◌, ◌==◌, nat_le}
 use Rattle.std.specs.List.{list_all}
 use Rattle.region_layout.specs.declared.layout.Policy.{Policy}
 use Rattle.region_layout.specs.declared.layout.Policy.TheVariants.{Force, NoForce}
 use Rattle.region_layout.specs.declared.layout.Kind.{Kind}
-use Rattle.region_layout.specs.declared.layout.Kind.TheVariants.{Cells, Tree, Hash}
+use Rattle.region_layout.specs.declared.layout.Kind.TheVariants.{Cells}
 use Rattle.rewind_script.specs.declared.script.Item.{Item}
 use Rattle.rewind_script.specs.declared.script.Item.TheVariants as item
 use Rattle.rewind_script.specs.declared.script.Command.{Command}

@@ -1,5 +1,5 @@
 -- Reading step by step: the first fault that fits ends it.
-use Rattle.std.specs.Prelude.{◌≡◌, ℕ, ◌++◌, List, [], ◌∷◌, length, Bool, true, false, ◌==◌, Option, Some, None, Result, Ok, Err}
+use Rattle.std.specs.Prelude.{ℕ, List, [], ◌∷◌, length, Bool, true, false, ◌==◌, Option, Some, None, Result, Ok, Err}
 use Rattle.std.specs.List.{slice_index_or}
 use Rattle.rewind_script.specs.Text.{number}
 use Rattle.rewind_script.specs.declared.fault.Fault.{Fault}

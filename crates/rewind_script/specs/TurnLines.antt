@@ -1,12 +1,10 @@
 -- The lines of turns: whose turns come first, in their order.
-use Rattle.std.specs.Prelude.{◌≡◌, ℕ, ◌+◌, List, [], ◌∷◌, ◌++◌, length, take, drop, Bool, ◌&&◌, ◌==◌, nat_lt, nat_le, Option, Some, None, Result, Ok, Err}
+use Rattle.std.specs.Prelude.{ℕ, ◌+◌, List, [], ◌∷◌, ◌++◌, length, take, drop, ◌&&◌, ◌==◌, nat_lt, nat_le, Option, Some, None, Result, Ok}
 use Rattle.std.specs.List.{position}
 use Rattle.std.specs.Option.{option_map}
 use Rattle.rewind_script.specs.Steps.{◌>>=◌, guard, numeral}
 use Rattle.rewind_script.specs.declared.fault.Fault.{Fault}
 use Rattle.rewind_script.specs.declared.fault.Fault.TheVariants as fault
-use Rattle.rewind_script.specs.declared.script.Turns.{Turns}
-use Rattle.rewind_script.specs.declared.read.reading.Part.{Part}
 use Rattle.rewind_script.specs.declared.read.reading.Part.TheVariants as part
 use Rattle.rewind_script.specs.declared.read.reading.Reading.{Reading}
 

@@ -1,4 +1,3 @@
-use Rattle.std.proofs.Common.{◌∙◌}
 use Rattle.rewind_script.specs.Generator.{transaction}
 use Rattle.rewind_script.proofs.Draws.{first-text, next-text, next-state}
 use Rattle.rewind_script.proofs.generator.append_transactions.Goals as goal

@@ -1,10 +1,9 @@
-use Rattle.std.proofs.Common.{rules, ◌≡◌, ◌∙◌, sym, ap, subst, Bool, true, false, not, Ok, Err, Result, arith, []}
-use Rattle.std.proofs.lemmas.Grind.{common_steps}
+use Rattle.std.proofs.Common.{◌≡◌, ◌∙◌, sym, subst, false, Ok, Err, Result, []}
 use Rattle.std.specs.Result.{is_err}
 use Rattle.persist_model.specs.Shape.{Shape}
 use Rattle.region_layout.specs.Layout.{layout_shape}
 use Rattle.rewind_script.specs.Lanes.{Closes, lanes_of}
-use Rattle.rewind_script.specs.Grammar.{Meaning, is_whole, meaning_of, meaning_of_reading, shape_of_reading}
+use Rattle.rewind_script.specs.Grammar.{meaning_of_reading}
 use Rattle.rewind_script.specs.Limits.{IsWithinLimits}
 use Rattle.rewind_script.specs.declared.read.refusal.Refusal.{Refusal}
 use Rattle.rewind_script.specs.declared.read.reading.Reading.{Reading}

@@ -1,9 +1,9 @@
-use Rattle.std.proofs.Common.{◌≡◌, ◌∙◌, ◌+◌, sym, ap, subst, arith, Err}
+use Rattle.std.proofs.Common.{◌∙◌, sym, ap, subst, arith, Err}
 use Rattle.std.specs.Str.Lines.{lines}
 use Rattle.rewind_script.specs.Grammar.{script, script_from, Reads}
 use Rattle.rewind_script.specs.declared.fault.ScriptFault.{ScriptFault}
 use Rattle.rewind_script.proofs.Scripts.{goes_on, stops}
-use Rattle.rewind_script.proofs.Keeping.{kept_line, blank_kept}
+use Rattle.rewind_script.proofs.Keeping.{kept_line}
 use Rattle.rewind_script.proofs.read.read_script.Goals as goal
 
 pub returns-in-Err-clause-meaning : goal.returns-in-Err-clause-meaning

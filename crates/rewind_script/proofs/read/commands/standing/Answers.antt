@@ -1,4 +1,4 @@
-use Rattle.std.proofs.Common.{◌≡◌, ◌∙◌, sym, arith}
+use Rattle.std.proofs.Common.{◌∙◌, sym, arith}
 use Rattle.rewind_script.specs.Commands.{live_after}
 use Rattle.rewind_script.proofs.Lists.{live-on, live-done}
 use Rattle.rewind_script.proofs.read.commands.standing.Goals as goal

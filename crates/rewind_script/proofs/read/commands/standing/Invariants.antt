@@ -1,4 +1,4 @@
-use Rattle.std.proofs.Common.{◌≡◌, ◌≤◌, ◌+◌, ◌^◌, drop}
+use Rattle.std.proofs.Common.{◌≡◌, ◌≤◌, drop}
 use Rattle.rewind_script.specs.Commands.{live_after}
 use Rattle.rewind_script.proofs.read.commands.standing.Given as goal
 

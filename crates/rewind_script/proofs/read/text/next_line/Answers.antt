@@ -1,4 +1,4 @@
-use Rattle.std.proofs.Common.{arith, ◌≡◌, ◌∙◌, ◌+◌, ◌-◌, ◌<◌, sym, ap, length, take, drop, false-eqb, ◌∷◌}
+use Rattle.std.proofs.Common.{arith, ◌∙◌, ◌+◌, ◌<◌, sym, ap, length, drop, false-eqb, ◌∷◌}
 use Rattle.std.specs.Str.Lines.{lines, strip_carriage_return}
 use Rattle.rewind_script.proofs.Words.{lines_last, lines_next, first_none, first_some, after_one}
 use Rattle.rewind_script.proofs.read.text.next_line.Goals as goal

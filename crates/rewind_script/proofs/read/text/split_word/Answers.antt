@@ -1,4 +1,4 @@
-use Rattle.std.proofs.Common.{sym, ap, ◌∙◌, ◌≡◌, ◌+◌, ◌-◌, ◌++◌, take, drop, length, arith, take_all, length-drop}
+use Rattle.std.proofs.Common.{sym, ap, ◌∙◌, ◌+◌, ◌-◌, ◌++◌, take, drop, length, arith, take_all, length-drop}
 use Rattle.rewind_script.specs.Text.{words, unless_empty}
 use Rattle.rewind_script.proofs.Words.{words-none, words-some}
 use Rattle.rewind_script.proofs.read.text.split_word.Goals as goal

@@ -1,4 +1,4 @@
-use Rattle.std.proofs.Common.{sym, ap, ◌∙◌, ◌≡◌, ◌++◌, map, length, arith, append-nil, false-eqb, eqb-true, ◌==◌}
+use Rattle.std.proofs.Common.{sym, ap, ◌∙◌, ◌++◌, map, length, append-nil, eqb-true}
 use Rattle.std.proofs.lemmas.List.{nil_from_length}
 use Rattle.rewind_script.specs.Text.{words}
 use Rattle.rewind_script.proofs.Words.{words-nil}

@@ -1,4 +1,4 @@
-use Rattle.std.proofs.Common.{◌≡◌, ◌∙◌, ◌+◌, ◌-◌, ℕ, sym, ap, take, drop, arith, Some, None, length}
+use Rattle.std.proofs.Common.{◌∙◌, ◌+◌, ◌-◌, sym, ap, take, drop, Some, length}
 use Rattle.std.specs.Option.{option_map}
 use Rattle.rewind_script.specs.TurnLines.{turn_parts}
 use Rattle.rewind_script.proofs.Words.{after_one, position_at}
