@@ -1,2 +1,5 @@
 pub mod Device
 pub mod Space
+pub mod Draft
+pub mod Drafts
+pub mod DraftLaws

@@ -1,15 +1,23 @@
 -- The words of one structure, as its map sees them.
-use Rattle.std.specs.Prelude.{◌≡◌, ◌≢◌, [], ◌∷◌, ℕ, ◌+◌, ◌*◌, ◌<◌, ◌≤◌, Bool, List, if◌then◌else◌, ◌==◌, not, filter}
+use Rattle.std.specs.Prelude.{◌≡◌, ◌≢◌, ℕ, ◌+◌, ◌*◌, ◌<◌, ◌≤◌, Bool, List, if◌then◌else◌, ◌==◌, not, filter}
 use Rattle.persist_model.specs.Region.{Words}
 use Rattle.persist_model.specs.Records.{IsAmong}
 use Rattle.persist_model.specs.Chain.{HasNoRepeats}
 use Rattle.lane_traits.specs.Device.{MAX_WORDS}
 
--- whose the blocks are: the address of the first block, the structure's number, and the owner word of each block
+-- what stood at the beginning: the word at each address, and the owner of each block
+pub record Start : Type 0 where
+  pub word : Words
+  pub owner : ℕ → ℕ
+
+-- whose the blocks are: the address of the first block, the structure's number, and the owner word of each block, now and at
+-- the beginning
 pub record Land : Type 0 where
   pub heap : ℕ
   pub structure : ℕ
   pub owner : ℕ → ℕ
+  -- no call changes it: a draft's is what its reader shows
+  pub start : Start
 
 -- whose the blocks are, the word at each address, the blocks that can be taken, and how many writes were made
 pub record Space : Type 0 where

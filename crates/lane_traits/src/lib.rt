@@ -2,7 +2,9 @@
 #![tactic(auto)]
 
 mod device;
+mod draft;
 mod words;
 
 pub use device::{Device, Done};
+pub use draft::{Draft, Drafted, WordWrite};
 pub use words::{Pair, Reads, Words, WordsRefusal};

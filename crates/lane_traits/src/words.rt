@@ -1,4 +1,4 @@
-ghost use Rattle.std.specs.Prelude.{◌≡◌, ◌↔◌, ℕ, OnOk, OnErr, IfOk, Err, []};
+ghost use Rattle.std.specs.Prelude.{◌≡◌, ◌↔◌, ℕ, Bool, IsTrue, OnOk, OnErr, IfOk, Err, []};
 ghost use Rattle.lane_traits.specs.Space.{Space, IsDataWord, IsOwn, IsTaken, AreSpare, written, given};
 
 use persist_model::NoMemory;
@@ -35,14 +35,14 @@ pub trait Reads {
     ghost space: { Self → Space };
 
     /// The addresses that can be read.
-    ghost readable: { Self → ℕ → Type 0 };
+    ghost readable: { Self → ℕ → Bool };
 
     /// The word at this address. Nothing changes.
     fn read(&mut self, a: u32) -> u64
-        requires { readable self.old a }
+        requires { IsTrue (readable self.old a) }
         ensures value { result ≡ (space self.old).word a }
         ensures same { space self.new ≡ space self.old }
-        ensures readable { (b : ℕ) → readable self.old b → readable self.new b };
+        ensures readable { readable self.new ≡ readable self.old };
 }
 
 /// The words of one structure. A refusal changes nothing.
@@ -68,7 +68,7 @@ pub trait Words: Reads {
         ensures memory { OnErr result (result ≡ Err WordsRefusal.NoMemory) };
 
     /// The data words of the structure's blocks can be read.
-    ghost own_readable: { (words : Self) (a : ℕ) → IsDataWord (Self.space words).land a → Self.readable words a };
+    ghost own_readable: { (words : Self) (a : ℕ) → IsDataWord (Self.space words).land a → IsTrue (Self.readable words a) };
 
     /// What can be taken are blocks of nobody, each once.
     ghost spare_apart: { (words : Self) → AreSpare (Self.space words) };

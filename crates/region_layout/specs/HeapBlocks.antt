@@ -6,7 +6,7 @@ use Rattle.lane_traits.specs.Space.{Land, IsOwn}
 
 -- whose the blocks are, as a structure sees it
 abbrev pub land_of : ℕ → Words → ℕ → Land
-land_of heap w structure = record { heap = heap; structure = structure; owner = w }
+land_of heap w structure = record { heap = heap; structure = structure; owner = w; start = record { word = w; owner = w } }
 
 -- the root block of a structure
 abbrev pub root_of : ℕ → ℕ → ℕ
