@@ -17,3 +17,5 @@ pub mod Whole
 pub mod Fullness
 pub mod Lawful
 pub mod Walking
+pub mod Owned
+pub mod Sounding

@@ -4,3 +4,4 @@ pub mod Below
 pub mod Calls
 pub mod Located
 pub mod Laws
+pub mod Sound

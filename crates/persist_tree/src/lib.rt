@@ -11,7 +11,9 @@ pub mod laws;
 mod locate;
 mod search;
 mod shrink;
+mod soundness;
 mod turn;
 
 pub use calls::{get, needs, put, remove};
 pub use collect::walk;
+pub use soundness::{Broken, sound};
