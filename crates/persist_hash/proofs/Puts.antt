@@ -125,7 +125,7 @@ absent_key s root key chains directory link node h place none =
     (each_joined (λ n. key ≢ n.key) place.front place.rest place.passed (subst (HasNotKey key) (sym empty) tt))
 
 -- the entries with the pair are those of the changed chain
-entries_put : (s : Space) (root key value : ℕ) (contents : FiniteMap) (holds : Holds s root contents) (u : Space) (ns : List Node)
+pub entries_put : (s : Space) (root key value : ℕ) (contents : FiniteMap) (holds : Holds s root contents) (u : Space) (ns : List Node)
     → IsHash u.land u.word root (put_chain (chain_number key) ns holds.chains)
     → ((k : ℕ) → lookup k (pairs ns) ≡ changed_at key (Some value) k (lookup k (pairs (holds.chains (chain_number key))))) → Holds u root (with_pair key value contents)
 entries_put s root key value contents holds u ns is look = record {
