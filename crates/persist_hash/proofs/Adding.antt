@@ -4,9 +4,10 @@ use Rattle.std.specs.Prelude.{filter}
 use Rattle.std.proofs.lemmas.Bool.Decides.{nat_tests, eqb_tells}
 use Rattle.persist_model.specs.Records.{IsAmong}
 use Rattle.persist_model.specs.Chain.{HasNoRepeats}
-use Rattle.lane_traits.specs.Space.{Land, Space, AreSpare, IsTaken, is_not, taken}
+use Rattle.lane_traits.specs.Space.{Land, Space, AreSpare, IsTaken, is_not, taken, written}
 use Rattle.lane_traits.proofs.Among.{of_absent, kept_all, same_eq}
 use Rattle.persist_hash.specs.Calls.{TakesBlocks, IsUnwritten}
+use Rattle.persist_hash.specs.Adding.{AddsNode, AddsDirectory}
 
 -- ---- blocks that can be taken
 
@@ -48,4 +49,44 @@ none_taken s u n is = record {
   takes = 0;
   few = omega arith;
   took = record { blocks = []; many = refl; took = (ap (λ (v : Space). v.land) is, ap (λ (v : Space). v.spare) is) };
+}
+
+-- ---- how many blocks can be taken
+
+two_among : (xs : List ℕ) (a b : ℕ) → IsAmong xs a → IsAmong xs b → a ≢ b → 2 ≤ length xs
+two_among [] a b ha hb ne = absurd ha
+two_among (x ∷ []) a b (inl e) (inl f) ne = absurd (ne (e ∙ sym f))
+two_among (x ∷ []) a b (inl e) (inr k) ne = absurd k
+two_among (x ∷ []) a b (inr k) hb ne = absurd k
+two_among (x ∷ y ∷ xs) a b ha hb ne = omega arith
+
+some_among : (xs : List ℕ) (a : ℕ) → IsAmong xs a → 1 ≤ length xs
+some_among [] a h = absurd h
+some_among (x ∷ xs) a h = omega arith
+
+pub among_kept : (b : ℕ) (xs : List ℕ) (x : ℕ) → IsAmong (filter (is_not b) xs) x → IsAmong xs x × (x ≢ b)
+among_kept b [] x h = absurd h
+among_kept b (y ∷ ys) x h = step (y == b) (eqb_tells y b) h (among_kept b ys x)
+  where
+    step : (t : Bool) → ((t ≡ true) × (y ≡ b)) ⊎ ((t ≡ false) × (y ≢ b)) → IsAmong (if not t then y ∷ filter (is_not b) ys else filter (is_not b) ys) x
+        → (IsAmong (filter (is_not b) ys) x → IsAmong ys x × (x ≢ b)) → IsAmong (y ∷ ys) x × (x ≢ b)
+    step true tells k again = (inr (again k).0, (again k).1)
+    step false tells (inl e) again = (inl e, ⊎_elim (λ same. absurd (let q = same.0 in cc)) (λ other. λ f. other.1 (sym e ∙ f)) tells)
+    step false tells (inr k) again = (inr (again k).0, (again k).1)
+
+pub one_can : (s u : Space) (slot key value : ℕ) → AddsNode slot key value s u → 1 ≤ length s.spare
+one_can s u slot key value adds = some_among s.spare adds.node adds.among
+
+pub two_can : (s u : Space) (root index place key value : ℕ) → AddsDirectory root index place key value s u → 2 ≤ length s.spare
+two_can s u root index place key value adds =
+    let node = among_kept adds.directory s.spare adds.node adds.node_among in
+    two_among s.spare adds.directory adds.node adds.among node.0 (λ e. node.1 (sym e))
+
+-- ---- what a put of a present key takes
+
+pub takes_none : (s u : Space) (a v : ℕ) → u ≡ written a v s → TakesBlocks 0 s u
+takes_none s u a v is = record {
+  blocks = [];
+  many = refl;
+  took = (ap (λ (t : Space). t.land) is, ap (λ (t : Space). t.spare) is);
 }

@@ -122,6 +122,15 @@ ascending-without_key key (p ∷ ps) h = step (key == p.0) (ascending-without_ke
     step true again = h.1
     step false again = (after_without p.0 key ps h.0, again)
 
+pub without_absent : (key : ℕ) (m : FiniteMap) → lookup key m ≡ None → without_key key m ≡ m
+without_absent key [] h = refl
+without_absent key (p ∷ ps) h = step (key == p.0) h (without_absent key ps)
+  where
+    step : (t : Bool) → (if t then Some p.1 else lookup key ps) ≡ None → (lookup key ps ≡ None → without_key key ps ≡ ps)
+        → (if t then ps else p ∷ without_key key ps) ≡ p ∷ ps
+    step true e again = absurd (let q = e in cc)
+    step false e again = ap (λ qs. p ∷ qs) (again e)
+
 -- ---- the nodes of a chain
 
 pub lookup_passed : (key : ℕ) (front rest : List Node) → HasNotKey key front → lookup key (pairs (front ++ rest)) ≡ lookup key (pairs rest)

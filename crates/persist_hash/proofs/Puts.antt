@@ -13,6 +13,7 @@ use Rattle.region_layout.specs.HashMap.{Node, Chains, CHAINS, IsChain, EachNode,
 use Rattle.persist_hash.specs.Chains.{HasNotKey, IsPlaceOf, put_chain, link_behind}
 use Rattle.persist_hash.specs.Calls.{Holds, needed, TakesBlocks}
 use Rattle.persist_hash.specs.Adding.{linked, AddsNode, link_to, OpensChain, AddsDirectory}
+use Rattle.persist_hash.proofs.Adding.{among_kept}
 use Rattle.persist_hash.proofs.Lists.{decide, among_left, among_right, among_either, once_left, once_right, once_apart}
 use Rattle.persist_hash.proofs.ChainLaws.{each_joined, each_left, each_right, blocks-append, keys-append, blocks_apart, chain_kept, chain_behind, chain_relinked, link_in}
 use Rattle.persist_hash.proofs.Blocks.{IsPlaced, placed_of, of_placed}
@@ -125,7 +126,7 @@ absent_key s root key chains directory link node h place none =
     (each_joined (λ n. key ≢ n.key) place.front place.rest place.passed (subst (HasNotKey key) (sym empty) tt))
 
 -- the entries with the pair are those of the changed chain
-entries_put : (s : Space) (root key value : ℕ) (contents : FiniteMap) (holds : Holds s root contents) (u : Space) (ns : List Node)
+pub entries_put : (s : Space) (root key value : ℕ) (contents : FiniteMap) (holds : Holds s root contents) (u : Space) (ns : List Node)
     → IsHash u.land u.word root (put_chain (chain_number key) ns holds.chains)
     → ((k : ℕ) → lookup k (pairs ns) ≡ changed_at key (Some value) k (lookup k (pairs (holds.chains (chain_number key))))) → Holds u root (with_pair key value contents)
 entries_put s root key value contents holds u ns is look = record {
@@ -311,16 +312,6 @@ new_chain s u root key value directory node own block fresh node_block node_fres
         let q = index_below (chain_number key) (chain_below key) in
         blocks_apart (with_block directory s.land) directory root j (1 + chain_number key / 8) (own_new s.land directory block) (own_more s.land directory root own)
         (λ f. fresh (subst (IsOwn s.land) (sym f) own)) lt (omega (arith, q)) (e ∙ place)
-
-among_kept : (b : ℕ) (xs : List ℕ) (x : ℕ) → IsAmong (filter (is_not b) xs) x → IsAmong xs x × (x ≢ b)
-among_kept b [] x h = absurd h
-among_kept b (y ∷ ys) x h = step (y == b) (eqb_tells y b) h (among_kept b ys x)
-  where
-    step : (t : Bool) → ((t ≡ true) × (y ≡ b)) ⊎ ((t ≡ false) × (y ≢ b)) → IsAmong (if not t then y ∷ filter (is_not b) ys else filter (is_not b) ys) x
-        → (IsAmong (filter (is_not b) ys) x → IsAmong ys x × (x ≢ b)) → IsAmong (y ∷ ys) x × (x ≢ b)
-    step true tells k again = (inr (again k).0, (again k).1)
-    step false tells (inl e) again = (inl e, ⊎_elim (λ same. absurd (let q = same.0 in cc)) (λ other. λ f. other.1 (sym e ∙ f)) tells)
-    step false tells (inr k) again = (inr (again k).0, (again k).1)
 
 -- a new node in a chain that had no directory block
 pub holds_opened : (s u : Space) (root key value : ℕ) (contents : FiniteMap) (holds : Holds s root contents) (directory link node index place : ℕ)

@@ -3,18 +3,20 @@ use Rattle.std.proofs.Common.{◌≡◌, ◌≢◌, ◌⊎◌, inl, inr, ⊎_eli
 use Rattle.std.proofs.lemmas.Bool.Decides.{nat_tests, eqb_tells}
 use Rattle.persist_model.specs.Region.{Words}
 use Rattle.persist_model.specs.Records.{IsAmong}
-use Rattle.persist_model.specs.Chain.{HasNoRepeats}
+use Rattle.persist_model.specs.Chain.{HasNoRepeats, IsAbsent}
 use Rattle.lane_traits.specs.Space.{Land, Space, IsBlock, IsOwn, IsDataWord, with_owner, put_word, given, written}
 use Rattle.lane_traits.proofs.Writes.{put_same, put_other}
 use Rattle.region_layout.specs.FiniteMap.{FiniteMap, lookup, with_pair, without_key}
 use Rattle.region_layout.specs.HashMap.{Node, Chains, CHAINS, IsChain, EachNode, IsHash, blocks, keys, pairs, chain_number, directory_of, chain_word, first_link}
 use Rattle.persist_hash.specs.Chains.{HasNotKey, IsPlaceOf, put_chain, link_behind}
 use Rattle.persist_hash.specs.Calls.{Holds, GivesBlock}
-use Rattle.persist_hash.proofs.Lists.{decide, among_left, among_right, among_either, among_more, among_here, among_fewer, once_left, once_apart, once_fewer}
+use Rattle.persist_hash.proofs.Lists.{decide, among_left, among_right, among_either, among_more, among_here, among_fewer, once_left, once_right, once_apart, once_fewer}
 use Rattle.persist_hash.proofs.ChainLaws.{each_joined, each_left, each_right, blocks-append, keys-append, blocks_apart, chain_kept, chain_behind, chain_relinked, link_in}
 use Rattle.persist_hash.proofs.Blocks.{IsPlaced, placed_of, of_placed}
 use Rattle.persist_hash.proofs.Changing.{ChangesChain, changed}
-use Rattle.persist_hash.proofs.Places.{HasNode, node_there, chain_below, index_below, first_is}
+use Rattle.persist_hash.proofs.Places.{HasNode, node_there, chain_below, index_below, first_is, slot_held}
+use Rattle.persist_hash.proofs.Searching.{data_word}
+use Rattle.persist_hash.proofs.Puts.{entries_put}
 use Rattle.persist_hash.proofs.Entries.{lookup_changed, lookup-with_pair, lookup-without_key, lookup_replaced, lookup_removed, ascending-with_pair, ascending-without_key, changed_at}
 
 -- a node of a chain, with what stands before it and behind it
@@ -164,9 +166,6 @@ replaced land w root chains c front more n value h filled = changed land w root 
     more_apart : IsAmong (blocks more) n.block → ⊥
     more_apart k = (once_fewer (blocks front) (blocks more) n.block (once_parts land w root chains c front more n h)).1 (among_right (blocks front) (blocks more) n.block k)
 
-    front_apart : IsAmong (blocks front) n.block → ⊥
-    front_apart k = (once_fewer (blocks front) (blocks more) n.block (once_parts land w root chains c front more n h)).1 (among_left (blocks front) (blocks more) n.block k)
-
     front_kept : (b i : ℕ) → IsAmong (blocks front) b → i < 16 → put_word (n.block + 2) value w (b + i) ≡ w (b + i)
     front_kept b i k small = put_other (n.block + 2) value (b + i) w
         (blocks_apart land b n.block i 2 (own_part land w root chains c front more n h b (among_left (blocks front) (n.block ∷ blocks more) b k))
@@ -261,3 +260,97 @@ removed land w root chains c front more n h = changed land w root chains c (with
 
     joined : (b : ℕ) → IsAmong (blocks (front ++ more)) b → IsAmong (blocks front ++ blocks more) b
     joined b k = subst (λ xs. IsAmong xs b) (blocks-append front more) k
+
+-- ---- the calls
+
+parts_at : (s : Space) (root key : ℕ) (chains : Chains) (directory link node : ℕ) (h : IsHash s.land s.word root chains)
+    → (place : IsPlaceOf s root key (chains (chain_number key)) directory link node) → (at : HasNode s root key place.front place.rest link node)
+    → AreParts s.land s.word root chains (chain_number key) place.front at.more at.first
+parts_at s root key chains directory link node h place at = record {
+  placed = placed_of s.land s.word root chains h;
+  below = chain_below key;
+  some = at.directory;
+  parts = place.parts ∙ ap (λ ms. place.front ++ ms) at.is;
+}
+
+passed_first : (key : ℕ) (front : List Node) (n : Node) → n.key ≡ key → HasNotKey key front → HasNotKey n.key front
+passed_first key front n e h = subst (λ k. HasNotKey k front) (sym e) h
+
+-- the node of the key has this value then
+pub holds_replaced : (s : Space) (root key value : ℕ) (contents : FiniteMap) (holds : Holds s root contents) (directory link node : ℕ)
+    → IsPlaceOf s root key (holds.chains (chain_number key)) directory link node → node ≢ 0 → 1 ≤ value
+    → Holds (written (node + 2) value s) root (with_pair key value contents)
+holds_replaced s root key value contents holds directory link node place some filled =
+    let c = chain_number key in
+    let at = node_there s root key holds.chains directory link node holds.is place some in
+    let n = at.first in
+    let parts = parts_at s root key holds.chains directory link node holds.is place at in
+    let is = replaced s.land s.word root holds.chains c place.front at.more n value parts filled in
+    subst (λ b. Holds (written (b + 2) value s) root (with_pair key value contents)) (sym at.block)
+    (entries_put s root key value contents holds (written (n.block + 2) value s) (place.front ++ with_value value n ∷ at.more)
+        (of_placed s.land (put_word (n.block + 2) value s.word) root (put_chain c (place.front ++ with_value value n ∷ at.more) holds.chains) is)
+        (λ k. lookup_replaced k place.front at.more n (with_value value n) (passed_first key place.front n at.key_is place.passed) refl
+            ∙ ap (λ x. changed_at x (Some value) k (lookup k (pairs (place.front ++ n ∷ at.more)))) at.key_is
+            ∙ ap (λ ms. changed_at key (Some value) k (lookup k (pairs ms))) (sym parts.parts)))
+
+absent_keys : (key : ℕ) (ns : List Node) → IsAbsent key (keys ns) → HasNotKey key ns
+absent_keys key [] h = tt
+absent_keys key (n ∷ ns) h = (h.0, absent_keys key ns h.1)
+
+not_behind : (land : Land) (w : Words) (root : ℕ) (chains : Chains) (c : ℕ) (front more : List Node) (n : Node) → AreParts land w root chains c front more n → HasNotKey n.key more
+not_behind land w root chains c front more n h =
+    let once = subst (λ xs. HasNoRepeats xs) (ap keys h.parts ∙ keys-append front (n ∷ more)) (h.placed.keys_once c h.below) in
+    absent_keys n.key more (once_right (keys front) (n.key ∷ keys more) once).0
+
+pub holds_removed : (s : Space) (root key : ℕ) (contents : FiniteMap) (holds : Holds s root contents) (directory link node : ℕ)
+    → IsPlaceOf s root key (holds.chains (chain_number key)) directory link node → node ≢ 0
+    → Holds (given node (written link (s.word (node + 3)) s)) root (without_key key contents)
+holds_removed s root key contents holds directory link node place some =
+    let c = chain_number key in
+    let at = node_there s root key holds.chains directory link node holds.is place some in
+    let n = at.first in
+    let parts = parts_at s root key holds.chains directory link node holds.is place at in
+    let is = removed s.land s.word root holds.chains c place.front at.more n parts in
+    let there : directory ≢ 0 = (λ z. at.directory (sym place.directory_is ∙ z)) in
+    let link_at : link ≡ link_behind (slot_of s.word root c) place.front =
+        place.link_is there ∙ ap (λ x. link_behind (chain_word x c) place.front) place.directory_is in
+    let u : Space = given n.block (written (link_behind (slot_of s.word root c) place.front) (s.word (n.block + 3)) s) in
+    subst (λ b. Holds (given b (written link (s.word (b + 3)) s)) root (without_key key contents)) (sym at.block)
+    (subst (λ l. Holds (given n.block (written l (s.word (n.block + 3)) s)) root (without_key key contents)) (sym link_at)
+        (record {
+          chains = put_chain c (place.front ++ at.more) holds.chains;
+          is = of_placed u.land u.word root (put_chain c (place.front ++ at.more) holds.chains) is;
+          ascending = ascending-without_key key contents holds.ascending;
+          lookup_is = lookup_changed key None contents (without_key key contents) (place.front ++ at.more) holds.chains holds.lookup_is
+              (λ k. lookup-without_key k key contents holds.ascending)
+              (λ k. lookup_removed k place.front at.more n (passed_first key place.front n at.key_is place.passed)
+                  (not_behind s.land s.word root holds.chains c place.front at.more n parts)
+                  ∙ ap (λ x. changed_at x None k (lookup k (pairs (place.front ++ n ∷ at.more)))) at.key_is
+                  ∙ ap (λ ms. changed_at key None k (lookup k (pairs ms))) (sym parts.parts));
+        }))
+
+-- the link to a node is a data word
+pub link_held : (s : Space) (root key : ℕ) (chains : Chains) (directory link node : ℕ) → IsHash s.land s.word root chains
+    → IsPlaceOf s root key (chains (chain_number key)) directory link node → node ≢ 0 → IsDataWord s.land link
+link_held s root key chains directory link node h place some =
+    let c = chain_number key in
+    let at = node_there s root key chains directory link node h place some in
+    let parts = parts_at s root key chains directory link node h place at in
+    let there : directory ≢ 0 = (λ z. at.directory (sym place.directory_is ∙ z)) in
+    let link_at : link ≡ link_behind (slot_of s.word root c) place.front =
+        place.link_is there ∙ ap (λ x. link_behind (chain_word x c) place.front) place.directory_is in
+    subst (IsDataWord s.land) (sym link_at) (⊎_elim
+        (λ first. subst (IsDataWord s.land) (sym first)
+            (slot_held s.land (directory_of s.word root c) c (parts.placed.own_directory (c / 8) (index_below c (chain_below key)) at.directory)))
+        (λ behind. subst (IsDataWord s.land) (sym behind.2)
+            (data_word s.land behind.0 3 (own_part s.land s.word root chains c place.front at.more at.first parts behind.0
+                (among_left (blocks place.front) (at.first.block ∷ blocks at.more) behind.0 behind.1)) (omega arith) (omega arith)))
+        (link_where (slot_of s.word root c) place.front))
+
+pub gives_one : (s u : Space) (node link x : ℕ) → IsOwn s.land node → u ≡ given node (written link x s) → GivesBlock s u
+gives_one s u node link x own is = record {
+  block = node;
+  own = own;
+  land = ap (λ (v : Space). v.land) is;
+  spare = ap (λ (v : Space). v.spare) is;
+}

@@ -4,6 +4,10 @@
 mod add;
 mod fields;
 mod lookup;
+mod insertion;
+mod removal;
 mod search;
 
 pub use lookup::{get, needs};
+pub use insertion::put;
+pub use removal::remove;

@@ -1,0 +1,60 @@
+use Rattle.std.proofs.Common.{◌≡◌, ◌≢◌, ◌+◌, Some, refl, sym, ◌∙◌, ap, subst, arith}
+use Rattle.lane_traits.specs.Space.{Space, IsOwn, IsDataWord, written, given}
+use Rattle.region_layout.specs.FiniteMap.{FiniteMap, lookup, without_key}
+use Rattle.persist_hash.specs.Calls.{Holds, GivesBlock}
+use Rattle.persist_hash.proofs.Places.{has_hash, none_of, some_of, place_own}
+use Rattle.persist_hash.proofs.Entries.{without_absent}
+use Rattle.persist_hash.proofs.Removals.{holds_removed, link_held, gives_one}
+use Rattle.persist_hash.proofs.removal.remove.Goals as goal
+
+pub place_of-place-requires : goal.place_of-place-requires
+place_of-place-requires g c = has_hash (g.W.Reads.space c.args.words.now) c.args.root c.requires
+
+pub returns-then-place-eq0-clause-before : goal.returns-then-place-eq0-clause-before
+returns-then-place-eq0-clause-before g c = λ contents holds.
+    none_of (g.W.Reads.space c.args.words.now) c.args.root c.args.key contents holds _ _ _
+    (c.place_of-place.ensures.place holds.chains holds.is) c.if-place-eq0.true
+
+pub returns-then-place-eq0-clause-contents : goal.returns-then-place-eq0-clause-contents
+returns-then-place-eq0-clause-contents g c = λ contents holds.
+    let none = none_of (g.W.Reads.space c.args.words.now) c.args.root c.args.key contents holds _ _ _
+        (c.place_of-place.ensures.place holds.chains holds.is) c.if-place-eq0.true in
+    subst (λ (u : Space). Holds u c.args.root (without_key c.args.key contents)) (sym c.place_of-place.ensures.same)
+    (subst (λ (m : FiniteMap). Holds (g.W.Reads.space c.args.words.now) c.args.root m) (sym (without_absent c.args.key contents (sym none))) holds)
+
+pub unlink-requires-clause-own : goal.unlink-requires-clause-own
+unlink-requires-clause-own g c =
+    let holds = c.requires.holds in
+    subst (λ (u : Space). IsOwn u.land c.place_of-place.result.node) (sym c.place_of-place.ensures.same)
+    (place_own (g.W.Reads.space c.args.words.now) c.args.root c.args.key holds.chains _ _ _ holds.is
+    (c.place_of-place.ensures.place holds.chains holds.is) c.if-place-eq0.false)
+
+pub unlink-requires-clause-held : goal.unlink-requires-clause-held
+unlink-requires-clause-held g c =
+    let holds = c.requires.holds in
+    subst (λ (u : Space). IsDataWord u.land c.place_of-place.result.link) (sym c.place_of-place.ensures.same)
+    (link_held (g.W.Reads.space c.args.words.now) c.args.root c.args.key holds.chains _ _ _ holds.is
+    (c.place_of-place.ensures.place holds.chains holds.is) c.if-place-eq0.false)
+
+pub returns-clause-before : goal.returns-clause-before
+returns-clause-before g c = λ contents holds.
+    ap Some (c.in_ok-before.ensures.before ∙ ap (λ (u : Space). u.word (c.place_of-place.result.node + 2)) c.place_of-place.ensures.same)
+    ∙ some_of (g.W.Reads.space c.args.words.now) c.args.root c.args.key contents holds _ _ _
+    (c.place_of-place.ensures.place holds.chains holds.is) c.if-place-eq0.false
+
+pub returns-clause-contents : goal.returns-clause-contents
+returns-clause-contents g c = λ contents holds.
+    let place = c.place_of-place.result in
+    subst (λ (u : Space). Holds u c.args.root (without_key c.args.key contents))
+    (sym (c.in_ok-before.ensures.unlinked ∙ ap (λ (u : Space). given place.node (written place.link (u.word (place.node + 3)) u)) c.place_of-place.ensures.same))
+    (holds_removed (g.W.Reads.space c.args.words.now) c.args.root c.args.key contents holds _ _ _
+    (c.place_of-place.ensures.place holds.chains holds.is) c.if-place-eq0.false)
+
+pub returns-clause-gives : goal.returns-clause-gives
+returns-clause-gives g c =
+    let place = c.place_of-place.result in
+    let holds = c.requires.holds in
+    let s = g.W.Reads.space c.args.words.now in
+    gives_one s (g.W.Reads.space c.unlink.new.words) place.node place.link (s.word (place.node + 3))
+    (place_own s c.args.root c.args.key holds.chains _ _ _ holds.is (c.place_of-place.ensures.place holds.chains holds.is) c.if-place-eq0.false)
+    (c.in_ok-before.ensures.unlinked ∙ ap (λ (u : Space). given place.node (written place.link (u.word (place.node + 3)) u)) c.place_of-place.ensures.same)
