@@ -6,10 +6,8 @@ use Rattle.persist_model.specs.Standing.{IsToUndo, IsToDelete, IsToRedo, IsEarli
 use Rattle.persist_model.specs.Order.{Bars, IsInOrder}
 use Rattle.log_laws.proofs.Deciding.{has_or_none, decide_equal, decide_less, decide_to_undo}
 use Rattle.log_laws.proofs.Growing.{IsAbove, has_on, has_back, word_is_one's}
-use Rattle.log_laws.proofs.Undoing.{IsGood, IsChangeBy, lesser_before}
-
-abbrev pub IsDeletionBy : ℕ → ℕ → Record → Type 0
-IsDeletionBy t a r = IsDeletion r × (r.word ≡ a) × (r.transaction ≡ t)
+use Rattle.log_laws.specs.Moves.{IsDeletionBy, IsChangeBy}
+use Rattle.log_laws.proofs.Undoing.{IsGood, lesser_before}
 
 -- the end of a commit of t
 pub record IsCommitEnd (t : ℕ) (log : Log) (e : Record) : Type 0 where

@@ -49,7 +49,7 @@ word_is_one's part log f r s m k nr ns e br bs apart = elim (one_before part log
 ]
 
 -- what bars with a new record barred before
-bars_before : (r : Record) (log : Log) → (IsEnd r → IsRunning log r.transaction) → (s : Record) → Bars (r ∷ log) s → Bars log s
+pub bars_before : (r : Record) (log : Log) → (IsEnd r → IsRunning log r.transaction) → (s : Record) → Bars (r ∷ log) s → Bars log s
 bars_before r log end s (inl k) = inl (k.0, λ e m p. k.1 e (inr m) p)
 bars_before r log end s (inr k) = elim k.1.1 [
   | inl e ↦ inl (inr k.0, subst (λ t. IsRunning log t) (ap (λ (x : Record). x.transaction) (sym e) ∙ k.1.2.0.1) (end (ap (λ (x : Record). x.kind) (sym e) ∙ k.1.2.0.0)))

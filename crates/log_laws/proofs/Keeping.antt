@@ -26,7 +26,7 @@ pub good_of : (shape : Shape) (s : State) → IsSoundState shape s → IsGood (p
 good_of shape s h = record { order = h.order; falls = descends_of (part_of shape) s.log s.log h.order h.newest_first; nonzero = h.gates }
 
 -- a running transaction leaves the log open
-loser_open : (log : Log) (t : ℕ) → IsLoser log t → HasOpen log
+pub loser_open : (log : Log) (t : ℕ) → IsLoser log t → HasOpen log
 loser_open log t h = (h.0.0, h.0.1, (h.0.2.1, λ k. h.1 k.0 k.1 (k.2.0.0, k.2.0.1 ∙ h.0.2.0)))
 
 -- ---- a record of a running transaction
@@ -85,7 +85,7 @@ need_checkpoint c log is t =
     let four : (c.kind == 4) ≡ false = grind (arith, nat_tests) in
     elim (eqb_tells c.transaction t) [ inl own ↦ (rw (own.0, one, two, three, four) refl) | inr other ↦ (rw other.0 refl) ]
 
-need_in_checkpoint : (part : ℕ → ℕ) (p : ℕ) (c : Record) (log : Log) → IsCheckpoint c → need_in part p (c ∷ log) ≡ need_in part p log
+pub need_in_checkpoint : (part : ℕ → ℕ) (p : ℕ) (c : Record) (log : Log) → IsCheckpoint c → need_in part p (c ∷ log) ≡ need_in part p log
 need_in_checkpoint part p c log is =
     let five : (c.kind == 5) ≡ true = grind (arith, nat_tests) in
     let first : counted part p (need_of (c ∷ log)) c log ≡ 0 = rw five refl in
@@ -144,7 +144,7 @@ newest_first_part P _ _ empty n = n
 newest_first_part P _ _ (goes r p part) n = newest_first_part P _ _ part n.1
 newest_first_part P _ _ (stays r {later = later} {log = log} part) n = (λ s m. n.0 s (part_among P later log part s m), newest_first_part P later log part n.1)
 
-closing_sound : (shape : Shape) (s : State) (later : Log) (room : ℕ → ℕ) → IsSoundState shape s → IsClosing shape.policy s.log s.words later → ((p : ℕ) → s.room p ≤ room p) →
+pub closing_sound : (shape : Shape) (s : State) (later : Log) (room : ℕ → ℕ) → IsSoundState shape s → IsClosing shape.policy s.log s.words later → ((p : ℕ) → s.room p ≤ room p) →
     IsSoundState shape (record { log = later; words = s.words; room = room })
 closing_sound shape s later room h c more = record {
   newest_first = newest_first_part _ later s.log c.part h.newest_first;

@@ -16,3 +16,6 @@ pub mod Parts
 pub mod Passes
 pub mod Finishing
 pub mod Committing
+pub mod Moving
+pub mod MoveNeeds
+pub mod MoveRooms

@@ -8,7 +8,7 @@ use Rattle.persist_model.specs.State.{total_need}
 
 -- ---- one transaction's need
 
-kind_test : (t k : ℕ) (r : Record) → r.transaction ≡ t → (j : ℕ) → r.kind ≡ j → (r.transaction == t) && (r.kind == k) ≡ (j == k)
+pub kind_test : (t k : ℕ) (r : Record) → r.transaction ≡ t → (j : ℕ) → r.kind ≡ j → (r.transaction == t) && (r.kind == k) ≡ (j == k)
 kind_test t k r owner j is = rw (owner, is) (let on : (t == t) ≡ true = grind (arith, nat_tests) in rw on refl)
 
 pub need_other : (t : ℕ) (r : Record) (log : Log) → r.transaction ≢ t → need_of (r ∷ log) t ≡ need_of log t
@@ -67,7 +67,7 @@ counted_same part p f g t r earlier same (inr ne) =
     ap (λ x. if not (r.kind == 5) && (not (has_of r.transaction earlier) && (part r.at == p)) then x else 0) (same r.transaction ne)
 
 -- where t has no record its number doesn't count
-sum_same : (part : ℕ → ℕ) (p : ℕ) (f g : ℕ → ℕ) (t : ℕ) (log : Log) → ((x : ℕ) → x ≢ t → f x ≡ g x) → has_of t log ≡ false →
+pub sum_same : (part : ℕ → ℕ) (p : ℕ) (f g : ℕ → ℕ) (t : ℕ) (log : Log) → ((x : ℕ) → x ≢ t → f x ≡ g x) → has_of t log ≡ false →
     sum_over part p f log ≡ sum_over part p g log
 sum_same part p f g t [] same none = refl
 sum_same part p f g t (r ∷ log) same none =
@@ -77,23 +77,23 @@ sum_same part p f g t (r ∷ log) same none =
     omega (arith, first, others)
 
 -- not the earliest of its transaction: it adds nothing
-counted_later : (part : ℕ → ℕ) (p : ℕ) (f : ℕ → ℕ) (r : Record) (earlier : Log) → has_of r.transaction earlier ≡ true → counted part p f r earlier ≡ 0
+pub counted_later : (part : ℕ → ℕ) (p : ℕ) (f : ℕ → ℕ) (r : Record) (earlier : Log) → has_of r.transaction earlier ≡ true → counted part p f r earlier ≡ 0
 counted_later part p f r earlier later = elim (eqb_tells r.kind 5) [
   | inl five ↦ (rw five.0 refl)
   | inr ne ↦ (rw (ne.0, later) refl)
 ]
 
-counted_first : (part : ℕ → ℕ) (p : ℕ) (f : ℕ → ℕ) (r : Record) (earlier : Log) → (r.kind == 5) ≡ false → has_of r.transaction earlier ≡ false → part r.at ≡ p →
+pub counted_first : (part : ℕ → ℕ) (p : ℕ) (f : ℕ → ℕ) (r : Record) (earlier : Log) → (r.kind == 5) ≡ false → has_of r.transaction earlier ≡ false → part r.at ≡ p →
     counted part p f r earlier ≡ f r.transaction
 counted_first part p f r earlier ne first inside = let on : (part r.at == p) ≡ true = grind (arith, nat_tests) in rw (ne, first, on) refl
 
--- where t's number falls by one, so does the sum of its part
-pub sum_less : (part : ℕ → ℕ) (p : ℕ) (f g : ℕ → ℕ) (t : ℕ) (log : Log) → ((x : ℕ) → x ≢ t → f x ≡ g x) → f t + 1 ≡ g t → has_of t log ≡ true →
-    ((r : Record) → IsAmong log r → IsOf t r → part r.at ≡ p) → sum_over part p f log + 1 ≡ sum_over part p g log
-sum_less part p f g t [] same less some inside = cc
-sum_less part p f g t (r ∷ log) same less some inside = elim (or_true (is_of t r) (has_of t log) some) [
+-- where t's number falls by d, so does the sum of its part
+pub sum_moved : (part : ℕ → ℕ) (p d : ℕ) (f g : ℕ → ℕ) (t : ℕ) (log : Log) → ((x : ℕ) → x ≢ t → f x ≡ g x) → f t + d ≡ g t → has_of t log ≡ true →
+    ((r : Record) → IsAmong log r → IsOf t r → part r.at ≡ p) → sum_over part p f log + d ≡ sum_over part p g log
+sum_moved part p d f g t [] same less some inside = cc
+sum_moved part p d f g t (r ∷ log) same less some inside = elim (or_true (is_of t r) (has_of t log) some) [
   | inl later ↦ (
-      let others = sum_less part p f g t log same less later (λ s m. inside s (inr m)) in
+      let others = sum_moved part p d f g t log same less later (λ s m. inside s (inr m)) in
       let first : counted part p f r log ≡ counted part p g r log = elim (of_test t r) [
         | inl h ↦ (let k : has_of r.transaction log ≡ true = rw h.1.0 later in counted_later part p f r log k ∙ sym (counted_later part p g r log k))
         | inr h ↦ counted_same part p f g t r log same h.1
@@ -110,6 +110,11 @@ sum_less part p f g t (r ∷ log) same less some inside = elim (or_true (is_of t
         omega (arith, cf, cg, others, less))
   ]
 ]
+
+-- where it falls by one, so does the sum
+pub sum_less : (part : ℕ → ℕ) (p : ℕ) (f g : ℕ → ℕ) (t : ℕ) (log : Log) → ((x : ℕ) → x ≢ t → f x ≡ g x) → f t + 1 ≡ g t → has_of t log ≡ true →
+    ((r : Record) → IsAmong log r → IsOf t r → part r.at ≡ p) → sum_over part p f log + 1 ≡ sum_over part p g log
+sum_less part p f g t log same less some inside = sum_moved part p 1 f g t log same less some inside
 
 -- and the sum of another part stays
 pub sum_elsewhere : (part : ℕ → ℕ) (p q : ℕ) (f g : ℕ → ℕ) (t : ℕ) (log : Log) → ((x : ℕ) → x ≢ t → f x ≡ g x) → p ≢ q →

@@ -6,6 +6,7 @@ use Rattle.persist_model.specs.Records.{Record, Log, IsAmong, Has, HasNo, IsComp
 use Rattle.persist_model.specs.Standing.{IsToUndo, IsToDelete, IsToRedo, IsEarliest, IsLatest, Stands, undone, deleted, redone, kept}
 use Rattle.persist_model.specs.Order.{last_new, IsNextToUndo, Compensates, Bars, Follows, FollowEach, IsInOrder}
 use Rattle.log_laws.specs.Closing.{IsApplied}
+use Rattle.log_laws.specs.Moves.{IsChangeBy}
 use Rattle.persist_model.specs.Need.{to_undo}
 use Rattle.log_laws.proofs.Standings.{latest_some}
 use Rattle.log_laws.proofs.Deciding.{has_or_none, decide_to_redo, decide_equal, decide_less, IsDecided}
@@ -18,7 +19,7 @@ use Rattle.log_laws.proofs.Stacks.{first_old, top_new, first_old_is, IsUpdateBy,
 abbrev pub IsInPart : (ℕ → ℕ) → Log → Record → Type 0
 IsInPart part log r = (s : Record) → IsAmong log s → IsOf r.transaction s → part s.at ≡ part r.at
 
-fresh_above : (r : Record) (log : Log) → IsAbove r log → HasNo (λ s. s.lsn ≡ r.lsn) log
+pub fresh_above : (r : Record) (log : Log) → IsAbove r log → HasNo (λ s. s.lsn ≡ r.lsn) log
 fresh_above r log above s m e = let lt = above s m in absurd (omega (arith, lt, e))
 
 pub rollback_follows : (part : ℕ → ℕ) (log : Log) (r : Record) → IsRollback r → IsRunning log r.transaction → IsAbove r log → IsInPart part log r →
@@ -97,10 +98,6 @@ compensated_word part all (x ∷ log) t running f s (inl e) is owner =
     let well = follows.undo (λ five. absurd (omega (arith, is, five))) (subst (λ y. IsRunning all y) (sym owner) running) in
     let c = well.compensates is in
     (c.0, inr c.1.among, (c.1.update, sym c.2.word, c.1.owner ∙ owner))
-
--- t's last change of a has its last NEW
-abbrev pub IsChangeBy : ℕ → ℕ → Record → Type 0
-IsChangeBy t a r = IsChange r × (r.word ≡ a) × (r.transaction ≡ t)
 
 pub last_new_is : (t a d : ℕ) (log : Log) (r : Record) → Descends log → IsLatest (IsChangeBy t a) log r → last_new t a d log ≡ r.after
 last_new_is t a d [] r falls h = absurd h.among
@@ -333,9 +330,9 @@ stands_ended part policy t log w e good un h a v s = elim (has_or_none (IsUpdate
     own (kept none nd nr is) x m k = absurd (none x m (to_undo_mine x k))
 
 -- A checkpoint record keeps standing values where each word has its own, or is to be undone.
-pub stands_checkpointed : (policy : ℕ) (log : Log) (w : Words) (c : Record) → IsCheckpoint c → IsAbove c log →
-    ((a : ℕ) → Has (IsToUndo log a) log ⊎ IsApplied policy log w a) → (a v : ℕ) → Stands policy log w a v → Stands policy (c ∷ log) w a v
-stands_checkpointed policy log w c is above applied a v s = cases s
+pub stands_swept : (policy : ℕ) (log : Log) (w : Words) (c : Record) → IsCheckpoint c → IsAbove c log →
+    ((a : ℕ) → HasNo (IsToUndo log a) log → HasNo (IsToDelete log a) log → IsApplied policy log w a) → (a v : ℕ) → Stands policy log w a v → Stands policy (c ∷ log) w a v
+stands_swept policy log w c is above applied a v s = cases s
   where
     running_on : (t : ℕ) → IsRunning log t → IsRunning (c ∷ log) t
     running_on t running x (inl same) end = kind_is_not c x 5 4 same is (omega arith) end.0
@@ -356,8 +353,8 @@ stands_checkpointed policy log w c is above applied a v s = cases s
     no_redo x m k = let y = has_back _ c log (λ p. absurd (omega (arith, is, p.0))) k.3 in
         k.4 (y.0, inr y.1, (y.2, (c, inl refl, (is, above y.0 y.1))))
 
-    value : HasNo (IsToUndo log a) log → v ≡ w a
-    value none = elim (applied a) [ inl u ↦ absurd (none u.0 u.1 u.2) | inr same ↦ same v s ]
+    value : HasNo (IsToUndo log a) log → HasNo (IsToDelete log a) log → v ≡ w a
+    value nu nd = applied a nu nd v s
 
     cases : Stands policy log w a v → Stands policy (c ∷ log) w a v
     cases (undone u first e) = undone u (record {
@@ -366,8 +363,14 @@ stands_checkpointed policy log w c is above applied a v s = cases s
       first = λ x m k. let b = undo_back x m k in first.first x b.0 b.1;
     }) e
     cases (deleted none d e) = deleted (no_undo none) (d.0, inr d.1, (d.2.0, d.2.1, has_on _ c log d.2.2)) e
-    cases (redone nu nd r last e) = kept (no_undo nu) (no_delete nd) no_redo (value nu)
+    cases (redone nu nd r last e) = kept (no_undo nu) (no_delete nd) no_redo (value nu nd)
     cases (kept nu nd nr e) = kept (no_undo nu) (no_delete nd) no_redo e
+
+-- where each word has its standing value or is to be undone, a checkpoint record keeps standing values
+pub stands_checkpointed : (policy : ℕ) (log : Log) (w : Words) (c : Record) → IsCheckpoint c → IsAbove c log →
+    ((a : ℕ) → Has (IsToUndo log a) log ⊎ IsApplied policy log w a) → (a v : ℕ) → Stands policy log w a v → Stands policy (c ∷ log) w a v
+stands_checkpointed policy log w c is above applied a v s =
+    stands_swept policy log w c is above (λ b nu nd. elim (applied b) [ inl u ↦ absurd (nu u.0 u.1 u.2) | inr same ↦ same ]) a v s
 
 -- a word of an undone transaction has its standing value
 pub undone_value : (part : ℕ → ℕ) (policy t : ℕ) (log : Log) (w : Words) → IsGood part log → IsUndone t log w → (a v : ℕ) → Has (IsUpdateBy t a) log → Stands policy log w a v → v ≡ w a

@@ -2,6 +2,8 @@
 #![tactic(auto)]
 
 ghost use Rattle.log_laws.specs.Recovery.{RecoveryKeeps, RunsKeep, RecoveryEnds};
+ghost use Rattle.log_laws.specs.MoveRoom.{UpdateFits, DeletionFits, RollbackFits, CompensationFits, EndFits, CheckpointFits};
+ghost use Rattle.log_laws.specs.Moves.{MovesKeep, CommitsKeep};
 ghost use Rattle.log_laws.specs.Recovering.{EachImageKeeps, StoresGoOn, FencesGoOn};
 
 /// Each step of recovery keeps a sound state sound, with its standing values.
@@ -32,4 +34,44 @@ pub fn fences_go_on()
 /// From any sound state the steps of recovery lead to one without records, whose words are the standing ones.
 pub fn recovery_ends()
     ensures { RecoveryEnds }
+{}
+
+/// What the plan of a running transaction, a checkpoint or a clearing does keeps a sound state sound, with its standing values.
+pub fn moves_keep()
+    ensures { MovesKeep }
+{}
+
+/// The end of a commit keeps a sound state sound, with the transaction's words standing as it wrote them.
+pub fn commits_keep()
+    ensures { CommitsKeep }
+{}
+
+/// With two cells more than recovery needs, or four for the first record of a transaction, an update fits.
+pub fn update_fits()
+    ensures { UpdateFits }
+{}
+
+/// With one cell more than recovery needs, or three for the first record of a transaction, a deferred deletion fits.
+pub fn deletion_fits()
+    ensures { DeletionFits }
+{}
+
+/// A rollback record always fits: its cell was kept for it.
+pub fn rollback_fits()
+    ensures { RollbackFits }
+{}
+
+/// So does each compensation.
+pub fn compensation_fits()
+    ensures { CompensationFits }
+{}
+
+/// So does the end of a transaction.
+pub fn end_fits()
+    ensures { EndFits }
+{}
+
+/// With a cell more than recovery needs, and one for its own checkpoint record, a checkpoint record fits.
+pub fn checkpoint_fits()
+    ensures { CheckpointFits }
 {}

@@ -12,4 +12,6 @@ pub mod ImageRecords
 pub mod Need
 pub mod State
 pub mod Chain
+pub mod Visit
 pub mod Sound
+pub mod Faults

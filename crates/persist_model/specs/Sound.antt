@@ -1,12 +1,11 @@
--- A sound image, and the first fault of another.
-use Rattle.std.specs.Prelude.{◌≡◌, ◌≢◌, ◌⊎◌, ℕ, zero, suc, ◌+◌, ◌-◌, ◌*◌, ◌<◌, ◌≤◌, ◌==◌, if◌then◌else◌, List, ◌∷◌, ◌++◌, length}
+-- A sound image, and its standing words.
+use Rattle.std.specs.Prelude.{◌≡◌, ◌≢◌, ℕ, zero, suc, ◌+◌, ◌-◌, ◌*◌, ◌<◌, ◌==◌, if◌then◌else◌, List, length}
 use Rattle.persist_model.specs.Region.{Words}
-use Rattle.persist_model.specs.Records.{Record, Log, IsAmong}
-use Rattle.persist_model.specs.Order.{Follows}
-use Rattle.persist_model.specs.Shape.{Shape, FIRST_MAGIC, SECOND_MAGIC, shape_of, words_of_shape, IsBucketOf, count_buckets, part_of, list_words, log_words, heap_words, IsShape}
+use Rattle.persist_model.specs.Standing.{Stands}
+use Rattle.persist_model.specs.Shape.{Shape, shape_of, IsBucketOf, count_buckets, list_words, log_words, heap_words, IsShape}
 use Rattle.persist_model.specs.Chain.{view, last_or, ListRules}
-use Rattle.persist_model.specs.ImageRecords.{cell_address, AreRecords, IsWellFormed}
-use Rattle.persist_model.specs.State.{State, HasRoom, HasNumbers, IsSoundState}
+use Rattle.persist_model.specs.ImageRecords.{cell_address, AreRecords}
+use Rattle.persist_model.specs.State.{State, IsSoundState}
 
 -- all gates of the bucket at b are closed
 abbrev pub IsClosedBucket : Shape → Words → ℕ → Type 0
@@ -48,40 +47,6 @@ pub record IsSound (size : ℕ) (w : Words) : Type 0 where
   pub has : HasState (shape_of w) w state
   pub sound : IsSoundState (shape_of w) state
 
--- r is the oldest record that is bad by those behind it
-pub record IsFirstBad (Good : Log → Record → Type 0) (log : Log) (r : Record) : Type 0 where
-  pub newer : Log
-  pub earlier : Log
-  pub is : log ≡ newer ++ r ∷ earlier
-  pub bad : Good earlier r → ⊥
-  pub good : (before : Log) (s : Record) (behind : Log) → earlier ≡ before ++ s ∷ behind → Good behind s
-
--- a is the first of the words 3, 4, 5, 6, 13 and on that is out of its limits
-pub data IsFirstSize (w : Words) : ℕ → Type 0 where
-  buckets : ((4 ≤ w 3) × (w 3 ≤ 1024) → ⊥) → IsFirstSize w 3
-  blocks : (4 ≤ w 3) × (w 3 ≤ 1024) → ((16 ≤ w 4) × (w 4 ≤ 65536) → ⊥) → IsFirstSize w 4
-  structures : (4 ≤ w 3) × (w 3 ≤ 1024) → (16 ≤ w 4) × (w 4 ≤ 65536) → ((1 ≤ w 5) × (w 5 ≤ 8) → ⊥) → IsFirstSize w 5
-  partitions : (4 ≤ w 3) × (w 3 ≤ 1024) → (16 ≤ w 4) × (w 4 ≤ 65536) → (1 ≤ w 5) × (w 5 ≤ 8) → w 0 ≡ SECOND_MAGIC →
-      ((1 ≤ w 6) × (w 6 ≤ 3) × (4 * w 6 ≤ w 3) → ⊥) → IsFirstSize w 6
-  kind : (4 ≤ w 3) × (w 3 ≤ 1024) → (16 ≤ w 4) × (w 4 ≤ 65536) → (1 ≤ w 5) × (w 5 ≤ 8) → w 0 ≡ SECOND_MAGIC → (1 ≤ w 6) × (w 6 ≤ 3) × (4 * w 6 ≤ w 3) →
-      (s : ℕ) → s < w 5 → ((j : ℕ) → j < s → (1 ≤ w (13 + j)) × (w (13 + j) ≤ 3)) → ((1 ≤ w (13 + s)) × (w (13 + s) ≤ 3) → ⊥) → IsFirstSize w (13 + s)
-
--- rules 1 to 4
-pub data IsShapeFault (size : ℕ) (w : Words) : ℕ → ℕ → Type 0 where
-  magic : ((32 ≤ size) × ((w 0 ≡ FIRST_MAGIC) ⊎ (w 0 ≡ SECOND_MAGIC)) → ⊥) → IsShapeFault size w 1 0
-  policy : 32 ≤ size → (w 0 ≡ FIRST_MAGIC) ⊎ (w 0 ≡ SECOND_MAGIC) → ((w 1 ≡ 1) ⊎ (w 1 ≡ 2) → ⊥) → IsShapeFault size w 2 1
-  cells : 32 ≤ size → (w 0 ≡ FIRST_MAGIC) ⊎ (w 0 ≡ SECOND_MAGIC) → (w 1 ≡ 1) ⊎ (w 1 ≡ 2) → ((w 2 ≡ 1) ⊎ (w 2 ≡ 16) → ⊥) → IsShapeFault size w 3 2
-  sizes : 32 ≤ size → (w 0 ≡ FIRST_MAGIC) ⊎ (w 0 ≡ SECOND_MAGIC) → (w 1 ≡ 1) ⊎ (w 1 ≡ 2) → (w 2 ≡ 1) ⊎ (w 2 ≡ 16) →
-      (a : ℕ) → IsFirstSize w a → IsShapeFault size w 4 a
-  long : 32 ≤ size → (w 0 ≡ FIRST_MAGIC) ⊎ (w 0 ≡ SECOND_MAGIC) → (w 1 ≡ 1) ⊎ (w 1 ≡ 2) → (w 2 ≡ 1) ⊎ (w 2 ≡ 16) →
-      ((a : ℕ) → IsFirstSize w a → ⊥) → size ≢ words_of_shape (shape_of w) → IsShapeFault size w 4 0
-
--- rules 7 to 9, where the lists are sound: the gate of the oldest record that breaks the record rule, else the order rule;
--- else the TAIL of the first partition without room, else 9
-pub data IsLogFault (shape : Shape) (s : State) : ℕ → ℕ → Type 0 where
-  formed : (r : Record) → IsFirstBad (λ earlier x. IsWellFormed shape x) s.log r → IsLogFault shape s 7 r.at
-  order : ((r : Record) → IsAmong s.log r → IsWellFormed shape r) → (r : Record) → IsFirstBad (Follows (part_of shape) s.log) s.log r → IsLogFault shape s 8 r.at
-  room : ((r : Record) → IsAmong s.log r → IsWellFormed shape r) → ((r : Record) → IsFirstBad (Follows (part_of shape) s.log) s.log r → ⊥) →
-      (p : ℕ) → p < shape.partitions → (HasRoom shape s.log p (s.room p) → ⊥) → ((q : ℕ) → q < p → HasRoom shape s.log q (s.room q)) → IsLogFault shape s 9 (list_words p + 1)
-  numbers : ((r : Record) → IsAmong s.log r → IsWellFormed shape r) → ((r : Record) → IsFirstBad (Follows (part_of shape) s.log) s.log r → ⊥) →
-      ((q : ℕ) → q < shape.partitions → HasRoom shape s.log q (s.room q)) → (((r : Record) → IsAmong s.log r → HasNumbers shape s.log r) → ⊥) → IsLogFault shape s 9 9
+-- v is the standing value of the word a in this image
+abbrev pub StandsIn : Words → ℕ → ℕ → Type 0
+StandsIn w a v = (s : State) × HasState (shape_of w) w s × Stands (w 1) s.log s.words a v

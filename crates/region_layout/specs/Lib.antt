@@ -1,0 +1,4 @@
+pub mod Layout
+pub mod Apart
+pub mod Fresh
+pub mod Cell

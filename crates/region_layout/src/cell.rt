@@ -1,0 +1,54 @@
+//! The cells of records.
+ghost use Rattle.std.specs.Prelude.{◌≡◌, ◌+◌, ◌<◌, length, slice_index};
+ghost use Rattle.region_layout.specs.Cell.{cell_at, word_of_cell};
+
+use persist_model::Look;
+
+/// The words of a record, in order. A gate of 0 is a closed cell, another is the record's number.
+#[derive(Clone, Copy, Debug, PartialEq, Eq)]
+pub struct Cell {
+    pub gate: u64,
+    pub transaction: u64,
+    pub kind: u64,
+    pub address: u64,
+    pub before: u64,
+    pub after: u64,
+    pub undo_next: u64,
+    pub outcome: u64,
+}
+
+/// The cell whose gate stands at this address.
+pub fn read_cell<W: Look>(words: &W, at: u32) -> Cell
+    requires { at + 7 < length (W.words words.now) }
+    ensures { result ≡ cell_at (slice_index (W.words words.now)) at }
+{
+    let size = words.size();
+    prove!(at < size);
+    Cell {
+        gate: words.word(at),
+        transaction: words.word(at + 1),
+        kind: words.word(at + 2),
+        address: words.word(at + 3),
+        before: words.word(at + 4),
+        after: words.word(at + 5),
+        undo_next: words.word(at + 6),
+        outcome: words.word(at + 7),
+    }
+}
+
+/// Word i of the cell.
+pub fn cell_word(cell: &Cell, i: u32) -> u64
+    requires { i < 8 }
+    ensures { result ≡ word_of_cell cell.now i }
+{
+    match i {
+        0 => cell.gate,
+        1 => cell.transaction,
+        2 => cell.kind,
+        3 => cell.address,
+        4 => cell.before,
+        5 => cell.after,
+        6 => cell.undo_next,
+        _ => cell.outcome,
+    }
+}

@@ -1,0 +1,32 @@
+//! What holds of every layout, as functions that do nothing: the clause is the law.
+ghost use Rattle.region_layout.specs.Layout.{layout_shape, IsAllowed};
+ghost use Rattle.region_layout.specs.Apart.{WordsAreApart, PartsAreApart};
+ghost use Rattle.region_layout.specs.Fresh.{FreshIsEmpty};
+ghost use Rattle.region_layout.specs.Cell.{CellsAreRecords};
+
+use crate::layout::Layout;
+
+/// A layout keeps the limits of a region.
+pub fn layouts_are_allowed(layout: &Layout)
+    ensures { IsAllowed (layout_shape layout.now) }
+{}
+
+/// Each word of a region is one of its header, of one bucket, or of one block.
+pub fn words_are_apart()
+    ensures { WordsAreApart }
+{}
+
+/// Each bucket is in one partition of the log.
+pub fn parts_are_apart()
+    ensures { PartsAreApart }
+{}
+
+/// A fresh region is sound: it has its layout's shape, empty chains, no record and all room.
+pub fn fresh_regions_are_empty()
+    ensures { FreshIsEmpty }
+{}
+
+/// A cell that is read has the words from its address on, and is the record there.
+pub fn cells_are_records()
+    ensures { CellsAreRecords }
+{}

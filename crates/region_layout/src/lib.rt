@@ -1,0 +1,11 @@
+//! Where the things of a region stand: its header, the buckets of its log, and the blocks of its heap.
+#![tactic(auto)]
+
+mod cell;
+mod fresh;
+pub mod laws;
+mod layout;
+
+pub use cell::{Cell, cell_word, read_cell};
+pub use fresh::{FIRST_MAGIC, SECOND_MAGIC, format, number_of_kind, number_of_policy};
+pub use layout::{Buckets, Kind, Layout, Policy};
