@@ -1,14 +1,13 @@
 -- A step of reading a script.
-use Rattle.std.proofs.Common.{◌≡◌, ℕ, ◌+◌, ◌≤◌, ◌<◌, List, [], ◌∷◌, length, refl, sym, ◌∙◌, ap, Bool, Option, Some, None, Result, Ok, Err, ◌&&◌}
+use Rattle.std.proofs.Common.{◌≡◌, ℕ, List, [], ◌∷◌, refl, sym, ◌∙◌, ap, Bool, Option, Some, None, ◌&&◌}
 use Rattle.std.specs.Borrow.{Bor}
 use Rattle.std.specs.List.{list_all}
 use Rattle.std.specs.Option.{option_map}
-use Rattle.rewind.specs.Text.{lines}
 use Rattle.rewind.specs.declared.script.Script.{Script}
 use Rattle.rewind.specs.declared.form.Draft.{Draft}
 use Rattle.rewind.specs.declared.form.Refusal.{Refusal}
 use Rattle.rewind.specs.declared.form.Refusal.TheVariants as refusal
-use Rattle.rewind.specs.Form.{texts, after_line, after_lines, completed, Gives, Fails, Moves, script_of, ◌>>=◌}
+use Rattle.rewind.specs.Form.{texts, after_line, after_lines, completed, Fails, script_of, ◌>>=◌}
 
 pub list_all-texts : (p : List ℕ → Bool) (ws : List (Bor (List ℕ))) → list_all p (texts ws) ≡ list_all (λ (w : Bor (List ℕ)). p w.now) ws
 list_all-texts p [] = refl

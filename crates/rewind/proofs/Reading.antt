@@ -1,12 +1,10 @@
-use Rattle.std.proofs.Common.{◌≡◌, ℕ, zero, suc, ◌+◌, ◌-◌, ◌*◌, ◌<◌, ◌≤◌, ◌^◌, List, [], ◌∷◌, ◌++◌, length, get_or, take, drop, refl, sym, ◌∙◌, ap, subst, arith, cond, Bool, true, false, eqb, ne_eqb, Option, Some, None, nat_lt, le-ltb, lt-ltb, filter, not, ◌==◌, length-drop, take_all, append-nil, drop-drop, ⊎_elim, map}
+use Rattle.std.proofs.Common.{◌≡◌, ℕ, zero, suc, ◌+◌, ◌-◌, ◌*◌, ◌<◌, ◌≤◌, ◌^◌, List, [], ◌∷◌, length, get_or, take, drop, refl, sym, ◌∙◌, ap, subst, arith, cond, Bool, true, false, Some, None, le-ltb, lt-ltb, length-drop, take_all, ⊎_elim}
 use Rattle.std.specs.Option.{option_map}
-use Rattle.std.specs.List.{slice_split, position, position_or_len, All, before_first, after_first}
+use Rattle.std.specs.List.{slice_split, position, position_or_len}
 use Rattle.std.proofs.lemmas.List.Splits.{slice_split_first, slice_split_none, length-slice_split}
-use Rattle.std.proofs.lemmas.List.Sums.{position_or_len_is, fails_before_first}
+use Rattle.std.proofs.lemmas.List.Sums.{fails_before_first}
 use Rattle.std.proofs.lemmas.List.{nil_from_length}
-use Rattle.std.proofs.lemmas.List.Elements.{filter-append}
 use Rattle.std.proofs.lemmas.Bool.{cases_lt}
-use Rattle.std.proofs.Math.Seq.{drop-cons}
 use Rattle.rewind.specs.Text.{spelled, fitting, is_space, is_line_feed, words, lines, ended}
 
 not_true : (b : Bool) → (b ≡ true → ⊥) → b ≡ false
@@ -62,7 +60,6 @@ position_at p xs n some =
     (λ (past : length xs ≤ position_or_len p xs). absurd (some_none (sym some ∙ ap (λ t. cond t (Some (position_or_len p xs)) None) (le-ltb _ _ past))))
     (cases_lt (position_or_len p xs) (length xs))
 
-
 -- a text without the byte is one part, and else the first part stands before the first of them
 split_none : (p : ℕ → Bool) (text : List ℕ) → position p text ≡ None → slice_split p text ≡ text ∷ []
 split_none p text none = slice_split_none p text (λ k d h. fails_before_first p text k d (omega (arith, none_past p text none)))
@@ -102,13 +99,13 @@ rest_is text n = take_all (length text - n) (drop n text) (omega (arith, length-
 pub words-next : (line : List ℕ) (n : ℕ) → position is_space line ≡ Some n
     → (words line ≡ take n line ∷ words (take (length line - (n + 1)) (drop (n + 1) line))) × (length (take (length line - (n + 1)) (drop (n + 1) line)) < length line)
 words-next line n some = (
-    rw rest_is (words-some line n some),
-    rw rest_is (omega (arith, length-drop (n + 1) line, (position_at is_space line n some).1)),
+  rw rest_is (words-some line n some),
+  rw rest_is (omega (arith, length-drop (n + 1) line, (position_at is_space line n some).1)),
 )
 
 pub lines-next : (text : List ℕ) (n : ℕ) → position is_line_feed text ≡ Some n
     → (lines text ≡ option_map (λ rest. take n text ∷ rest) (lines (take (length text - (n + 1)) (drop (n + 1) text)))) × (length (take (length text - (n + 1)) (drop (n + 1) text)) < length text)
 lines-next text n some = (
-    rw rest_is (lines-some text n some),
-    rw rest_is (omega (arith, length-drop (n + 1) text, (position_at is_line_feed text n some).1)),
+  rw rest_is (lines-some text n some),
+  rw rest_is (omega (arith, length-drop (n + 1) text, (position_at is_line_feed text n some).1)),
 )

@@ -1,4 +1,4 @@
-use Rattle.std.proofs.Common.{arith, ◌≡◌, ◌≤◌, ◌<◌, ◌∙◌, ◌+◌, ◌*◌, ◌-◌, ◌^◌, sym, ap, length, drop, get_or, suc, Some}
+use Rattle.std.proofs.Common.{arith, ◌≡◌, ◌∙◌, ◌+◌, ◌*◌, ◌-◌, ◌^◌, sym, ap, drop, get_or, suc}
 use Rattle.rewind.specs.Text.{spelled, fitting}
 use Rattle.rewind.proofs.Reading.{spelled-next, spelled-end, too_large, fitting-some, not_below}
 use Rattle.rewind.proofs.text.value_of.Goals as goal
