@@ -2,3 +2,4 @@ pub mod Places
 pub mod Parts
 pub mod Empty
 pub mod Cells
+pub mod Headers

@@ -5,17 +5,9 @@ ghost use Rattle.region_layout.specs.Layout.{layout_shape, policy_number, kind_n
 ghost use Rattle.region_layout.specs.Fresh.{magic_of, second_word, header_word, root_word, fresh_word, fresh_words};
 
 use crate::layout::{Kind, Layout, Policy};
+use persist_model::format::{FIRST_KIND, FIRST_MAGIC, HEADER_WORDS, SECOND_MAGIC};
 use persist_model::{List, NoMemory};
 use std::alloc::Global;
-
-/// Word 0 of a region of format 1.
-pub const FIRST_MAGIC: u64 = 0x5257_4e44_0000_0001;
-/// Word 0 of a region of format 2.
-pub const SECOND_MAGIC: u64 = 0x5257_4e44_0000_0002;
-
-const HEADER_WORDS: u32 = 32;
-
-const FIRST_KIND: u32 = 13;
 
 /// The words of a fresh region with as many kinds as structures.
 pub fn format(alloc: Global, layout: Layout, kinds: &[Kind]) -> Result<List<u64>, NoMemory>

@@ -2,6 +2,7 @@
 ghost use Rattle.region_layout.specs.Layout.{layout_shape, IsAllowed};
 ghost use Rattle.region_layout.specs.Apart.{WordsAreApart, PartsAreApart};
 ghost use Rattle.region_layout.specs.Fresh.{FreshIsEmpty};
+ghost use Rattle.region_layout.specs.Reading.{ShapesAreRead};
 ghost use Rattle.region_layout.specs.Cell.{CellsAreRecords};
 
 use crate::layout::Layout;
@@ -29,4 +30,9 @@ pub fn fresh_regions_are_empty()
 /// A cell that is read has the words from its address on, and is the record there.
 pub fn cells_are_records()
     ensures { CellsAreRecords }
+{}
+
+/// A header that is read says a layout, and one that is refused has exactly one first fault.
+pub fn shapes_are_read()
+    ensures { ShapesAreRead }
 {}

@@ -5,7 +5,12 @@ mod cell;
 mod fresh;
 pub mod laws;
 mod layout;
+mod reading;
 
 pub use cell::{Cell, cell_word, read_cell};
-pub use fresh::{FIRST_MAGIC, SECOND_MAGIC, format, number_of_kind, number_of_policy};
+pub use fresh::{format, number_of_kind, number_of_policy};
 pub use layout::{Buckets, Kind, Layout, Policy};
+pub use reading::{ImageFault, read_layout};
+
+#[cfg(test)]
+mod tests;

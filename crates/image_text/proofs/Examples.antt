@@ -1,0 +1,49 @@
+-- The grammar on small texts.
+use Rattle.std.proofs.Common.{◌≡◌, [], ◌∷◌, refl, Ok, Err, codes}
+use Rattle.region_layout.specs.declared.layout.Kind.TheVariants.{Cells, Tree, Hash}
+use Rattle.image_text.specs.declared.image.TextFault.TheVariants.{Line}
+use Rattle.image_text.specs.Text.{lines, spelled}
+use Rattle.image_text.specs.Grammar.{image, image_from, image_of, after_line, entry_of, word_entry, named_entry, with_size, with_map, with_word, with_end}
+
+-- the words that no line names are 0, and digits may be of either case
+a_text : image (codes "image 4\nmap cells\nmap hash\n1 00000000000000fF\nend\n") ≡ Ok (record { kinds = Cells ∷ Hash ∷ []; words = 0 ∷ 255 ∷ 0 ∷ 0 ∷ [] })
+unfolding image image_from image_of after_line entry_of word_entry named_entry with_size with_map with_word with_end lines spelled
+a_text = refl
+
+-- the last line may lack its line feed
+no_last_feed : image (codes "image 0\nmap tree\nend") ≡ Ok (record { kinds = Tree ∷ []; words = [] })
+unfolding image image_from image_of after_line entry_of word_entry named_entry with_size with_map with_word with_end lines spelled
+no_last_feed = refl
+
+nothing : image [] ≡ Err (Line 1)
+unfolding image image_from image_of lines
+nothing = refl
+
+-- a text that ends too early breaks the grammar behind its last line
+cut_off : image (codes "image 4\nmap cells\n") ≡ Err (Line 3)
+unfolding image image_from image_of after_line entry_of word_entry named_entry with_size with_map with_word with_end lines spelled
+cut_off = refl
+
+behind_the_end : image (codes "image 0\nmap tree\nend\n\n") ≡ Err (Line 4)
+unfolding image image_from image_of after_line entry_of word_entry named_entry with_size with_map with_word with_end lines spelled
+behind_the_end = refl
+
+same_address : image (codes "image 4\nmap cells\n1 0000000000000001\n1 0000000000000001\nend\n") ≡ Err (Line 4)
+unfolding image image_from image_of after_line entry_of word_entry named_entry with_size with_map with_word with_end lines spelled
+same_address = refl
+
+leading_zero : image (codes "image 04\nmap cells\nend\n") ≡ Err (Line 1)
+unfolding image image_from image_of after_line entry_of word_entry named_entry with_size with_map with_word with_end lines spelled
+leading_zero = refl
+
+carriage_return : image (codes "image 4\r\nmap cells\nend\n") ≡ Err (Line 1)
+unfolding image image_from image_of after_line entry_of word_entry named_entry with_size with_map with_word with_end lines spelled
+carriage_return = refl
+
+past_the_words : image (codes "image 4\nmap cells\n4 0000000000000001\nend\n") ≡ Err (Line 3)
+unfolding image image_from image_of after_line entry_of word_entry named_entry with_size with_map with_word with_end lines spelled
+past_the_words = refl
+
+no_map : image (codes "image 4\nend\n") ≡ Err (Line 2)
+unfolding image image_from image_of after_line entry_of word_entry named_entry with_size with_map with_word with_end lines spelled
+no_map = refl
