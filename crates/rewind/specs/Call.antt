@@ -1,5 +1,5 @@
 -- What a call of the program did: what it took and wrote, the status with its cause, and what became of the region.
-use Rattle.std.specs.Prelude.{◌≡◌, ◌⊎◌, ℕ, ◌<◌, ◌≤◌, List, [], ◌∷◌, ◌++◌, length, Option, Some, None, codes, IfSome}
+use Rattle.std.specs.Prelude.{◌≡◌, ◌⊎◌, ℕ, ◌<◌, ◌≤◌, List, [], ◌∷◌, ◌++◌, length, Option, Some, None, codes, IfSome, if◌then◌else◌, nat_lt}
 use Rattle.persist_model.specs.Region.{Region}
 use Rattle.lane_traits.specs.Stream.{HasRisen, TakesPart}
 use Rattle.lane_traits.specs.Device.{Counts, since_load}
@@ -185,3 +185,13 @@ pub record HasRun (call : Call) (answer : Status) (w : Written) : Type 0 where
   pub outcome : Outcome
   pub cause : IsCauseOf outcome call
   pub told : IsAnswerTo outcome answer w
+
+-- ---- what status is due
+
+abbrev pub due_of_script : Option Script → Status
+due_of_script None = status.Script
+due_of_script (Some s) = status.Done
+
+-- The status of a call whose input are these bytes, where no count of faults rises and the device doesn't stop.
+abbrev pub due : List ℕ → Status
+due bytes = if nat_lt LIMIT (length bytes) then status.TooLong else due_of_script (script_of_text bytes)

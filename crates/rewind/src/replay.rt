@@ -1,6 +1,8 @@
 //! Replays the script of an input.
-ghost use Rattle.std.specs.Prelude.{◌≡◌, map, string_bytes, IfOk};
-ghost use Rattle.rewind.specs.Call.{IsCauseOf, IsTextOutcome, AreLimitsOf, IsAnswerTo, HasRun, status_of, text_of};
+ghost use Rattle.std.specs.Prelude.{◌≡◌, ◌≢◌, ◌⊎◌, ℕ, List, Some, map, string_bytes, IfOk};
+ghost use Rattle.lane_traits.specs.Stream.{HasRisen};
+ghost use Rattle.lane_traits.specs.Device.{since_load};
+ghost use Rattle.rewind.specs.Call.{IsCauseOf, IsTextOutcome, AreLimitsOf, IsAnswerTo, AreRun, HasRun, status_of, text_of, due};
 
 use crate::form::{Refusal, read_form};
 use crate::input::{Unread, read_input};
@@ -69,6 +71,17 @@ pub fn rewind_replay<S: Source, K: Sink, D: Device>(
     mut region: D,
     out: &mut K,
 ) -> (Status, D)
+    ensures usage { result.0 ≡ Status.Usage → ¬ (AreRun (map string_bytes words.now)) }
+    ensures misused { ¬ (AreRun (map string_bytes words.now)) → ¬ (HasRisen (K.faults out.old) (K.faults out.new))
+        → (result.0 ≡ Status.Usage) ⊎ (result.0 ≡ Status.NoMemory) }
+    ensures due { (bytes : List ℕ) → S.left script.old ≡ Some bytes → AreRun (map string_bytes words.now)
+        → ¬ (HasRisen (S.faults script.old) (S.faults script.new)) → ¬ (HasRisen (K.faults out.old) (K.faults out.new))
+        → ¬ (HasRisen (D.counts region).stopped (D.counts result.1).stopped) → (result.0 ≡ due bytes) ⊎ (result.0 ≡ Status.NoMemory) }
+    ensures read_fault { result.0 ≡ Status.ReadFault → HasRisen (S.faults script.old) (S.faults script.new) }
+    ensures write_fault { result.0 ≡ Status.WriteFault → HasRisen (K.faults out.old) (K.faults out.new) }
+    ensures stopped { result.0 ≡ Status.Stopped → HasRisen (D.counts region).stopped (D.counts result.1).stopped }
+    ensures last_load { (result.0 ≡ Status.Done) ⊎ (result.0 ≡ Status.Stopped) → (D.counts result.1).restarts ≡ (since_load (D.counts region)).restarts }
+    ensures never_unsound { result.0 ≢ Status.Unsound }
     ensures ran { HasRun
         (record {
           words = map string_bytes words.now;
