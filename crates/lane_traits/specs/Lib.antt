@@ -3,3 +3,4 @@ pub mod Space
 pub mod Draft
 pub mod Drafts
 pub mod DraftLaws
+pub mod Stream

@@ -1,0 +1,12 @@
+use Rattle.std.proofs.Common.{sym, subst, arith, List, ℕ}
+use Rattle.rewind.specs.Call.{Took}
+use Rattle.rewind.proofs.Inputs.{took_nothing}
+use Rattle.rewind.proofs.input.read_input.Goals as goal
+
+pub loop-source-init : goal.loop-source-init
+loop-source-init g c = record {
+  took = subst (λ (text : List ℕ). Took (g.S.Source.left c.args.source.now) text (g.S.Source.left c.args.source.now)) (sym c.new-text.ensures.items) (took_nothing (g.S.Source.left c.args.source.now));
+  never_fell = omega arith;
+  bound = omega (arith, c.new-text.ensures.len);
+  chunk = c.in_ok-chunk.ensures.len;
+}

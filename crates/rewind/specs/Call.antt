@@ -1,0 +1,197 @@
+-- What a call of the program did: what it took and wrote, the status with its cause, and what became of the region.
+use Rattle.std.specs.Prelude.{◌≡◌, ◌⊎◌, ℕ, ◌<◌, ◌≤◌, List, [], ◌∷◌, ◌++◌, length, Option, Some, None, codes, IfSome, if◌then◌else◌, nat_lt}
+use Rattle.persist_model.specs.Region.{Region}
+use Rattle.lane_traits.specs.Stream.{HasRisen, TakesPart}
+use Rattle.lane_traits.specs.Device.{Counts, since_load}
+use Rattle.rewind.specs.declared.status.Status.{Status}
+use Rattle.rewind.specs.declared.status.Status.TheVariants as status
+use Rattle.rewind.specs.declared.script.Script.{Script}
+use Rattle.rewind.specs.declared.replay.Outcome.{Outcome}
+use Rattle.rewind.specs.declared.replay.Outcome.TheVariants as outcome
+use Rattle.rewind.specs.Form.{script as script_of_text, IsInLimits}
+use Rattle.rewind.specs.History.{contents, history, first_names, report, stop_report, ended_line}
+use Rattle.rewind.specs.Events.{event_count, StopsAfter, with_events, has_stopped, HasNoEvent, AreCells, root_of}
+
+-- the most bytes of an input
+abbrev pub LIMIT : ℕ
+LIMIT = 1048576
+
+-- the words are `run`
+abbrev pub AreRun : List (List ℕ) → Type 0
+AreRun words = words ≡ codes "run" ∷ []
+
+-- This text was taken from the front of what was left. Nothing is said of a source that doesn't tell what is left.
+abbrev pub Took : Option (List ℕ) → List ℕ → Option (List ℕ) → Type 0
+Took None text left = Unit {0}
+Took (Some bytes) text left = (rest : List ℕ) × (bytes ≡ text ++ rest) × (left ≡ Some rest)
+
+-- all that was left was taken
+abbrev pub TookAll : Option (List ℕ) → List ℕ → Option (List ℕ) → Type 0
+TookAll None text left = Unit {0}
+TookAll (Some bytes) text left = (bytes ≡ text) × (left ≡ Some [])
+
+-- the source and the device, before a call and after
+pub record Call : Type 0 where
+  pub words : List (List ℕ)
+  pub left : Option (List ℕ)
+  pub left_after : Option (List ℕ)
+  pub faults : ℕ
+  pub faults_after : ℕ
+  pub region : Region
+  pub region_after : Region
+  pub counts : Counts
+  pub counts_after : Counts
+
+-- the device is as it was
+pub record IsUntouched (call : Call) : Type 0 where
+  pub region : call.region_after ≡ call.region
+  pub counts : call.counts_after ≡ call.counts
+
+-- the words are right and this text was the whole input
+pub record HasRead (call : Call) (text : List ℕ) : Type 0 where
+  pub words : AreRun call.words
+  pub input : TookAll call.left text call.left_after
+  pub short : length text ≤ LIMIT
+
+-- The words aren't right, and nothing was read.
+pub record IsMisused (call : Call) : Type 0 where
+  pub words : ¬ (AreRun call.words)
+  pub unread : call.left_after ≡ call.left
+  pub untouched : IsUntouched call
+
+-- The source's count of faults rose.
+pub record HasReadFault (call : Call) : Type 0 where
+  pub words : AreRun call.words
+  pub rose : HasRisen call.faults call.faults_after
+  pub untouched : IsUntouched call
+
+-- More bytes were read than an input may have.
+pub record IsTooLong (call : Call) : Type 0 where
+  pub words : AreRun call.words
+  pub text : List ℕ
+  pub took : Took call.left text call.left_after
+  pub long : LIMIT < length text
+  pub untouched : IsUntouched call
+
+-- All was read, and the text isn't in the form.
+pub record IsMisformed (call : Call) : Type 0 where
+  pub text : List ℕ
+  pub read : HasRead call text
+  pub misformed : script_of_text text ≡ None
+  pub untouched : IsUntouched call
+
+-- Memory ran out before the first event.
+pub record IsExhausted (call : Call) : Type 0 where
+  pub words : AreRun call.words
+  pub no_event : HasNoEvent call.counts call.counts_after
+
+-- The device stopped: after the fences of the first `commits` transactions, and before that of the next. The region was
+-- loaded before the first event, and each event is one of a put or a commit.
+pub record IsStoppedRun (s : Script) (counts counts_after : Counts) (commits : ℕ) : Type 0 where
+  pub made : ℕ
+  pub commits_fenced : StopsAfter s.transactions made commits
+  pub counted : counts_after ≡ has_stopped (with_events made (since_load counts))
+
+-- All events were made, one for each put and each commit, after the region was loaded. Whatever a stop would leave now,
+-- the root block's data words are the cells of the map.
+pub record IsWholeRun (s : Script) (counts counts_after : Counts) (region_after : Region) : Type 0 where
+  pub counted : counts_after ≡ with_events (event_count s.transactions) (since_load counts)
+  pub cells : AreCells (root_of s.buckets s.blocks) (contents s.transactions) region_after
+
+-- All was read, the text says a script, and the device stopped within it.
+pub record HasStopped (call : Call) (commits : ℕ) : Type 0 where
+  pub text : List ℕ
+  pub read : HasRead call text
+  pub script : Script
+  pub says : script_of_text text ≡ Some script
+  pub run : IsStoppedRun script call.counts call.counts_after commits
+
+-- All was read, the text says this script, and all its events were made.
+pub record IsDone (call : Call) (s : Script) : Type 0 where
+  pub text : List ℕ
+  pub read : HasRead call text
+  pub says : script_of_text text ≡ Some s
+  pub run : IsWholeRun s call.counts call.counts_after call.region_after
+
+-- what a call came to, and its cause
+abbrev pub IsCauseOf : Outcome → Call → Type 0
+IsCauseOf outcome.Usage call = IsMisused call
+IsCauseOf outcome.ReadFault call = HasReadFault call
+IsCauseOf outcome.TooLong call = IsTooLong call
+IsCauseOf outcome.Form call = IsMisformed call
+IsCauseOf outcome.NoMemory call = IsExhausted call
+IsCauseOf (outcome.Stopped commits) call = HasStopped call commits
+IsCauseOf (outcome.Done s) call = IsDone call s
+
+-- what the text of a whole input came to
+abbrev pub IsTextOutcome : List ℕ → Region → Counts → Region → Counts → Outcome → Type 0
+IsTextOutcome text region counts region_after counts_after outcome.Form = (script_of_text text ≡ None) × (region_after ≡ region) × (counts_after ≡ counts)
+IsTextOutcome text region counts region_after counts_after outcome.NoMemory = HasNoEvent counts counts_after
+IsTextOutcome text region counts region_after counts_after (outcome.Stopped commits) = (s : Script) × (script_of_text text ≡ Some s) × IsStoppedRun s counts counts_after commits
+IsTextOutcome text region counts region_after counts_after (outcome.Done s) = (script_of_text text ≡ Some s) × IsWholeRun s counts counts_after region_after
+IsTextOutcome text region counts region_after counts_after _ = ⊥
+
+-- a script that was run is within the limits
+abbrev pub AreLimitsOf : Outcome → Type 0
+AreLimitsOf (outcome.Done s) = IsInLimits s.buckets s.blocks s.transactions
+AreLimitsOf _ = Unit {0}
+
+abbrev pub status_of : Outcome → Status
+status_of outcome.Usage = status.Usage
+status_of outcome.ReadFault = status.ReadFault
+status_of outcome.TooLong = status.TooLong
+status_of outcome.Form = status.Script
+status_of outcome.NoMemory = status.NoMemory
+status_of (outcome.Stopped commits) = status.Stopped
+status_of (outcome.Done s) = status.Done
+
+-- what is written
+abbrev pub text_of : Outcome → List ℕ
+text_of outcome.Usage = ended_line (codes "usage")
+text_of outcome.ReadFault = []
+text_of outcome.TooLong = ended_line (codes "toolong")
+text_of outcome.Form = ended_line (codes "script 0 form")
+text_of outcome.NoMemory = []
+text_of (outcome.Stopped commits) = stop_report (first_names commits)
+text_of (outcome.Done s) = report (history s.transactions) (contents s.transactions)
+
+-- the sink, before a call and after
+pub record Written : Type 0 where
+  pub before : Option (List ℕ)
+  pub later : Option (List ℕ)
+  pub faults : ℕ
+  pub faults_after : ℕ
+
+-- The status is the outcome's and its text was written; or a write failed, and a prefix of it was; or there was no memory
+-- for the text, and nothing was.
+pub record IsToldInFull (o : Outcome) (answer : Status) (w : Written) : Type 0 where
+  pub status : answer ≡ status_of o
+  pub text : IfSome w.before (λ before. w.later ≡ Some (before ++ text_of o))
+
+pub record IsCutOff (o : Outcome) (answer : Status) (w : Written) : Type 0 where
+  pub status : answer ≡ status.WriteFault
+  pub rose : HasRisen w.faults w.faults_after
+  pub text : IfSome w.before (λ before. TakesPart before (text_of o) w.later)
+
+pub record IsUntold (answer : Status) (w : Written) : Type 0 where
+  pub status : answer ≡ status.NoMemory
+  pub nothing : w.later ≡ w.before
+
+abbrev pub IsAnswerTo : Outcome → Status → Written → Type 0
+IsAnswerTo o answer w = IsToldInFull o answer w ⊎ IsCutOff o answer w ⊎ IsUntold answer w
+
+-- A call came to one of the outcomes by its cause, and told it.
+pub record HasRun (call : Call) (answer : Status) (w : Written) : Type 0 where
+  pub outcome : Outcome
+  pub cause : IsCauseOf outcome call
+  pub told : IsAnswerTo outcome answer w
+
+-- ---- what status is due
+
+abbrev pub due_of_script : Option Script → Status
+due_of_script None = status.Script
+due_of_script (Some s) = status.Done
+
+-- The status of a call whose input are these bytes, where no count of faults rises and the device doesn't stop.
+abbrev pub due : List ℕ → Status
+due bytes = if nat_lt LIMIT (length bytes) then status.TooLong else due_of_script (script_of_text bytes)

@@ -1,0 +1,36 @@
+//! `rewind` runs a script on a region of words and writes a report.
+#![tactic(auto)]
+
+mod form;
+mod input;
+mod replay;
+mod report;
+mod run;
+mod script;
+mod status;
+mod streams;
+mod table;
+mod text;
+mod words;
+
+use replay::rewind_replay;
+use status::Status;
+use std::env;
+use std::process::ExitCode;
+use streams::{StdSink, StdSource};
+use word_region::PlainCells;
+
+fn main(rt: HostRuntime) -> ExitCode {
+    let alloc = rt.alloc();
+    let Ok(arguments) = env::args(&rt) else {
+        return ExitCode::from(Status::NoMemory as u8);
+    };
+    let Ok(words) = arguments.skip(1).collect::<Vec<String>>(alloc) else {
+        return ExitCode::from(Status::NoMemory as u8);
+    };
+    let mut script = StdSource::new(rt.stdin());
+    let mut out = StdSink::new(rt.stdout());
+    let region = PlainCells::new(alloc, u64::MAX);
+    let (status, _) = rewind_replay(alloc, &words, &mut script, region, &mut out);
+    ExitCode::from(status as u8)
+}

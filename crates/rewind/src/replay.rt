@@ -1,0 +1,177 @@
+//! Replays the script of an input.
+ghost use Rattle.std.specs.Prelude.{◌≡◌, ◌≢◌, ◌⊎◌, ℕ, List, Some, map, string_bytes, IfOk};
+ghost use Rattle.lane_traits.specs.Stream.{HasRisen};
+ghost use Rattle.lane_traits.specs.Device.{since_load};
+ghost use Rattle.rewind.specs.Call.{IsCauseOf, IsTextOutcome, AreLimitsOf, IsAnswerTo, AreRun, HasRun, status_of, text_of, due};
+
+use crate::form::{Refusal, read_form};
+use crate::input::{Unread, read_input};
+use crate::report::{report_text, stop_text};
+use crate::run::{Ran, run_script};
+use crate::script::Script;
+use crate::status::Status;
+use crate::words::are_run;
+use lane_traits::{Device, Failed, Sink, Source};
+use std::alloc::{AllocError, Global};
+
+/// What a call came to.
+#[derive(Drop)]
+pub enum Outcome {
+    Usage,
+    ReadFault,
+    TooLong,
+    Form,
+    NoMemory,
+    /// The fences of so many transactions were made.
+    Stopped { commits: u64 },
+    Done(Script),
+}
+
+impl Outcome {
+    /// The status that it ends with.
+    fn status(&self) -> Status
+        ensures { result ≡ status_of self.now }
+    {
+        match self {
+            Outcome::Usage => Status::Usage,
+            Outcome::ReadFault => Status::ReadFault,
+            Outcome::TooLong => Status::TooLong,
+            Outcome::Form => Status::Script,
+            Outcome::NoMemory => Status::NoMemory,
+            Outcome::Stopped { .. } => Status::Stopped,
+            Outcome::Done(_) => Status::Done,
+        }
+    }
+
+    /// What is to be written.
+    fn text(&self, alloc: Global) -> Result<Vec<u8>, AllocError>
+        requires { AreLimitsOf self.now }
+        ensures { IfOk result (λ text. text.items ≡ text_of self.now) }
+    {
+        match self {
+            Outcome::Usage => Vec::from_slice(alloc, b"usage\n"),
+            Outcome::TooLong => Vec::from_slice(alloc, b"toolong\n"),
+            Outcome::Form => Vec::from_slice(alloc, b"script 0 form\n"),
+            Outcome::ReadFault => Ok(Vec::new(alloc)),
+            Outcome::NoMemory => Ok(Vec::new(alloc)),
+            Outcome::Stopped { commits } => stop_text(alloc, *commits),
+            Outcome::Done(script) => report_text(alloc, script.transactions.as_slice()),
+        }
+    }
+}
+
+/// Runs the script that the source has on the region, and writes the report.
+///
+/// The words are those that the program is called with: `run` is known. Nothing is written before the job's end, and the
+/// device comes back as it is then.
+pub fn rewind_replay<S: Source, K: Sink, D: Device>(
+    alloc: Global,
+    words: &[String],
+    script: &mut S,
+    mut region: D,
+    out: &mut K,
+) -> (Status, D)
+    ensures usage { result.0 ≡ Status.Usage → ¬ (AreRun (map string_bytes words.now)) }
+    ensures misused { ¬ (AreRun (map string_bytes words.now)) → ¬ (HasRisen (K.faults out.old) (K.faults out.new))
+        → (result.0 ≡ Status.Usage) ⊎ (result.0 ≡ Status.NoMemory) }
+    ensures due { (bytes : List ℕ) → S.left script.old ≡ Some bytes → AreRun (map string_bytes words.now)
+        → ¬ (HasRisen (S.faults script.old) (S.faults script.new)) → ¬ (HasRisen (K.faults out.old) (K.faults out.new))
+        → ¬ (HasRisen (D.counts region).stopped (D.counts result.1).stopped) → (result.0 ≡ due bytes) ⊎ (result.0 ≡ Status.NoMemory) }
+    ensures read_fault { result.0 ≡ Status.ReadFault → HasRisen (S.faults script.old) (S.faults script.new) }
+    ensures write_fault { result.0 ≡ Status.WriteFault → HasRisen (K.faults out.old) (K.faults out.new) }
+    ensures stopped { result.0 ≡ Status.Stopped → HasRisen (D.counts region).stopped (D.counts result.1).stopped }
+    ensures last_load { (result.0 ≡ Status.Done) ⊎ (result.0 ≡ Status.Stopped) → (D.counts result.1).restarts ≡ (since_load (D.counts region)).restarts }
+    ensures never_unsound { result.0 ≢ Status.Unsound }
+    ensures ran { HasRun
+        (record {
+          words = map string_bytes words.now;
+          left = S.left script.old;
+          left_after = S.left script.new;
+          faults = S.faults script.old;
+          faults_after = S.faults script.new;
+          region = D.cells region;
+          region_after = D.cells result.1;
+          counts = D.counts region;
+          counts_after = D.counts result.1;
+        })
+        result.0
+        (record {
+          before = K.written out.old;
+          later = K.written out.new;
+          faults = K.faults out.old;
+          faults_after = K.faults out.new;
+        }) }
+{
+    let outcome = replay(alloc, words, script, &mut region);
+    let status = write_outcome(alloc, &outcome, out);
+    (status, region)
+}
+
+/// Writes what is to be written, and answers how the call ends.
+fn write_outcome<K: Sink>(alloc: Global, outcome: &Outcome, out: &mut K) -> Status
+    requires { AreLimitsOf outcome.now }
+    ensures { IsAnswerTo outcome.now result (record {
+      before = K.written out.old;
+      later = K.written out.new;
+      faults = K.faults out.old;
+      faults_after = K.faults out.new;
+    }) }
+{
+    let Ok(text) = outcome.text(alloc) else {
+        return Status::NoMemory;
+    };
+    if text.is_empty() {
+        return outcome.status();
+    }
+    match out.write(&text) {
+        Ok(()) => outcome.status(),
+        Err(Failed) => Status::WriteFault,
+    }
+}
+
+/// Reads the input and makes its events on the region.
+fn replay<S: Source, D: Device>(
+    alloc: Global,
+    words: &[String],
+    source: &mut S,
+    region: &mut D,
+) -> Outcome
+    ensures limits { AreLimitsOf result }
+    ensures cause { IsCauseOf result (record {
+      words = map string_bytes words.now;
+      left = S.left source.old;
+      left_after = S.left source.new;
+      faults = S.faults source.old;
+      faults_after = S.faults source.new;
+      region = D.cells region.old;
+      region_after = D.cells region.new;
+      counts = D.counts region.old;
+      counts_after = D.counts region.new;
+    }) }
+{
+    if !are_run(words) {
+        return Outcome::Usage;
+    }
+    match read_input(alloc, source) {
+        Err(Unread::Failed) => Outcome::ReadFault,
+        Err(Unread::TooLong) => Outcome::TooLong,
+        Err(Unread::NoMemory) => Outcome::NoMemory,
+        Ok(text) => run_text(alloc, &text, region),
+    }
+}
+
+/// Makes the events of the script that the text says.
+fn run_text<D: Device>(alloc: Global, text: &[u8], region: &mut D) -> Outcome
+    ensures limits { AreLimitsOf result }
+    ensures cause { IsTextOutcome text.now (D.cells region.old) (D.counts region.old) (D.cells region.new) (D.counts region.new) result }
+{
+    match read_form(alloc, text) {
+        Err(Refusal::Form) => Outcome::Form,
+        Err(Refusal::NoMemory) => Outcome::NoMemory,
+        Ok(script) => match run_script(alloc, &script, region) {
+            Err(_) => Outcome::NoMemory,
+            Ok(Ran::Stopped { commits }) => Outcome::Stopped { commits },
+            Ok(Ran::Whole) => Outcome::Done(script),
+        },
+    }
+}
