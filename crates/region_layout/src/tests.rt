@@ -61,7 +61,17 @@ fn a_fresh_region_has_its_header_and_its_roots(rt: HostRuntime) -> Result<(), Fa
     let fresh = format(rt.alloc(), smallest(2), &kinds)?;
     let words = fresh.as_slice();
     assert_eq!(rt; words.len(), 352);
-    let expected = [(0, 0x5257_4e44_0000_0002), (1, 1), (2, 1), (3, 4), (4, 16), (5, 1), (6, 1), (13, 1), (96, 1)];
+    let expected = [
+        (0, 0x5257_4e44_0000_0002),
+        (1, 1),
+        (2, 1),
+        (3, 4),
+        (4, 16),
+        (5, 1),
+        (6, 1),
+        (13, 1),
+        (96, 1),
+    ];
     let mut next = 0;
     for (address, word) in words.iter().enumerate() {
         if *word != 0 {
@@ -92,7 +102,11 @@ fn a_header_is_refused_by_its_first_wrong_word(rt: HostRuntime) -> Result<(), Fa
     ];
     for (address, value, fault, addr) in cases {
         let row = changed(rt.alloc(), address, value)?.ok_or("fits")?;
-        assert_eq!(rt; read_layout(&row), Err(ImageFault { fault, addr }), "at {address}");
+        assert_eq!(rt;
+            read_layout(&row),
+            Err(ImageFault { fault, addr }),
+            "at {address}"
+        );
     }
     let row = changed(rt.alloc(), 0, FIRST_MAGIC)?.ok_or("fits")?;
     assert_eq!(rt; read_layout(&row), Ok(smallest(1)));
