@@ -1,5 +1,5 @@
 -- Turns, and a node that is put right, on any sides.
-use Rattle.std.proofs.Common.{◌≡◌, ◌≢◌, inl, inr, ℕ, ◌+◌, ◌<◌, ◌≤◌, true, false, nat_lt, max, refl, Result, Ok, Err, IfOk, sym, subst, ◌∙◌, ap, arith}
+use Rattle.std.proofs.Common.{◌≡◌, inl, ℕ, ◌+◌, ◌<◌, ◌≤◌, true, false, nat_lt, max, refl, Result, Ok, Err, IfOk, sym, subst, ◌∙◌, ap, arith}
 use Rattle.std.proofs.lemmas.Bool.Decides.{nat_tests}
 use Rattle.lane_traits.specs.Space.{Space, IsOwn, put_word, written}
 use Rattle.region_layout.specs.TreeMap.{Tree, Leaf, Node, height}

@@ -1,11 +1,11 @@
 -- How many nodes a tree has: a heap has few blocks, and a high tree many nodes.
-use Rattle.std.proofs.Common.{◌≡◌, ◌≢◌, ◌⊎◌, inl, inr, ℕ, zero, suc, ◌+◌, ◌*◌, ◌<◌, ◌≤◌, true, false, if◌then◌else◌, ◌==◌, max, List, [], ◌∷◌, ◌++◌, length, refl, ap, sym, ◌∙◌, arith, subst, length-append}
+use Rattle.std.proofs.Common.{◌≡◌, ◌≢◌, ◌⊎◌, inl, inr, ℕ, zero, suc, ◌+◌, ◌*◌, ◌<◌, ◌≤◌, false, ◌==◌, List, [], ◌∷◌, ◌++◌, length, refl, ap, sym, ◌∙◌, arith, subst, length-append}
 use Rattle.std.proofs.lemmas.Bool.Decides.{nat_tests, eqb_tells}
 use Rattle.persist_model.specs.Records.{IsAmong}
 use Rattle.persist_model.specs.Chain.{Each, IsAbsent, HasNoRepeats, without}
-use Rattle.lane_traits.specs.Space.{Land, IsBlock, IsOwn}
+use Rattle.lane_traits.specs.Space.{Land, IsOwn}
 use Rattle.region_layout.specs.TreeMap.{Tree, Leaf, Node, height, EachNode, AreOwn, blocks}
-use Rattle.persist_tree.specs.Trees.{IsIn, IsApart}
+use Rattle.persist_tree.specs.Trees.{IsApart}
 use Rattle.persist_tree.proofs.Nodes.{in_blocks, of_blocks, among_left, among_right}
 
 -- ---- lists without repeats

@@ -1,9 +1,9 @@
 -- From a node to what hangs on it.
-use Rattle.std.proofs.Common.{◌≡◌, ℕ, ◌+◌, ◌<◌, ◌≤◌, max, sym, subst, ◌∙◌, ap, arith}
+use Rattle.std.proofs.Common.{◌≡◌, ℕ, ◌+◌, ◌<◌, sym, subst, arith}
 use Rattle.lane_traits.specs.Space.{Space, IsOwn}
-use Rattle.region_layout.specs.TreeMap.{Tree, Leaf, Node, height}
-use Rattle.persist_tree.specs.Changes.{StandsAt, HasTree, HasNode, stored_height}
-use Rattle.persist_tree.proofs.Turning.{IsNodeAt, node_at, on_left, on_right, stored_height-is}
+use Rattle.region_layout.specs.TreeMap.{Node}
+use Rattle.persist_tree.specs.Changes.{HasTree, HasNode, stored_height}
+use Rattle.persist_tree.proofs.Turning.{on_left, on_right, stored_height-is}
 
 pub tree_same : (s u : Space) (a b : ℕ) → u ≡ s → b ≡ a → HasTree s a → HasTree u b
 tree_same s u a b same here h = subst (λ (y : Space). HasTree y b) (sym same) (subst (HasTree s) (sym here) h)

@@ -5,7 +5,7 @@ use Rattle.persist_model.specs.Region.{Words}
 use Rattle.lane_traits.specs.Space.{Land, Space, IsOwn, IsBlock, put_word, written}
 use Rattle.region_layout.specs.TreeMap.{Tree, Leaf, Node, top, height, IsNode, IsLaid, EachNode, AreOwn, AreBelow, AreAbove, IsOrdered}
 use Rattle.persist_tree.specs.Trees.{IsIn, IsApart}
-use Rattle.persist_tree.specs.Changes.{IsOutside, Changes, StandsAt, IsRebuilt, AreParts, stored_height}
+use Rattle.persist_tree.specs.Changes.{Changes, StandsAt, IsRebuilt, AreParts}
 use Rattle.persist_tree.proofs.Nodes.{EachNode-in}
 
 apart_by_number : (h m n i j : ℕ) → m ≢ n → i < 16 → j < 16 → h + 16 * m + i ≢ h + 16 * n + j
@@ -154,7 +154,7 @@ hung_is s b left right k v l r h = record {
     top_is = refl;
     laid = (
       subst (λ y. IsNode (hung s b left right (1 + max (height l) (height r))).word b k v y (top r) (1 + max (height l) (height r))) h.on_left.top_is
-      (subst (λ y. IsNode (hung s b left right (1 + max (height l) (height r))).word b k v left y (1 + max (height l) (height r))) h.on_right.top_is (hung_node s b left right (1 + max (height l) (height r)) k v h.key h.value)),
+          (subst (λ y. IsNode (hung s b left right (1 + max (height l) (height r))).word b k v left y (1 + max (height l) (height r))) h.on_right.top_is (hung_node s b left right (1 + max (height l) (height r)) k v h.key h.value)),
       (stands_kept (λ c. c ≡ b) 3 s (hung s b left right (1 + max (height l) (height r))) left l (hung_changes s b left right (1 + max (height l) (height r))) here (λ c m e. h.apart.0 (subst (IsIn l) e m)) h.on_left).laid,
       (stands_kept (λ c. c ≡ b) 3 s (hung s b left right (1 + max (height l) (height r))) right r (hung_changes s b left right (1 + max (height l) (height r))) here (λ c m e. h.apart.1 (subst (IsIn r) e m)) h.on_right).laid,
     );

@@ -1,5 +1,5 @@
 -- When a put answers that the heap is full.
-use Rattle.std.proofs.Common.{◌≡◌, ◌↔◌, ℕ, ◌<◌, Option, Result, Ok, Err, List, [], ◌∷◌, length, refl, sym, ◌∙◌, ap, arith}
+use Rattle.std.proofs.Common.{◌≡◌, ◌↔◌, ℕ, ◌<◌, Result, Ok, Err, List, [], ◌∷◌, length, refl, sym, ◌∙◌, ap, arith}
 use Rattle.lane_traits.specs.declared.words.WordsRefusal.{WordsRefusal}
 use Rattle.lane_traits.specs.declared.words.WordsRefusal.TheVariants.{HeapFull, NoMemory}
 

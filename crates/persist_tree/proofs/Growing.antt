@@ -1,10 +1,10 @@
 -- A new node comes below a node.
-use Rattle.std.proofs.Common.{◌≡◌, ◌≢◌, ◌⊎◌, inl, inr, ℕ, ◌+◌, ◌*◌, ◌<◌, ◌≤◌, true, false, ◌==◌, nat_lt, max, refl, sym, subst, ◌∙◌, ap, arith}
+use Rattle.std.proofs.Common.{◌≡◌, ◌≢◌, ◌⊎◌, inl, inr, ℕ, ◌+◌, ◌*◌, ◌<◌, ◌≤◌, true, false, ◌==◌, nat_lt, refl, sym, subst, ◌∙◌, ap, arith}
 use Rattle.std.proofs.lemmas.Bool.Decides.{nat_tests}
-use Rattle.lane_traits.specs.Space.{Land, Space, IsOwn}
-use Rattle.region_layout.specs.TreeMap.{Tree, Leaf, Node, height, EachNode, AreBelow, AreAbove, IsOrdered}
-use Rattle.persist_tree.specs.Trees.{IsIn, IsApart, block_of, joined, with_node}
-use Rattle.persist_tree.specs.Changes.{Changes, StandsAt, IsRebuilt, AreParts, HasParts, Builds}
+use Rattle.lane_traits.specs.Space.{Space, IsOwn}
+use Rattle.region_layout.specs.TreeMap.{Tree, Leaf, Node, height}
+use Rattle.persist_tree.specs.Trees.{IsIn, block_of, joined, with_node}
+use Rattle.persist_tree.specs.Changes.{StandsAt, IsRebuilt, AreParts, HasParts, Builds}
 use Rattle.persist_tree.specs.Below.{Finds, IsGrowing, CanGrow, Grows}
 use Rattle.persist_tree.proofs.Nodes.{EachNode-in, each_in}
 use Rattle.persist_tree.proofs.Puts.{with_node-each, with_node-ordered}

@@ -1,5 +1,5 @@
 -- A node is put right: its nodes stay, in order.
-use Rattle.std.proofs.Common.{◌≡◌, ℕ, ◌+◌, nat_lt, List, ◌++◌, ◌∷◌, refl, sym, ◌∙◌, ap, append_assoc}
+use Rattle.std.proofs.Common.{◌≡◌, ℕ, ◌+◌, nat_lt, ◌++◌, ◌∷◌, refl, sym, ◌∙◌, ap, append_assoc}
 use Rattle.region_layout.specs.TreeMap.{Tree, Leaf, Node, height, EachNode, in_order}
 use Rattle.persist_tree.specs.Trees.{IsIn, left_of, right_of, turned_left, turned_right, lowered_left, lowered_right, joined}
 use Rattle.persist_tree.proofs.Nodes.{by_test, same_blocks}

@@ -1,17 +1,13 @@
 -- The laws of the map in a tree.
-use Rattle.std.proofs.Common.{◌≡◌, ◌≢◌, ◌⊎◌, inl, inr, ℕ, zero, suc, ◌+◌, ◌-◌, ◌*◌, ◌/◌, ◌^◌, ◌<◌, ◌≤◌, max, List, [], ◌∷◌, ◌++◌, length, refl, sym, subst, ◌∙◌, ap, arith, length-append}
+use Rattle.std.proofs.Common.{◌≡◌, ◌⊎◌, inl, inr, ℕ, zero, suc, ◌+◌, ◌-◌, ◌/◌, ◌^◌, ◌<◌, ◌≤◌, max, ◌∷◌, length, refl, sym, subst, ◌∙◌, ap, arith, length-append}
 use Rattle.std.proofs.lemmas.Bool.{cases_lt}
 use Rattle.std.proofs.Math.Nat.{pow-suc}
 use Rattle.persist_model.specs.Region.{Words}
-use Rattle.persist_model.specs.Records.{IsAmong}
-use Rattle.lane_traits.specs.Space.{Land, IsOwn, IsBlock}
-use Rattle.region_layout.specs.FiniteMap.{FiniteMap}
+use Rattle.lane_traits.specs.Space.{Land, IsOwn}
 use Rattle.region_layout.specs.HeapBlocks.{land_of, root_of, OwnsAlike}
-use Rattle.region_layout.specs.TreeMap.{Tree, Leaf, Node, top, height, IsNode, IsLaid, EachNode, AreOwn, IsBalanced, blocks, entries, IsTree, IsTreeMap, IsTreeMapOf}
-use Rattle.persist_tree.specs.Trees.{IsIn}
-use Rattle.persist_tree.specs.Laws.{HoldsOneMap, DependsOnItsBlocks, least_nodes, IsLow, HeightsAreLow}
-use Rattle.persist_tree.proofs.Nodes.{EachNode-weaker, in_blocks}
-use Rattle.persist_tree.proofs.Framing.{block_own}
+use Rattle.region_layout.specs.TreeMap.{Tree, Leaf, Node, top, height, IsLaid, EachNode, AreOwn, IsBalanced, entries, IsTree}
+use Rattle.persist_tree.specs.Laws.{HoldsOneMap, DependsOnItsBlocks, least_nodes, HeightsAreLow}
+use Rattle.persist_tree.proofs.Nodes.{EachNode-weaker}
 
 -- ---- the words say which tree it is
 

@@ -1,5 +1,5 @@
 -- Finite maps in two parts, of which the first has the smaller keys.
-use Rattle.std.proofs.Common.{◌≡◌, ◌≢◌, inl, inr, ℕ, ◌+◌, ◌<◌, ◌≤◌, Bool, true, false, if◌then◌else◌, ◌==◌, nat_lt, List, [], ◌++◌, ◌∷◌, Some, None, refl, sym, subst, ◌∙◌, ap, arith}
+use Rattle.std.proofs.Common.{◌≡◌, ◌≢◌, inl, inr, ℕ, ◌<◌, ◌≤◌, Bool, true, false, if◌then◌else◌, ◌==◌, nat_lt, [], ◌++◌, ◌∷◌, Some, None, refl, sym, subst, ap, arith}
 use Rattle.std.proofs.lemmas.Bool.Decides.{nat_tests, eqb_tells}
 use Rattle.region_layout.specs.FiniteMap.{FiniteMap, lookup, with_pair, without_key, AreAfter, IsAscending}
 

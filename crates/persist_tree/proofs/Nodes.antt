@@ -1,5 +1,5 @@
 -- The nodes of a tree: what each has, which blocks they are, in order.
-use Rattle.std.proofs.Common.{◌≡◌, ◌≢◌, ◌⊎◌, inl, inr, ℕ, ◌<◌, ◌≤◌, Bool, true, false, if◌then◌else◌, List, [], ◌∷◌, ◌++◌, refl, sym, subst, arith}
+use Rattle.std.proofs.Common.{◌≡◌, ◌⊎◌, inl, inr, ℕ, ◌<◌, ◌≤◌, Bool, true, false, if◌then◌else◌, List, [], ◌∷◌, ◌++◌, refl, sym, subst, arith}
 use Rattle.persist_model.specs.Records.{IsAmong}
 use Rattle.region_layout.specs.TreeMap.{Tree, Leaf, Node, EachNode, AreBelow, AreAbove, blocks}
 use Rattle.persist_tree.specs.Trees.{IsIn}

@@ -1,12 +1,12 @@
 -- A tree is ordered where its entries ascend: so what keeps the entries keeps the order.
-use Rattle.std.proofs.Common.{◌≡◌, ◌≢◌, inl, inr, ℕ, ◌+◌, ◌<◌, ◌≤◌, true, false, ◌==◌, ◌++◌, ◌∷◌, Some, None, refl, sym, subst, ◌∙◌, ap, arith}
-use Rattle.std.proofs.lemmas.Bool.Decides.{nat_tests, eqb_tells}
+use Rattle.std.proofs.Common.{◌≡◌, ℕ, ◌<◌, ◌≤◌, true, false, ◌==◌, ◌∷◌, Some, refl, sym, subst, ◌∙◌, arith}
+use Rattle.std.proofs.lemmas.Bool.Decides.{nat_tests}
 use Rattle.region_layout.specs.FiniteMap.{AreAfter, IsAscending, lookup}
 use Rattle.region_layout.specs.TreeMap.{Tree, Leaf, Node, AreBelow, AreAbove, IsOrdered, entries}
-use Rattle.persist_tree.specs.Trees.{IsAbsent, joined}
+use Rattle.persist_tree.specs.Trees.{joined}
 use Rattle.persist_tree.proofs.Nodes.{below_less, above_more}
 use Rattle.persist_tree.proofs.Joining.{joined-order}
-use Rattle.persist_tree.proofs.Maps.{AreBefore, before_joined, after_joined, ascending_joined, before_parts, after_parts, split_at, lookup_before, lookup_behind, lookup_after}
+use Rattle.persist_tree.proofs.Maps.{AreBefore, before_joined, after_joined, ascending_joined, before_parts, after_parts, split_at, lookup_before, lookup_behind}
 
 pub entries_before : (m : ℕ) (t : Tree) → AreBelow m t → AreBefore m (entries t)
 entries_before m Leaf h = h

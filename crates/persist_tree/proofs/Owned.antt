@@ -1,11 +1,11 @@
 -- How many blocks a structure owns, and whether a list has them all.
-use Rattle.std.proofs.Common.{◌≡◌, ◌≢◌, ◌⊎◌, inl, inr, ℕ, zero, suc, ◌+◌, ◌*◌, ◌<◌, ◌≤◌, true, false, if◌then◌else◌, ◌==◌, List, [], ◌∷◌, length, refl, sym, subst, ◌∙◌, ap, arith}
-use Rattle.std.proofs.lemmas.Bool.Decides.{nat_tests, eqb_tells}
+use Rattle.std.proofs.Common.{◌≡◌, ◌≢◌, ◌⊎◌, inl, inr, ℕ, zero, suc, ◌+◌, ◌*◌, ◌<◌, ◌≤◌, List, [], ◌∷◌, length, refl, sym, subst, ◌∙◌, ap, arith}
+use Rattle.std.proofs.lemmas.Bool.Decides.{eqb_tells}
 use Rattle.persist_model.specs.Region.{Words}
 use Rattle.persist_model.specs.Records.{IsAmong}
-use Rattle.persist_model.specs.Chain.{Each, IsAbsent, HasNoRepeats, without}
+use Rattle.persist_model.specs.Chain.{Each, HasNoRepeats, without}
 use Rattle.persist_tree.specs.Sound.{owned_count}
-use Rattle.persist_tree.proofs.Counting.{without-absent, length-without, Each-without, HasNoRepeats-without, absent_of, not_among}
+use Rattle.persist_tree.proofs.Counting.{without-absent, length-without, Each-without, HasNoRepeats-without, absent_of}
 
 -- one of the first n blocks, of this owner
 pub record IsOwnBelow (w : Words) (heap owner n b : ℕ) : Type 0 where
@@ -72,7 +72,7 @@ module _ (w : Words) (heap owner : ℕ) where
   count_most zero (x ∷ xs) once each = let lt = each.0.below in absurd (omega (arith, lt))
   count_most (suc n) xs once each =
       let fewer = count_most n (without (heap + 16 * n) xs) (HasNoRepeats-without (heap + 16 * n) xs once)
-          (Each-without (IsOwnBelow w heap owner (suc n)) (IsOwnBelow w heap owner n) (heap + 16 * n) xs (λ x ne h. lower n x ne h) each) in
+      (Each-without (IsOwnBelow w heap owner (suc n)) (IsOwnBelow w heap owner n) (heap + 16 * n) xs (λ x ne h. lower n x ne h) each) in
       let one = length-without (heap + 16 * n) xs once in
       elim (eqb_tells (w (heap + 16 * n)) owner) [
         | inl e ↦ (let on = e.0 in rw on (omega (arith, fewer, one)))

@@ -1,13 +1,13 @@
 -- A put in the tree is a put in its entries.
-use Rattle.std.proofs.Common.{◌≡◌, ◌≢◌, ◌⊎◌, inl, inr, ℕ, ◌+◌, ◌<◌, ◌≤◌, Bool, true, false, if◌then◌else◌, ◌==◌, nat_lt, max, List, [], ◌++◌, ◌∷◌, Some, None, refl, sym, subst, ◌∙◌, ap, arith}
+use Rattle.std.proofs.Common.{◌≡◌, ◌≢◌, ◌⊎◌, inl, inr, ℕ, ◌+◌, ◌<◌, ◌≤◌, Bool, true, false, if◌then◌else◌, ◌==◌, nat_lt, max, List, ◌++◌, ◌∷◌, Some, None, refl, sym, subst, ◌∙◌, ap, arith}
 use Rattle.std.proofs.lemmas.Bool.Decides.{nat_tests, eqb_tells}
 use Rattle.persist_model.specs.Region.{Words}
 use Rattle.region_layout.specs.FiniteMap.{FiniteMap, lookup, with_pair, IsAscending}
-use Rattle.region_layout.specs.TreeMap.{Tree, Leaf, Node, top, height, IsLaid, EachNode, IsOrdered, IsBalanced, in_order, blocks, entries}
+use Rattle.region_layout.specs.TreeMap.{Tree, Leaf, Node, top, height, IsLaid, EachNode, IsOrdered, IsBalanced, blocks, entries}
 use Rattle.persist_tree.specs.Trees.{IsIn, IsAbsent, block_of, joined, with_node, with_value}
 use Rattle.persist_tree.proofs.Nodes.{by_test, EachNode-weaker}
 use Rattle.persist_tree.proofs.Joining.{joined-order, joined-each, joined-in}
-use Rattle.persist_tree.proofs.Maps.{AreBefore, put_before, put_behind, put_ascends}
+use Rattle.persist_tree.proofs.Maps.{put_before, put_behind, put_ascends}
 use Rattle.persist_tree.proofs.Ordering.{entries_ascend, ordered_of, left_before, lookup_left, lookup_right, lookup_here}
 
 -- ---- a new node

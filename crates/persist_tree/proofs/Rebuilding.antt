@@ -1,10 +1,9 @@
 -- One side of a node is rebuilt, and the node is joined again.
-use Rattle.std.proofs.Common.{◌≡◌, ◌≢◌, ◌⊎◌, inl, inr, ℕ, ◌+◌, ◌*◌, ◌<◌, ◌≤◌, max, refl, sym, subst, ◌∙◌, ap, arith}
+use Rattle.std.proofs.Common.{◌≡◌, inl, inr, ℕ, ◌+◌, ◌<◌, ◌≤◌, sym, subst, ◌∙◌, arith}
 use Rattle.lane_traits.specs.Space.{Land, Space, IsOwn}
-use Rattle.region_layout.specs.TreeMap.{Tree, Leaf, Node, height, EachNode, AreBelow, AreAbove, IsOrdered}
+use Rattle.region_layout.specs.TreeMap.{Tree, Node, AreBelow, AreAbove, IsOrdered}
 use Rattle.persist_tree.specs.Trees.{IsIn, IsApart, joined}
 use Rattle.persist_tree.specs.Changes.{Changes, StandsAt, IsRebuilt, AreParts, Builds}
-use Rattle.persist_tree.proofs.Nodes.{EachNode-in}
 use Rattle.persist_tree.proofs.Framing.{laid_keys, apart_of, word_kept, stands_kept, changes_then, changes_more}
 use Rattle.persist_tree.proofs.Turning.{on_left, on_right}
 

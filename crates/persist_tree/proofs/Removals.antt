@@ -1,11 +1,11 @@
 -- A removal from the tree is a removal from its entries.
-use Rattle.std.proofs.Common.{◌≡◌, ◌≢◌, ◌⊎◌, inl, inr, ℕ, ◌+◌, ◌<◌, ◌≤◌, Bool, true, false, if◌then◌else◌, ◌==◌, nat_lt, List, [], ◌++◌, ◌∷◌, refl, sym, subst, ◌∙◌, ap, arith, append_assoc, append-nil}
+use Rattle.std.proofs.Common.{◌≡◌, ◌≢◌, ◌⊎◌, inl, inr, ℕ, ◌<◌, ◌≤◌, Bool, true, false, if◌then◌else◌, ◌==◌, nat_lt, ◌++◌, ◌∷◌, refl, sym, subst, ◌∙◌, ap, arith, append-nil}
 use Rattle.std.proofs.lemmas.Bool.Decides.{nat_tests, eqb_tells}
 use Rattle.persist_model.specs.Records.{IsAmong}
 use Rattle.region_layout.specs.FiniteMap.{FiniteMap, without_key, IsAscending}
 use Rattle.region_layout.specs.TreeMap.{Tree, Leaf, Node, EachNode, IsOrdered, in_order, blocks, entries}
 use Rattle.persist_tree.specs.Trees.{IsIn, IsAbsent, block_of, joined, first_of, without_first, merged, without_node}
-use Rattle.persist_tree.proofs.Nodes.{by_test, EachNode-weaker, in_blocks, of_blocks, among_left, among_right, among_either}
+use Rattle.persist_tree.proofs.Nodes.{by_test, EachNode-weaker, in_blocks, of_blocks, among_left, among_right}
 use Rattle.persist_tree.proofs.Joining.{joined-order, joined-each, joined-in}
 use Rattle.persist_tree.proofs.Maps.{without_before, without_behind, without_ascends}
 use Rattle.persist_tree.proofs.Ordering.{entries_ascend, ordered_of, rest_after, left_before}

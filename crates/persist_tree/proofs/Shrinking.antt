@@ -1,13 +1,13 @@
 -- A node goes from below a node.
-use Rattle.std.proofs.Common.{◌≡◌, ◌≢◌, ◌⊎◌, inl, inr, ℕ, ◌+◌, ◌*◌, ◌<◌, ◌≤◌, true, false, ◌==◌, nat_lt, ◌∷◌, max, refl, sym, subst, ◌∙◌, ap, arith}
+use Rattle.std.proofs.Common.{◌≡◌, ◌⊎◌, inl, inr, ℕ, ◌+◌, ◌*◌, ◌<◌, true, false, ◌==◌, nat_lt, ◌∷◌, refl, sym, subst, ◌∙◌, ap, arith}
 use Rattle.std.proofs.lemmas.Bool.Decides.{nat_tests}
 use Rattle.persist_model.specs.Region.{Words}
 use Rattle.persist_model.specs.Chain.{HasNoRepeats, IsAbsent}
 use Rattle.lane_traits.specs.Space.{Land, Space, IsOwn}
 use Rattle.region_layout.specs.FiniteMap.{AreAfter, IsAscending}
-use Rattle.region_layout.specs.TreeMap.{Tree, Leaf, Node, top, height, IsLaid, EachNode, AreBelow, AreAbove, IsOrdered, in_order, entries}
-use Rattle.persist_tree.specs.Trees.{IsIn, IsApart, block_of, joined, first_of, without_first, merged, without_node}
-use Rattle.persist_tree.specs.Changes.{Changes, StandsAt, IsRebuilt, AreParts, HasParts, HasNode, HasTree, Builds}
+use Rattle.region_layout.specs.TreeMap.{Tree, Leaf, Node, height, IsLaid, EachNode, AreAbove, IsOrdered, in_order, entries}
+use Rattle.persist_tree.specs.Trees.{IsIn, joined, first_of, without_first, without_node}
+use Rattle.persist_tree.specs.Changes.{StandsAt, IsRebuilt, AreParts, HasParts, HasNode, Builds}
 use Rattle.persist_tree.specs.Below.{IsDropping, CanDrop, LeadsFirst, Drops, AreMerging, CanMerge, Merges, IsShrinking, CanShrink, Shrinks}
 use Rattle.persist_tree.proofs.Nodes.{EachNode-in, each_in, below_less, in_blocks}
 use Rattle.persist_tree.proofs.Joining.{joined-in}
@@ -185,7 +185,7 @@ module _ (s u : Space) (left right rest key : ℕ) (l : Tree) (b k v : ℕ) (rl 
   pub merged_parts : AreParts u (first_block b rl) left rest (first_key k rl) (first_value v rl) l (without_first (Node b k v rl rr))
   merged_parts =
       let l_stands = stands_kept (IsIn (without_first (Node b k v rl rr))) (9 * height (Node b k v rl rr)) s u left l built.changes (λ d m. (rest_own d m).0)
-          (λ c m n. merging_apart c m (part_of s u right rest (Node b k v rl rr) c n)) h.on_left.stands in
+      (λ c m n. merging_apart c m (part_of s u right rest (Node b k v rl rr) c n)) h.on_left.stands in
       let above : key < first_key k rl = first-each (λ d j i. key < j) b k v rl rr h.above in
       record {
         own = subst (λ (y : Land). IsOwn y (first_block b rl)) (sym built.changes.land) first_own;

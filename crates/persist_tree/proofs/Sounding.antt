@@ -1,21 +1,19 @@
 -- What the checks of a tree's words tell.
-use Rattle.std.proofs.Common.{◌≡◌, ◌≢◌, ◌⊎◌, ◌↔◌, inl, inr, ℕ, zero, suc, ◌+◌, ◌-◌, ◌*◌, ◌/◌, ◌%◌, ◌^◌, ◌<◌, ◌≤◌, max, Option, Some, None, List, [], ◌∷◌, ◌++◌, length, get_or, refl, sym, subst, ◌∙◌, ap, arith, length-append}
+use Rattle.std.proofs.Common.{◌≡◌, ◌≢◌, ◌↔◌, inl, inr, ℕ, ◌+◌, ◌-◌, ◌*◌, ◌/◌, ◌%◌, ◌^◌, ◌<◌, ◌≤◌, max, Option, Some, None, List, ◌∷◌, length, refl, sym, subst, ◌∙◌, ap, arith, length-append}
 use Rattle.std.proofs.lemmas.List.{get_or_past}
 use Rattle.std.proofs.lemmas.Bool.{cases_lt}
 use Rattle.std.proofs.Math.Pow.{pow_mono}
 use Rattle.std.proofs.lemmas.Bool.Decides.{eqb_tells}
 use Rattle.std.specs.Prelude.{slice_index, IsTrue, ◌==◌}
 use Rattle.persist_model.specs.Region.{Words}
-use Rattle.persist_model.specs.Records.{IsAmong}
 use Rattle.persist_model.specs.Chain.{Each, HasNoRepeats}
-use Rattle.lane_traits.specs.Device.{MAX_WORDS}
-use Rattle.lane_traits.specs.Space.{Land, IsOwn, IsBlock}
+use Rattle.lane_traits.specs.Space.{Land, IsOwn}
 use Rattle.region_layout.specs.HeapBlocks.{land_of, root_of}
-use Rattle.region_layout.specs.TreeMap.{Tree, Leaf, Node, top, height, IsNode, IsLaid, EachNode, AreOwn, IsOrdered, IsBalanced, in_order, blocks, entries, IsTree, IsTreeMap}
-use Rattle.persist_tree.specs.Trees.{IsIn, IsApart}
+use Rattle.region_layout.specs.TreeMap.{Tree, Leaf, Node, height, AreOwn, in_order, blocks, entries, IsTree}
+use Rattle.persist_tree.specs.Trees.{IsIn}
 use Rattle.persist_tree.specs.Sound.{HoldsTree, IsArea, IsWithin, IsOver, IsUnder, IsSoundNode, IsPart, HasPart, HasNoPart, owned_count, HasTreeOf}
-use Rattle.persist_tree.proofs.Nodes.{EachNode-weaker, EachNode-in, each_in, in_blocks, of_blocks}
-use Rattle.persist_tree.proofs.Counting.{blocks-each, few_blocks, blocks-once}
+use Rattle.persist_tree.proofs.Nodes.{EachNode-weaker, EachNode-in, each_in}
+use Rattle.persist_tree.proofs.Counting.{blocks-each, few_blocks}
 use Rattle.persist_tree.proofs.Framing.{laid_keys, apart_of}
 use Rattle.persist_tree.proofs.Whole.{once_of, root_out}
 use Rattle.persist_tree.proofs.Lawful.{laid_unique, positive_of, low_heights}
@@ -284,7 +282,7 @@ module _ (xs : List ℕ) (heap blocks_are structure root : ℕ) (area : IsArea x
     pub measured-full : HasTreeOf (land_of heap (slice_index xs) structure) (slice_index xs) root → nodes + 1 ≡ count
     measured-full h =
         let same = laid_unique (slice_index xs) h.tree has.tree (positive_of (land_of heap (slice_index xs) structure) h.tree h.is.own) (positive_of (land_of heap (slice_index xs) structure) has.tree has.part.own)
-            h.is.laid has.part.laid (sym h.is.top_is ∙ sym here ∙ has.part.top_is) in
+        h.is.laid has.part.laid (sym h.is.top_is ∙ sym here ∙ has.part.top_is) in
         let long : length (blocks h.tree) ≡ nodes = ap (λ x. length (blocks x)) same ∙ has.nodes_are in
         let least = count_least (slice_index xs) heap (structure + 1) blocks_are (root ∷ blocks h.tree) (λ b o. h.is.all b (count_own xs heap blocks_are structure area b o)) in
         let most = count_most (slice_index xs) heap (structure + 1) blocks_are (root ∷ blocks h.tree) h.is.once (each_counted h.tree h.is.root_own h.is.own) in

@@ -1,12 +1,12 @@
 -- The nodes of a turn are hung one after the other.
-use Rattle.std.proofs.Common.{◌≡◌, ◌≢◌, inl, inr, ℕ, ◌+◌, ◌<◌, ◌≤◌, ◌^◌, ◌++◌, ◌∷◌, true, false, ◌==◌, max, refl, sym, subst, ◌∙◌, ap, arith}
+use Rattle.std.proofs.Common.{◌≡◌, ◌≢◌, inl, inr, ℕ, ◌+◌, ◌<◌, ◌^◌, ◌++◌, ◌∷◌, false, ◌==◌, refl, sym, subst, ◌∙◌, ap, arith}
 use Rattle.std.proofs.lemmas.Bool.Decides.{nat_tests}
 use Rattle.lane_traits.specs.Space.{Land, Space, IsOwn, IsBlock}
-use Rattle.region_layout.specs.TreeMap.{Tree, Leaf, Node, top, height, IsNode, AreOwn, in_order}
-use Rattle.persist_tree.specs.Trees.{IsIn, IsApart, turned_left, turned_right, turned_twice_left, turned_twice_right}
+use Rattle.region_layout.specs.TreeMap.{Tree, Leaf, Node, top, height, AreOwn, in_order}
+use Rattle.persist_tree.specs.Trees.{IsIn, IsApart}
 use Rattle.persist_tree.specs.Changes.{Changes, StandsAt, IsRebuilt, AreParts, HasParts, HasTree, HasNode, Hangs, stored_height}
 use Rattle.persist_tree.proofs.Joining.{turned_left-order, turned_right-order}
-use Rattle.persist_tree.proofs.Counting.{apart_same, low_tree}
+use Rattle.persist_tree.proofs.Counting.{apart_same}
 use Rattle.persist_tree.proofs.Framing.{changes_then, changes_more, word_kept, stands_kept}
 
 -- ---- what stands in a space stands in an equal one

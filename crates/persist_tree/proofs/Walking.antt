@@ -4,10 +4,10 @@ use Rattle.std.proofs.lemmas.List.{map-append}
 use Rattle.lane_traits.specs.Space.{Space}
 use Rattle.lane_traits.specs.declared.words.Pair.{Pair}
 use Rattle.region_layout.specs.FiniteMap.{FiniteMap}
-use Rattle.region_layout.specs.TreeMap.{Tree, Leaf, Node, entries, IsTree}
+use Rattle.region_layout.specs.TreeMap.{Tree, Leaf, Node, entries}
 use Rattle.persist_tree.specs.Changes.{StandsAt, HasTree}
 use Rattle.persist_tree.specs.Calls.{Holds, IsMap, entry_of}
-use Rattle.persist_tree.proofs.Turning.{IsNodeAt, node_at, on_left, on_right, stands_in}
+use Rattle.persist_tree.proofs.Turning.{node_at, on_left, on_right, stands_in}
 use Rattle.persist_tree.proofs.Whole.{whole_stands}
 
 -- the entries of the tree here are behind those of before

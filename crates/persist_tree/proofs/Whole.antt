@@ -1,24 +1,24 @@
 -- The tree below the root block, as a map.
-use Rattle.std.proofs.Common.{◌≡◌, ◌≢◌, ◌⊎◌, inl, inr, ℕ, ◌+◌, ◌*◌, ◌<◌, ◌≤◌, Bool, true, false, if◌then◌else◌, ◌==◌, nat_lt, max, Some, None, List, [], ◌∷◌, length, refl, sym, subst, ◌∙◌, ap, arith}
-use Rattle.std.proofs.lemmas.Bool.Decides.{nat_tests, eqb_tells}
+use Rattle.std.proofs.Common.{◌≡◌, ◌≢◌, ◌⊎◌, inl, inr, ℕ, ◌+◌, ◌*◌, ◌<◌, ◌≤◌, Bool, true, false, if◌then◌else◌, ◌==◌, nat_lt, max, Some, None, ◌∷◌, refl, sym, subst, ◌∙◌, ap, arith}
+use Rattle.std.proofs.lemmas.Bool.Decides.{eqb_tells}
 use Rattle.std.specs.Prelude.{is_none}
 use Rattle.persist_model.specs.Region.{Words}
 use Rattle.persist_model.specs.Records.{IsAmong}
 use Rattle.persist_model.specs.Chain.{HasNoRepeats}
 use Rattle.lane_traits.specs.Space.{Land, Space, IsOwn, IsBlock, IsDataWord, IsTaken, AreSpare, put_word, written, taken, given, with_owner}
 use Rattle.region_layout.specs.FiniteMap.{FiniteMap, lookup, with_pair, without_key}
-use Rattle.region_layout.specs.TreeMap.{Tree, Leaf, Node, top, height, IsNode, IsLaid, EachNode, AreOwn, AreFilled, IsOrdered, blocks, entries, IsTree, IsTreeMap}
+use Rattle.region_layout.specs.TreeMap.{Tree, Leaf, Node, top, height, IsNode, IsLaid, EachNode, AreOwn, blocks, IsTree}
 use Rattle.persist_tree.specs.Trees.{IsIn, IsApart, IsAbsent, block_of, with_node, with_value, without_node}
-use Rattle.persist_tree.specs.Changes.{IsOutside, Changes, StandsAt, IsRebuilt, HasTree}
-use Rattle.persist_tree.specs.Below.{IsGrowing, CanGrow, Grows, IsShrinking, CanShrink, Shrinks}
-use Rattle.persist_tree.specs.Calls.{Holds, IsMap, needed, KeepsBlocks, TakesOne, GivesOne, KeepsOthers, WritesFew}
+use Rattle.persist_tree.specs.Changes.{StandsAt, IsRebuilt}
+use Rattle.persist_tree.specs.Below.{IsGrowing, CanGrow, Grows, CanShrink, Shrinks}
+use Rattle.persist_tree.specs.Calls.{Holds, IsMap, needed, KeepsBlocks, GivesOne, KeepsOthers, WritesFew}
 use Rattle.persist_tree.specs.Located.{Locates, CanInsert, IsInserted, Inserts}
 use Rattle.persist_tree.proofs.Nodes.{EachNode-weaker, EachNode-in, each_in, in_blocks, of_blocks}
 use Rattle.persist_tree.proofs.Balancing.{with_node-grown, without_node-shrunk}
 use Rattle.persist_tree.proofs.Puts.{with_node-each, with_node-in, with_node-entries, with_node-ordered, none_absent, absent_none, found_in, found_value, with_value-top, with_value-height, with_value-balanced, with_value-each, with_value-blocks, with_value-entries, with_value-ordered}
 use Rattle.persist_tree.proofs.Removals.{without_node-each, without_node-in, without_node-entries, without_node-ordered, without_node-absent}
 use Rattle.persist_tree.proofs.Counting.{absent_of, not_among, blocks-once}
-use Rattle.persist_tree.proofs.Framing.{blocks_apart, put_same, put_other, laid_kept, laid_keys, apart_of, block_own}
+use Rattle.persist_tree.proofs.Framing.{blocks_apart, put_same, put_other, laid_kept, laid_keys, block_own}
 use Rattle.persist_tree.proofs.Maps.{without_missing}
 use Rattle.persist_tree.proofs.Rebuilding.{standing_apart}
 
@@ -198,20 +198,18 @@ with_value-laid land w key value (Node b k v l r) laid own apart some =
       laid_beside land w b 2 value r own.0.0 (omega arith) own.2 apart.1 laid.2,
     )
     by_case on_left on_right in_left in_right false true some =
-        let m = in_left some in
-        (
+        let m = in_left some in (
           subst (λ y. IsNode (put_word (block_of key l + 2) value w) b k v y (top r) (1 + max (height (with_value key value l)) (height r))) (sym (with_value-top key value l))
-          (subst (λ y. IsNode (put_word (block_of key l + 2) value w) b k v (top l) (top r) (1 + max y (height r))) (sym (with_value-height key value l))
-          (node_beside land w (block_of key l) 2 value b k v (top l) (top r) (1 + max (height l) (height r)) (block_own land l (block_of key l) own.1 m).0 own.0.0 (λ e. apart.0 (subst (IsIn l) e m)) (omega arith) laid.0)),
+              (subst (λ y. IsNode (put_word (block_of key l + 2) value w) b k v (top l) (top r) (1 + max y (height r))) (sym (with_value-height key value l))
+              (node_beside land w (block_of key l) 2 value b k v (top l) (top r) (1 + max (height l) (height r)) (block_own land l (block_of key l) own.1 m).0 own.0.0 (λ e. apart.0 (subst (IsIn l) e m)) (omega arith) laid.0)),
           on_left some,
           laid_beside land w (block_of key l) 2 value r (block_own land l (block_of key l) own.1 m).0 (omega arith) own.2 (λ n. apart.2 (block_of key l) m n) laid.2,
         )
     by_case on_left on_right in_left in_right false false some =
-        let m = in_right some in
-        (
+        let m = in_right some in (
           subst (λ y. IsNode (put_word (block_of key r + 2) value w) b k v (top l) y (1 + max (height l) (height (with_value key value r)))) (sym (with_value-top key value r))
-          (subst (λ y. IsNode (put_word (block_of key r + 2) value w) b k v (top l) (top r) (1 + max (height l) y)) (sym (with_value-height key value r))
-          (node_beside land w (block_of key r) 2 value b k v (top l) (top r) (1 + max (height l) (height r)) (block_own land r (block_of key r) own.2 m).0 own.0.0 (λ e. apart.1 (subst (IsIn r) e m)) (omega arith) laid.0)),
+              (subst (λ y. IsNode (put_word (block_of key r + 2) value w) b k v (top l) (top r) (1 + max (height l) y)) (sym (with_value-height key value r))
+              (node_beside land w (block_of key r) 2 value b k v (top l) (top r) (1 + max (height l) (height r)) (block_own land r (block_of key r) own.2 m).0 own.0.0 (λ e. apart.1 (subst (IsIn r) e m)) (omega arith) laid.0)),
           laid_beside land w (block_of key r) 2 value l (block_own land r (block_of key r) own.2 m).0 (omega arith) own.1 (λ n. apart.2 (block_of key r) n m) laid.1,
           on_right some,
         )

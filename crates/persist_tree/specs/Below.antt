@@ -1,7 +1,7 @@
 -- What the calls do below the root.
 use Rattle.std.specs.Prelude.{◌≡◌, ◌≢◌, ◌⊎◌, ℕ, ◌+◌, ◌*◌}
 use Rattle.lane_traits.specs.Space.{Space, IsOwn}
-use Rattle.region_layout.specs.TreeMap.{Tree, Leaf, Node, height, AreBelow, AreAbove, IsOrdered}
+use Rattle.region_layout.specs.TreeMap.{Tree, Node, height, AreBelow, AreAbove, IsOrdered}
 use Rattle.persist_tree.specs.Trees.{IsIn, IsAbsent, block_of, with_node, first_of, without_first, merged, without_node}
 use Rattle.persist_tree.specs.Changes.{StandsAt, IsRebuilt}
 

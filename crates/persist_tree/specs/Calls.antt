@@ -1,5 +1,5 @@
 -- What the calls promise.
-use Rattle.std.specs.Prelude.{◌≡◌, ◌≢◌, ℕ, ◌+◌, ◌*◌, ◌≤◌, Option, if◌then◌else◌, is_none}
+use Rattle.std.specs.Prelude.{◌≡◌, ℕ, ◌+◌, ◌*◌, ◌≤◌, if◌then◌else◌, is_none}
 use Rattle.persist_model.specs.Records.{IsAmong}
 use Rattle.lane_traits.specs.Space.{Space, IsOwn, IsDataWord, taken, given}
 use Rattle.lane_traits.specs.declared.words.Pair.{Pair}

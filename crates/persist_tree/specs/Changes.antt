@@ -2,8 +2,8 @@
 use Rattle.std.specs.Prelude.{◌≡◌, ◌≢◌, ℕ, ◌+◌, ◌<◌, ◌≤◌, if◌then◌else◌, ◌==◌}
 use Rattle.persist_model.specs.Region.{Words}
 use Rattle.lane_traits.specs.Space.{Space, IsOwn}
-use Rattle.region_layout.specs.TreeMap.{Tree, Leaf, Node, top, IsLaid, AreOwn, IsOrdered}
-use Rattle.persist_tree.specs.Trees.{IsIn, IsApart, IsAbsent}
+use Rattle.region_layout.specs.TreeMap.{Tree, Node, top, IsLaid, AreOwn}
+use Rattle.persist_tree.specs.Trees.{IsIn, IsApart}
 
 -- the address is no data word of these blocks
 abbrev pub IsOutside : (ℕ → Type 0) → ℕ → Type 0

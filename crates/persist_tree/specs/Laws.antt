@@ -1,5 +1,5 @@
 -- Laws of the map in a tree.
-use Rattle.std.specs.Prelude.{◌≡◌, ℕ, zero, suc, ◌+◌, ◌*◌, ◌/◌, ◌^◌, ◌≤◌, length, refl}
+use Rattle.std.specs.Prelude.{◌≡◌, ℕ, zero, suc, ◌+◌, ◌/◌, ◌^◌, ◌≤◌, length, refl}
 use Rattle.persist_model.specs.Region.{Words}
 use Rattle.lane_traits.specs.Space.{Land}
 use Rattle.region_layout.specs.FiniteMap.{FiniteMap}

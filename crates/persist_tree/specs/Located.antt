@@ -1,5 +1,5 @@
 -- Where a key is, and what a call makes of the whole tree.
-use Rattle.std.specs.Prelude.{◌≡◌, ◌≢◌, ℕ, ◌+◌, ◌*◌, ◌≤◌}
+use Rattle.std.specs.Prelude.{◌≡◌, ℕ, ◌+◌, ◌*◌, ◌≤◌}
 use Rattle.lane_traits.specs.Space.{Space}
 use Rattle.region_layout.specs.TreeMap.{Tree, height, IsTree}
 use Rattle.persist_tree.specs.Trees.{IsAbsent, block_of, with_node}

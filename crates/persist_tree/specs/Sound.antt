@@ -1,10 +1,9 @@
 -- Whether the words of a structure are a map.
-use Rattle.std.specs.Prelude.{◌≡◌, ◌≢◌, ℕ, zero, suc, ◌+◌, ◌-◌, ◌*◌, ◌%◌, ◌<◌, ◌≤◌, List, length, slice_index, Option, Some, None, if◌then◌else◌, ◌==◌}
+use Rattle.std.specs.Prelude.{◌≡◌, ◌≢◌, ℕ, zero, suc, ◌+◌, ◌-◌, ◌*◌, ◌%◌, ◌<◌, ◌≤◌, List, length, Option, Some, None, if◌then◌else◌, ◌==◌}
 use Rattle.persist_model.specs.Region.{Words}
 use Rattle.lane_traits.specs.Device.{MAX_WORDS}
 use Rattle.lane_traits.specs.Space.{Land, IsOwn}
 use Rattle.region_layout.specs.FiniteMap.{FiniteMap}
-use Rattle.region_layout.specs.HeapBlocks.{land_of}
 use Rattle.region_layout.specs.TreeMap.{Tree, top, height, IsLaid, EachNode, AreOwn, AreFilled, IsOrdered, IsBalanced, blocks, IsTree, IsTreeMapOf}
 
 -- the words are a map of this structure

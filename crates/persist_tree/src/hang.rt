@@ -26,12 +26,7 @@ fn store<W: Words>(
 }
 
 /// The block, whose key and value stay, is then a node with these sides.
-pub(crate) fn hang<W: Words>(
-    words: &mut W,
-    at: u32,
-    left: u32,
-    right: u32,
-) -> Result<(), NoMemory>
+pub(crate) fn hang<W: Words>(words: &mut W, at: u32, left: u32, right: u32) -> Result<(), NoMemory>
     requires { HasParts (W.space words.old) at left right }
     ensures { OnOk result (Hangs (W.space words.old) (W.space words.new) at left right) }
 {

@@ -11,12 +11,7 @@ use lane_traits::Words;
 use persist_model::NoMemory;
 
 /// The block is then a node of these trees, turned where one of them is higher by two. The answer is the topmost block.
-pub(crate) fn join<W: Words>(
-    words: &mut W,
-    at: u32,
-    left: u32,
-    right: u32,
-) -> Result<u32, NoMemory>
+pub(crate) fn join<W: Words>(words: &mut W, at: u32, left: u32, right: u32) -> Result<u32, NoMemory>
     requires { HasParts (W.space words.old) at left right }
     ensures { IfOk result (λ link. Builds joined 9 (W.space words.old) (W.space words.new) at left right link) }
 {

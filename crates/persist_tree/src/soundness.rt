@@ -142,8 +142,24 @@ fn measure<L: Look>(
         return None;
     }
     let node = node_at(words, area, blocks, link, low, high)?;
-    let left = measure(words, area, blocks, node.left, low, Some(node.key), depth - 1)?;
-    let right = measure(words, area, blocks, node.right, Some(node.key), high, depth - 1)?;
+    let left = measure(
+        words,
+        area,
+        blocks,
+        node.left,
+        low,
+        Some(node.key),
+        depth - 1,
+    )?;
+    let right = measure(
+        words,
+        area,
+        blocks,
+        node.right,
+        Some(node.key),
+        high,
+        depth - 1,
+    )?;
     let levels = left.levels.max(right.levels) + 1;
     if left.levels.abs_diff(right.levels) > 1 {
         return None;

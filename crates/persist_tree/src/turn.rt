@@ -30,12 +30,7 @@ fn turn_twice_right<W: Words>(
 }
 
 // The left child of the right child comes above both.
-fn turn_twice_left<W: Words>(
-    words: &mut W,
-    at: u32,
-    left: u32,
-    right: u32,
-) -> Result<u32, NoMemory>
+fn turn_twice_left<W: Words>(words: &mut W, at: u32, left: u32, right: u32) -> Result<u32, NoMemory>
     requires parts { HasParts (W.space words.old) at left right }
     requires child { 0 < right }
     requires inner { 0 < (W.space words.old).word (right + 3) }

@@ -1,5 +1,3 @@
-use Rattle.std.proofs.Common.{◌≡◌, ◌<◌, ◌+◌, ◌∙◌, ap, refl, sym, subst, rules, arith}
-use Rattle.lane_traits.specs.Space.{Space}
 use Rattle.persist_tree.proofs.Whole.{needed_none, needed_some}
 use Rattle.persist_tree.proofs.calls.needs.Goals as goal
 

@@ -1,4 +1,4 @@
-use Rattle.std.proofs.Common.{◌≡◌, ◌<◌, ◌+◌, ◌∙◌, ap, refl, sym, subst, rules, arith}
+use Rattle.std.proofs.Common.{◌+◌, ◌∙◌, ap}
 use Rattle.lane_traits.specs.Space.{Space, written}
 use Rattle.std.proofs.Common.{Some}
 use Rattle.persist_tree.proofs.Descending.{own_same}

@@ -1,7 +1,7 @@
-use Rattle.std.proofs.Common.{◌≡◌, ◌<◌, ◌+◌, ◌∙◌, ap, refl, sym, subst, rules, arith}
+use Rattle.std.proofs.Common.{◌<◌, ◌+◌, ◌∙◌, ap, refl, rules, arith}
 use Rattle.lane_traits.specs.Space.{Space}
 use Rattle.std.proofs.lemmas.Result.{on_ok_weaker}
-use Rattle.persist_tree.specs.Changes.{stored_height, HasTree}
+use Rattle.persist_tree.specs.Changes.{stored_height}
 use Rattle.persist_tree.proofs.Turning.{has_node}
 use Rattle.persist_tree.proofs.Descending.{tree_same, node_same, node_own, own_same, node_left, node_right, left_lower, right_lower, lower_here}
 use Rattle.persist_tree.proofs.Walking.{collects_none, collects_in, collects_node}

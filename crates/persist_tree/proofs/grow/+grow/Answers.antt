@@ -1,8 +1,8 @@
-use Rattle.std.proofs.Common.{◌≡◌, ◌<◌, ◌+◌, ◌∙◌, ap, refl, sym, subst, rules, arith}
+use Rattle.std.proofs.Common.{◌<◌, ◌+◌, ◌∙◌, ap, refl, rules, arith}
 use Rattle.lane_traits.specs.Space.{Space}
 use Rattle.std.proofs.lemmas.Result.{IfOk-weaker}
 use Rattle.persist_tree.specs.Trees.{joined}
-use Rattle.persist_tree.specs.Changes.{stored_height, HasTree, Builds}
+use Rattle.persist_tree.specs.Changes.{stored_height, Builds}
 use Rattle.persist_tree.specs.Below.{Grows}
 use Rattle.persist_tree.proofs.Turning.{has_node, parts_in}
 use Rattle.persist_tree.proofs.Descending.{node_same, node_own, left_lower, right_lower, lower_here}

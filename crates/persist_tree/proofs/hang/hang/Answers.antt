@@ -1,7 +1,5 @@
-use Rattle.std.proofs.Common.{◌≡◌, ◌+◌, max, ◌∙◌, ap, refl, arith}
+use Rattle.std.proofs.Common.{◌∙◌, refl, arith}
 use Rattle.std.proofs.lemmas.Result.{on_ok_weaker}
-use Rattle.lane_traits.specs.Space.{Space}
-use Rattle.persist_tree.specs.Changes.{stored_height}
 use Rattle.persist_tree.proofs.Building.{low_sides, heights_in, hangs_of, hung_in}
 use Rattle.persist_tree.proofs.hang.hang.Goals as goal
 

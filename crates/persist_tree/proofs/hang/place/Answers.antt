@@ -1,6 +1,4 @@
-use Rattle.std.proofs.Common.{◌+◌, ◌∙◌, ap}
 use Rattle.std.proofs.lemmas.Result.{on_ok_weaker}
-use Rattle.lane_traits.specs.Space.{Space, written}
 use Rattle.persist_tree.proofs.Building.{placed_of}
 use Rattle.persist_tree.proofs.hang.place.Goals as goal
 

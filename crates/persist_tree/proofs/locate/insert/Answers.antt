@@ -1,5 +1,3 @@
-use Rattle.std.proofs.Common.{◌≡◌, ◌<◌, ◌+◌, ◌∙◌, ap, refl, sym, subst, rules, arith}
-use Rattle.lane_traits.specs.Space.{Space}
 use Rattle.persist_tree.proofs.Whole.{insert_can, insert_own, insert_made}
 use Rattle.persist_tree.proofs.locate.insert.Goals as goal
 

@@ -1,10 +1,9 @@
-use Rattle.std.proofs.Common.{◌≡◌, ◌<◌, ◌+◌, ◌∙◌, ap, refl, sym, subst, rules, arith}
+use Rattle.std.proofs.Common.{◌<◌, ◌+◌, ◌∙◌, ap, refl, sym, rules, arith}
 use Rattle.lane_traits.specs.Space.{Space}
 use Rattle.persist_tree.proofs.Turning.{has_node}
 use Rattle.persist_tree.proofs.Descending.{tree_same, node_same, node_own, node_left, node_right, left_lower, right_lower, lower_here}
-use Rattle.persist_tree.proofs.Building.{low_sides}
 use Rattle.persist_tree.proofs.Growing.{finds_none, finds_here, finds_left, finds_right, finds_in}
-use Rattle.persist_tree.specs.Changes.{stored_height, HasTree}
+use Rattle.persist_tree.specs.Changes.{stored_height}
 use Rattle.persist_tree.proofs.search.+seek.Goals as goal
 
 pub returns-then-at-eq0-clause-found : goal.returns-then-at-eq0-clause-found

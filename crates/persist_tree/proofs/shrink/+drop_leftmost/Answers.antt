@@ -1,11 +1,10 @@
-use Rattle.std.proofs.Common.{◌≡◌, ◌<◌, ◌+◌, ◌∙◌, ap, refl, sym, subst, rules, arith}
-use Rattle.lane_traits.specs.Space.{Space}
+use Rattle.std.proofs.Common.{◌<◌, ◌+◌, ◌∙◌, refl, sym, subst, rules, arith}
 use Rattle.std.proofs.lemmas.Result.{IfOk-weaker}
 use Rattle.persist_tree.specs.Trees.{joined}
-use Rattle.persist_tree.specs.Changes.{stored_height, HasTree, Builds}
-use Rattle.persist_tree.specs.Below.{Drops, Merges, Shrinks}
-use Rattle.persist_tree.proofs.Turning.{has_node, parts_in}
-use Rattle.persist_tree.proofs.Descending.{node_same, node_own, own_same, left_lower, right_lower, lower_here}
+use Rattle.persist_tree.specs.Changes.{stored_height, Builds}
+use Rattle.persist_tree.specs.Below.{Drops}
+use Rattle.persist_tree.proofs.Turning.{parts_in}
+use Rattle.persist_tree.proofs.Descending.{left_lower, lower_here}
 use Rattle.persist_tree.proofs.Growing.{builds_from}
 use Rattle.persist_tree.proofs.Shrinking.{can_drop-node, can_drop-positive, can_drop_left, can_drop_in, drops_in, drops_here, drop_parts, drops_joined}
 use Rattle.persist_tree.proofs.shrink.+drop_leftmost.Goals as goal

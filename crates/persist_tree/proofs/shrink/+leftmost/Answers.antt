@@ -1,12 +1,6 @@
-use Rattle.std.proofs.Common.{◌≡◌, ◌<◌, ◌+◌, ◌∙◌, ap, refl, sym, subst, rules, arith}
-use Rattle.lane_traits.specs.Space.{Space}
-use Rattle.std.proofs.lemmas.Result.{IfOk-weaker}
-use Rattle.persist_tree.specs.Trees.{joined}
-use Rattle.persist_tree.specs.Changes.{stored_height, HasTree, Builds}
-use Rattle.persist_tree.specs.Below.{Drops, Merges, Shrinks}
-use Rattle.persist_tree.proofs.Turning.{has_node, parts_in}
-use Rattle.persist_tree.proofs.Descending.{node_same, node_own, own_same, left_lower, right_lower, lower_here}
-use Rattle.persist_tree.proofs.Growing.{builds_from}
+use Rattle.std.proofs.Common.{◌<◌, ◌+◌, ◌∙◌, sym, rules, arith}
+use Rattle.persist_tree.specs.Changes.{stored_height}
+use Rattle.persist_tree.proofs.Descending.{left_lower, lower_here}
 use Rattle.persist_tree.proofs.Shrinking.{can_drop-node, can_drop_left, can_drop_in, leads_here, leads_left, leads_in}
 use Rattle.persist_tree.proofs.shrink.+leftmost.Goals as goal
 

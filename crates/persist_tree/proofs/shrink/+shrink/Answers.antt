@@ -1,11 +1,11 @@
-use Rattle.std.proofs.Common.{◌≡◌, ◌<◌, ◌+◌, ◌∙◌, ap, refl, sym, subst, rules, arith}
+use Rattle.std.proofs.Common.{◌<◌, ◌+◌, ◌∙◌, ap, refl, rules, arith}
 use Rattle.lane_traits.specs.Space.{Space}
 use Rattle.std.proofs.lemmas.Result.{IfOk-weaker}
 use Rattle.persist_tree.specs.Trees.{joined}
-use Rattle.persist_tree.specs.Changes.{stored_height, HasTree, Builds}
-use Rattle.persist_tree.specs.Below.{Drops, Merges, Shrinks}
-use Rattle.persist_tree.proofs.Turning.{has_node, parts_in}
-use Rattle.persist_tree.proofs.Descending.{node_same, node_own, own_same, left_lower, right_lower, lower_here}
+use Rattle.persist_tree.specs.Changes.{stored_height, Builds}
+use Rattle.persist_tree.specs.Below.{Merges, Shrinks}
+use Rattle.persist_tree.proofs.Turning.{parts_in}
+use Rattle.persist_tree.proofs.Descending.{node_same, node_own, left_lower, right_lower, lower_here}
 use Rattle.persist_tree.proofs.Growing.{builds_from}
 use Rattle.persist_tree.proofs.Shrinking.{can_shrink-node, can_shrink_in, can_shrink_left, can_shrink_right, shrinks_in, can_merge_sides, can_merge_in, merges_in, shrinks_merged, shrink_left-parts, shrink_right-parts, shrink_left-shrinks, shrink_right-shrinks}
 use Rattle.persist_tree.proofs.shrink.+shrink.Goals as goal

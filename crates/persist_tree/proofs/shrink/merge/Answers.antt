@@ -1,12 +1,8 @@
-use Rattle.std.proofs.Common.{◌≡◌, ◌<◌, ◌+◌, ◌∙◌, ap, refl, sym, subst, rules, arith}
-use Rattle.lane_traits.specs.Space.{Space}
+use Rattle.std.proofs.Common.{◌<◌, refl, arith}
 use Rattle.std.proofs.lemmas.Result.{IfOk-weaker}
 use Rattle.persist_tree.specs.Trees.{joined}
-use Rattle.persist_tree.specs.Changes.{stored_height, HasTree, Builds}
-use Rattle.persist_tree.specs.Below.{Drops, Merges, Shrinks}
-use Rattle.persist_tree.proofs.Turning.{has_node, parts_in}
-use Rattle.persist_tree.proofs.Descending.{node_same, node_own, own_same, left_lower, right_lower, lower_here}
-use Rattle.persist_tree.proofs.Growing.{builds_from}
+use Rattle.persist_tree.specs.Changes.{Builds}
+use Rattle.persist_tree.specs.Below.{Merges}
 use Rattle.persist_tree.proofs.Shrinking.{merges_left, merges_right, can_drop_right, can_drop_in, drops_in, merge_parts, merges_joined}
 use Rattle.persist_tree.proofs.shrink.merge.Goals as goal
 

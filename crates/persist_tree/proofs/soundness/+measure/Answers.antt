@@ -1,6 +1,5 @@
-use Rattle.std.proofs.Common.{◌≡◌, ◌<◌, ◌≤◌, ◌+◌, ◌-◌, ◌∙◌, ap, refl, sym, subst, arith, Some, None}
+use Rattle.std.proofs.Common.{◌≡◌, ◌+◌, ◌-◌, ap, refl, arith, Some}
 use Rattle.std.specs.Prelude.{slice_index}
-use Rattle.lane_traits.specs.Space.{IsOwn}
 use Rattle.region_layout.specs.HeapBlocks.{land_of}
 use Rattle.persist_tree.proofs.Sounding.{none_left, none_right, none_joined, some_joined, part_few}
 use Rattle.persist_tree.proofs.soundness.+measure.Goals as goal

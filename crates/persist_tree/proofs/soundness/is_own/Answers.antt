@@ -1,7 +1,4 @@
-use Rattle.std.proofs.Common.{◌≡◌, ◌<◌, ◌≤◌, ◌+◌, ◌-◌, ◌∙◌, ap, refl, sym, subst, arith, Some, None}
-use Rattle.std.specs.Prelude.{slice_index}
-use Rattle.lane_traits.specs.Space.{IsOwn}
-use Rattle.region_layout.specs.HeapBlocks.{land_of}
+use Rattle.std.proofs.Common.{refl}
 use Rattle.persist_tree.proofs.Sounding.{own_word}
 use Rattle.persist_tree.proofs.soundness.is_own.Goals as goal
 

@@ -1,4 +1,4 @@
-use Rattle.std.proofs.Common.{◌≡◌, ◌<◌, ◌≤◌, ◌+◌, ◌-◌, ◌∙◌, ap, refl, sym, subst, arith, Some, None}
+use Rattle.std.proofs.Common.{◌+◌, refl, subst, arith, None}
 use Rattle.std.specs.Prelude.{slice_index}
 use Rattle.lane_traits.specs.Space.{IsOwn}
 use Rattle.region_layout.specs.HeapBlocks.{land_of}

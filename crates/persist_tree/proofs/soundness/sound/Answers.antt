@@ -1,7 +1,5 @@
-use Rattle.std.proofs.Common.{◌≡◌, ◌<◌, ◌≤◌, ◌+◌, ◌-◌, ◌∙◌, ap, refl, sym, subst, arith, Some, None}
+use Rattle.std.proofs.Common.{refl}
 use Rattle.std.specs.Prelude.{slice_index}
-use Rattle.lane_traits.specs.Space.{IsOwn}
-use Rattle.region_layout.specs.HeapBlocks.{land_of}
 use Rattle.persist_model.specs.Shape.{heap}
 use Rattle.region_layout.specs.Layout.{layout_shape}
 use Rattle.persist_tree.proofs.Sounding.{holds_tree_at}

@@ -1,7 +1,5 @@
-use Rattle.std.proofs.Common.{◌+◌, ◌∙◌, ap, refl, sym, subst, arith}
-use Rattle.lane_traits.specs.Space.{Space}
-use Rattle.persist_tree.specs.Changes.{stored_height}
-use Rattle.persist_tree.proofs.Turning.{stands_in, tree_in, parts_in, hangs_in, node_at, on_left, on_right, has_node}
+use Rattle.std.proofs.Common.{◌+◌, ◌∙◌, refl, arith}
+use Rattle.persist_tree.proofs.Turning.{tree_in, parts_in, hangs_in, node_at, on_left, on_right, has_node}
 use Rattle.persist_tree.proofs.Building.{heights_in, turn_right-first, turn_right-second, turn_right-builds, lowered_left-twice, lowered_left-once, builds_all, builds_in}
 use Rattle.persist_tree.specs.Trees.{turned_twice_right, lowered_left}
 use Rattle.persist_tree.proofs.turn.lower_left.Goals as goal

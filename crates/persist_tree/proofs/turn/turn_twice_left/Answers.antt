@@ -1,7 +1,6 @@
-use Rattle.std.proofs.Common.{◌<◌, ◌+◌, ◌∙◌, ap, refl, sym, subst, arith}
+use Rattle.std.proofs.Common.{◌<◌, ◌+◌, ◌∙◌, ap, refl, sym, subst}
 use Rattle.lane_traits.specs.Space.{Space}
-use Rattle.persist_tree.specs.Changes.{stored_height}
-use Rattle.persist_tree.proofs.Turning.{stands_in, tree_in, parts_in, hangs_in, node_at, on_left, on_right, has_node}
+use Rattle.persist_tree.proofs.Turning.{tree_in, parts_in, hangs_in, node_at, on_left, has_node}
 use Rattle.persist_tree.proofs.Building.{turn_twice_left-first, turn_twice_left-second, turn_twice_left-third, turn_twice_left-builds}
 use Rattle.persist_tree.proofs.turn.turn_twice_left.Goals as goal
 
