@@ -8,3 +8,5 @@ pub mod Entries
 pub mod Adding
 pub mod Puts
 pub mod Removals
+pub mod Walks
+pub mod Gathering

@@ -45,7 +45,7 @@ first_is w root c some = let off : (directory_of w root c == 0) ≡ false = grin
 pub none_is : (w : Words) (root c : ℕ) → directory_of w root c ≡ 0 → first_link w root c ≡ 0
 none_is w root c none = ap (λ x. if x == 0 then 0 else w (chain_word x c)) none
 
-length-blocks : (ns : List Node) → length (blocks ns) ≡ length ns
+pub length-blocks : (ns : List Node) → length (blocks ns) ≡ length ns
 length-blocks [] = refl
 length-blocks (n ∷ ns) = let again = length-blocks ns in omega (arith, again)
 

@@ -354,3 +354,7 @@ gives_one s u node link x own is = record {
   land = ap (λ (v : Space). v.land) is;
   spare = ap (λ (v : Space). v.spare) is;
 }
+
+-- what is said of an equal space
+pub unlinked_at : (s t u : Space) (node link : ℕ) → t ≡ s → u ≡ given node (written link (t.word (node + 3)) t) → u ≡ given node (written link (s.word (node + 3)) s)
+unlinked_at s t u node link same is = is ∙ ap (λ (v : Space). given node (written link (v.word (node + 3)) v)) same

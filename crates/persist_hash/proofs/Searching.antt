@@ -22,7 +22,7 @@ sought_first s at key node chain node_is = record {
 }
 
 -- what a chain begins with is a number of 32 bits
-chain_fits : (land : Land) (w : Words) (link : ℕ) (ns : List Node) → AreOwnNodes land ns → IsChain w link ns → link < 2 ^ 32
+pub chain_fits : (land : Land) (w : Words) (link : ℕ) (ns : List Node) → AreOwnNodes land ns → IsChain w link ns → link < 2 ^ 32
 chain_fits land w link [] own laid = omega (arith, laid)
 chain_fits land w link (n ∷ ns) own laid = let f = own.0.0.fits in let e = laid.0 in omega (arith, f, e)
 
@@ -41,7 +41,7 @@ pub record IsNodeAt (s : Space) (node : ℕ) (rest : List Node) : Type 0 where
   pub own : IsOwn s.land node
   pub own_more : AreOwnNodes s.land more
 
-node_at : (s : Space) (node : ℕ) (rest : List Node) → IsChain s.word node rest → AreOwnNodes s.land rest → node ≢ 0 → IsNodeAt s node rest
+pub node_at : (s : Space) (node : ℕ) (rest : List Node) → IsChain s.word node rest → AreOwnNodes s.land rest → node ≢ 0 → IsNodeAt s node rest
 node_at s node [] laid own positive = absurd (positive laid)
 node_at s node (n ∷ more) laid own positive = record {
   first = n;
@@ -97,7 +97,7 @@ next_fits s at key link node sought positive =
     let at_node = sought_node s at key link node sought positive in
     chain_fits s.land s.word (s.word (node + 3)) at_node.more at_node.own_more at_node.laid
 
-length-right : (ns ms : List Node) → length ms ≤ length (ns ++ ms)
+pub length-right : (ns ms : List Node) → length ms ≤ length (ns ++ ms)
 length-right [] ms = omega arith
 length-right (n ∷ ns) ms = let again = length-right ns ms in omega (arith, again)
 

@@ -7,7 +7,9 @@ mod lookup;
 mod insertion;
 mod removal;
 mod search;
+mod walking;
 
 pub use lookup::{get, needs};
 pub use insertion::put;
 pub use removal::remove;
+pub use walking::walk;

@@ -4,7 +4,7 @@ use Rattle.region_layout.specs.FiniteMap.{FiniteMap, lookup, without_key}
 use Rattle.persist_hash.specs.Calls.{Holds, GivesBlock}
 use Rattle.persist_hash.proofs.Places.{has_hash, none_of, some_of, place_own}
 use Rattle.persist_hash.proofs.Entries.{without_absent}
-use Rattle.persist_hash.proofs.Removals.{holds_removed, link_held, gives_one}
+use Rattle.persist_hash.proofs.Removals.{holds_removed, link_held, gives_one, unlinked_at}
 use Rattle.persist_hash.proofs.removal.remove.Goals as goal
 
 pub place_of-place-requires : goal.place_of-place-requires
@@ -44,9 +44,7 @@ returns-clause-before g c = λ contents holds.
 
 pub returns-clause-contents : goal.returns-clause-contents
 returns-clause-contents g c = λ contents holds.
-    let place = c.place_of-place.result in
-    subst (λ (u : Space). Holds u c.args.root (without_key c.args.key contents))
-    (sym (c.in_ok-before.ensures.unlinked ∙ ap (λ (u : Space). given place.node (written place.link (u.word (place.node + 3)) u)) c.place_of-place.ensures.same))
+    subst (λ (u : Space). Holds u c.args.root (without_key c.args.key contents)) (sym (unlinked_at _ _ _ _ _ c.place_of-place.ensures.same c.in_ok-before.ensures.unlinked))
     (holds_removed (g.W.Reads.space c.args.words.now) c.args.root c.args.key contents holds _ _ _
     (c.place_of-place.ensures.place holds.chains holds.is) c.if-place-eq0.false)
 
@@ -57,4 +55,4 @@ returns-clause-gives g c =
     let s = g.W.Reads.space c.args.words.now in
     gives_one s (g.W.Reads.space c.unlink.new.words) place.node place.link (s.word (place.node + 3))
     (place_own s c.args.root c.args.key holds.chains _ _ _ holds.is (c.place_of-place.ensures.place holds.chains holds.is) c.if-place-eq0.false)
-    (c.in_ok-before.ensures.unlinked ∙ ap (λ (u : Space). given place.node (written place.link (u.word (place.node + 3)) u)) c.place_of-place.ensures.same)
+    (unlinked_at _ _ _ _ _ c.place_of-place.ensures.same c.in_ok-before.ensures.unlinked)
