@@ -57,7 +57,11 @@ fn row_of(words: Vec<u64>) -> Result<Row, Fail> {
 fn view<W: Look>(alloc: Global, words: &W, p: u32) -> Result<Row, Fail> {
     let mut seen = Vec::new(alloc);
     for a in 0..words.size() {
-        let from = if 8 <= a && a <= 12 { list_words(p) + (a - 8) } else { a };
+        let from = if 8 <= a && a <= 12 {
+            list_words(p) + (a - 8)
+        } else {
+            a
+        };
         seen.push(word(words, from))?;
     }
     row_of(seen)
@@ -93,7 +97,13 @@ fn out(p: u32, event: Event) -> Event {
 }
 
 // A fresh region with one cells map.
-fn fresh(rt: &impl Abort, alloc: Global, cells: u32, buckets: u32, partitions: u32) -> Result<PlainCells, Fail>
+fn fresh(
+    rt: &impl Abort,
+    alloc: Global,
+    cells: u32,
+    buckets: u32,
+    partitions: u32,
+) -> Result<PlainCells, Fail>
     requires cells { IsTrue ((cells == 1) || (cells == 16)) }
     requires buckets { (4 ≤ buckets) × (buckets ≤ 1024) }
     requires partitions { (1 ≤ partitions) × (partitions ≤ 3) }
@@ -130,7 +140,14 @@ fn update(number: u64) -> Cell {
 }
 
 // Makes the append of a record at the place, and says how many events it had.
-fn make_append(rt: &impl Abort, region: &mut PlainCells, log: Log, p: u32, at: Place, number: u64) -> u32 {
+fn make_append(
+    rt: &impl Abort,
+    region: &mut PlainCells,
+    log: Log,
+    p: u32,
+    at: Place,
+    number: u64,
+) -> u32 {
     assert!(rt; at.bucket < 1187872 && at.cell < log.layout.cells);
     let cell = update(number);
     let mut made = 0;
@@ -154,7 +171,13 @@ struct Step<'a> {
 }
 
 // Appends a record where it is expected.
-fn append(rt: &impl Abort, alloc: Global, region: &mut PlainCells, step: &Step, number: u64) -> Result<(), Fail> {
+fn append(
+    rt: &impl Abort,
+    alloc: Global,
+    region: &mut PlainCells,
+    step: &Step,
+    number: u64,
+) -> Result<(), Fail> {
     let words = view(alloc, region, step.p)?;
     let log = log_at_rest(&words, step.p, step.chain).ok_or("no log")?;
     assert_eq!(rt; room(&words, log.layout, log.part), step.room, "{number}");
@@ -169,7 +192,14 @@ fn append(rt: &impl Abort, alloc: Global, region: &mut PlainCells, step: &Step, 
 }
 
 // What stands in the log: the addresses and the numbers, in order.
-fn check_scan<W: Look>(rt: &impl Abort, alloc: Global, words: &W, p: u32, chain: &[u32], expected: &[(u32, u64)]) -> Result<(), Fail> {
+fn check_scan<W: Look>(
+    rt: &impl Abort,
+    alloc: Global,
+    words: &W,
+    p: u32,
+    chain: &[u32],
+    expected: &[(u32, u64)],
+) -> Result<(), Fail> {
     let log = log_at_rest(words, p, chain).ok_or("no log")?;
     let found = scan(alloc, words, log.layout)?;
     assert_eq!(rt; found.len(), expected.len());
@@ -198,7 +228,14 @@ fn four_records_fill_four_buckets_of_one_cell(rt: HostRuntime) -> Result<(), Fai
     let log = log_at_rest(&words, 0, &numbers).ok_or("no log")?;
     assert_eq!(rt; room(&words, log.layout, log.part), 0);
     assert_eq!(rt; place(&words, log.layout, log.part), None);
-    check_scan(&rt, alloc, &region, 0, &numbers, &[(40, 1), (56, 2), (72, 3), (88, 4)])
+    check_scan(
+        &rt,
+        alloc,
+        &region,
+        0,
+        &numbers,
+        &[(40, 1), (56, 2), (72, 3), (88, 4)],
+    )
 }
 
 #[test]
@@ -212,7 +249,11 @@ fn forty_records_stand_in_three_buckets_of_sixteen(rt: HostRuntime) -> Result<()
         let fresh = i % 16 == 0;
         let step = Step {
             p: 0,
-            chain: if fresh { &chain[..bucket as usize] } else { &chain[..bucket as usize + 1] },
+            chain: if fresh {
+                &chain[..bucket as usize]
+            } else {
+                &chain[..bucket as usize + 1]
+            },
             room: 64 - u64::from(i),
             at: 40 + 136 * bucket + 8 * (i % 16),
             fresh,
@@ -243,11 +284,25 @@ fn two_parts_take_records_in_turn(rt: HostRuntime) -> Result<(), Fail> {
     let first = view(alloc, &region, 0)?;
     let log = log_at_rest(&first, 0, &numbers[..4]).ok_or("no log")?;
     assert_eq!(rt; place(&first, log.layout, log.part), None);
-    check_scan(&rt, alloc, &first, 0, &numbers[..4], &[(40, 1), (56, 3), (72, 5), (88, 7)])?;
+    check_scan(
+        &rt,
+        alloc,
+        &first,
+        0,
+        &numbers[..4],
+        &[(40, 1), (56, 3), (72, 5), (88, 7)],
+    )?;
     let second = view(alloc, &region, 1)?;
     let log = log_at_rest(&second, 1, &numbers[4..]).ok_or("no log")?;
     assert_eq!(rt; room(&second, log.layout, log.part), 1);
-    check_scan(&rt, alloc, &second, 1, &numbers[4..], &[(104, 2), (120, 4), (136, 6), (152, 8)])
+    check_scan(
+        &rt,
+        alloc,
+        &second,
+        1,
+        &numbers[4..],
+        &[(104, 2), (120, 4), (136, 6), (152, 8)],
+    )
 }
 
 #[test]
@@ -258,11 +313,43 @@ fn a_scan_reads_any_open_cells_in_order(rt: HostRuntime) -> Result<(), Fail> {
     let words = changed(
         alloc,
         &region,
-        &[(8, 32), (9, 304), (11, 32), (32, 304), (305, 32), (40, 9), (56, 7), (64, 5), (312, 7), (328, 5), (336, 6), (176, 1), (432, 2)],
+        &[
+            (8, 32),
+            (9, 304),
+            (11, 32),
+            (32, 304),
+            (305, 32),
+            (40, 9),
+            (56, 7),
+            (64, 5),
+            (312, 7),
+            (328, 5),
+            (336, 6),
+            (176, 1),
+            (432, 2),
+        ],
     )?;
     let log = log_at_rest(&words, 0, &[0, 2]).ok_or("no log")?;
     assert_eq!(rt; room(&words, log.layout, log.part), 12 + 32);
     let next = place(&words, log.layout, log.part).ok_or("no place")?;
-    assert_eq!(rt; (next.bucket, next.cell, next.fresh, next.tail), (304, 1, false, 304));
-    check_scan(&rt, alloc, &words, 0, &[0, 2], &[(432, 2), (64, 5), (328, 5), (336, 6), (56, 7), (312, 7), (40, 9)])
+    assert_eq!(rt;
+        (next.bucket, next.cell, next.fresh, next.tail),
+        (304, 1, false, 304)
+    );
+    check_scan(
+        &rt,
+        alloc,
+        &words,
+        0,
+        &[0, 2],
+        &[
+            (432, 2),
+            (64, 5),
+            (328, 5),
+            (336, 6),
+            (56, 7),
+            (312, 7),
+            (40, 9),
+        ],
+    )
 }

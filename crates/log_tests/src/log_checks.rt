@@ -45,7 +45,13 @@ fn is_next<W: Look>(words: &W, layout: Layout, end: RowEnd, number: u32) -> bool
 }
 
 // Follows the chain of the buckets with these numbers.
-fn row_end<W: Look>(words: &W, layout: Layout, p: u32, part: Buckets, chain: &[u32]) -> Option<RowEnd>
+fn row_end<W: Look>(
+    words: &W,
+    layout: Layout,
+    p: u32,
+    part: Buckets,
+    chain: &[u32],
+) -> Option<RowEnd>
     requires below { p < layout.partitions }
     requires part { IsPart (layout_shape layout) p part }
     requires long { heap (layout_shape layout) ≤ length (W.words words.now) }
@@ -105,7 +111,11 @@ fn is_link(layout: Layout, part: Buckets, chain: &[u32], value: u64) -> bool
         return true;
     }
     for number in chain {
-        if *number < layout.buckets && *number >= part.first && *number - part.first < part.count && u64::from(layout.bucket(*number)) == value {
+        if *number < layout.buckets
+            && *number >= part.first
+            && *number - part.first < part.count
+            && u64::from(layout.bucket(*number)) == value
+        {
             return true;
         }
     }
