@@ -14,3 +14,6 @@ mod writer;
 pub use image::{Image, TextFault};
 pub use reader::read_image;
 pub use writer::write_image;
+
+#[cfg(test)]
+mod tests;

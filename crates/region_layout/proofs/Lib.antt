@@ -2,4 +2,5 @@ pub mod Places
 pub mod Parts
 pub mod Empty
 pub mod Cells
+mod Examples
 pub mod Headers

@@ -2,9 +2,9 @@
 use Rattle.std.proofs.Common.{◌≡◌, ◌⊎◌, ℕ, suc, ◌+◌, ◌-◌, ◌*◌, ◌/◌, ◌<◌, ◌≤◌, sym, ◌∙◌, ap, arith, ⊎_elim, inl, inr}
 use Rattle.std.proofs.lemmas.Nat.{div-mul-add}
 use Rattle.std.proofs.lemmas.Bool.{cases_lt}
-use Rattle.std.proofs.Math.Nat.{mul-le-mul_right, div-mul-le_self, lt-div-mul-add}
+use Rattle.std.proofs.Math.Nat.{mul-le-mul, mul-le-mul_right, div-mul-le_self, lt-div-mul-add}
 use Rattle.persist_model.specs.Shape.{Shape, bucket_size, heap, words_of_shape}
-use Rattle.region_layout.specs.Apart.{IsHeaderWord, IsWordOfBucket, IsWordOfBlock, WordsAreApart}
+use Rattle.region_layout.specs.Apart.{IsHeaderWord, IsWordOfBucket, IsWordOfBlock, WordsAreApart, SizesAreBounded}
 
 -- the number of the row that has the word a, of rows of w words from start
 pub row_of : (start w j a : ℕ) → start + j * w ≤ a → a < start + j * w + w → (a - start) / w ≡ j
@@ -53,3 +53,12 @@ words_apart shape allowed = record {
   cell_in_bucket = λ j c a h. ((h.0, omega (arith, h.1, h.2, h.3), omega (arith, h.1, h.2, h.3)), omega (arith, h.2));
   cells = λ j b c a h g. omega (arith, h.2, h.3, g.2, g.3);
 }
+
+-- the most that buckets and blocks take
+most : (b n k : ℕ) → b ≤ 1024 → n ≤ 65536 → k ≤ 136 → 32 + b * k + 16 * n ≤ 1187872
+most b n k few blocks small = omega (arith, mul-le-mul {n₁ = b} {m₁ = k} {n₂ = 1024} {m₂ = 136} few small)
+
+pub sizes_bounded : SizesAreBounded
+sizes_bounded shape allowed =
+    most shape.buckets shape.blocks (bucket_size shape) allowed.buckets.1 allowed.blocks.1
+    (⊎_elim (λ (e : shape.cells ≡ 1). omega (arith, e)) (λ (e : shape.cells ≡ 16). omega (arith, e)) allowed.cells)

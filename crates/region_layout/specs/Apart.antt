@@ -1,6 +1,7 @@
 -- The words of different things are different words.
 use Rattle.std.specs.Prelude.{◌≡◌, ◌⊎◌, ℕ, ◌+◌, ◌<◌, ◌≤◌}
 use Rattle.persist_model.specs.Shape.{Shape, bucket, bucket_size, block, words_of_shape, IsHeapWord, first_bucket, count_buckets, part_of}
+use Rattle.persist_model.specs.declared.format.TheConstants.{MAX_WORDS}
 use Rattle.persist_model.specs.ImageRecords.{cell_address}
 use Rattle.region_layout.specs.Layout.{IsAllowed}
 
@@ -51,3 +52,7 @@ WordsAreApart = (shape : Shape) → IsAllowed shape → AreApart shape
 
 abbrev pub PartsAreApart : Type 0
 PartsAreApart = (shape : Shape) → IsAllowed shape → ArePartitioned shape
+
+-- the greatest region has 1024 buckets of 16 cells, and 65,536 blocks
+abbrev pub SizesAreBounded : Type 0
+SizesAreBounded = (shape : Shape) → IsAllowed shape → words_of_shape shape ≤ MAX_WORDS

@@ -1,6 +1,6 @@
 //! What holds of every layout, as functions that do nothing: the clause is the law.
 ghost use Rattle.region_layout.specs.Layout.{layout_shape, IsAllowed};
-ghost use Rattle.region_layout.specs.Apart.{WordsAreApart, PartsAreApart};
+ghost use Rattle.region_layout.specs.Apart.{WordsAreApart, PartsAreApart, SizesAreBounded};
 ghost use Rattle.region_layout.specs.Fresh.{FreshIsEmpty};
 ghost use Rattle.region_layout.specs.Reading.{ShapesAreRead};
 ghost use Rattle.region_layout.specs.Cell.{CellsAreRecords};
@@ -35,4 +35,9 @@ pub fn cells_are_records()
 /// A header that is read says a layout, and one that is refused has exactly one first fault.
 pub fn shapes_are_read()
     ensures { ShapesAreRead }
+{}
+
+/// A region has at most 1,187,872 words.
+pub fn sizes_are_bounded()
+    ensures { SizesAreBounded }
 {}

@@ -11,3 +11,6 @@ pub use cell::{Cell, cell_word, read_cell};
 pub use fresh::{format, number_of_kind, number_of_policy};
 pub use layout::{Buckets, Kind, Layout, Policy};
 pub use reading::{ImageFault, read_layout};
+
+#[cfg(test)]
+mod tests;
