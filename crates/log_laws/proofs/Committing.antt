@@ -1,7 +1,7 @@
 -- What an update and the end of a commit do to standing values.
 use Rattle.std.proofs.Common.{◌≡◌, ◌≢◌, ◌⊎◌, inl, inr, ℕ, ◌≤◌, ◌∷◌, refl, sym, ap, ◌∙◌, subst, arith}
 use Rattle.persist_model.specs.Region.{Words}
-use Rattle.persist_model.specs.Records.{Record, Log, IsAmong, Has, HasNo, IsUpdate, IsDeletion, IsEnd, NamesWord, IsRunning, IsSkipped}
+use Rattle.persist_model.specs.Records.{Record, Log, IsAmong, Has, HasNo, IsUpdate, IsEnd, NamesWord, IsRunning, IsSkipped}
 use Rattle.persist_model.specs.Standing.{IsToUndo, IsToDelete, IsToRedo, IsEarliest, IsLatest, Stands, undone, deleted, redone, kept}
 use Rattle.persist_model.specs.Order.{Bars, IsInOrder}
 use Rattle.log_laws.proofs.Deciding.{has_or_none, decide_equal, decide_less, decide_to_undo}

@@ -1,4 +1,16 @@
 pub mod Deciding
+pub mod Tries
+pub mod Visits
+pub mod Visiting
+pub mod AddressLists
+pub mod ListFaults
+pub mod SoundLists
+pub mod Trying
+pub mod RecordSorting
+pub mod LogFaults
+pub mod Soundness
+pub mod Naming
+pub mod Verdicts
 pub mod Standings
 pub mod Closings
 pub mod Growing
@@ -8,7 +20,6 @@ pub mod Needs
 pub mod ClosingNeeds
 pub mod Keeping
 pub mod Applying
-pub mod Examples
 pub mod RecordLists
 pub mod Clearing
 pub mod Recovering
@@ -18,6 +29,7 @@ pub mod Finishing
 pub mod Committing
 pub mod SameLists
 pub mod Views
+mod Examples
 pub mod Moving
 pub mod MoveNeeds
 pub mod MoveRooms

@@ -1,11 +1,10 @@
 -- What each record of a running transaction does to the need of its part.
-use Rattle.std.proofs.Common.{◌≡◌, ◌≢◌, ◌⊎◌, inl, inr, ℕ, zero, suc, ◌+◌, ◌<◌, ◌≤◌, true, false, ◌==◌, ◌&&◌, ◌||◌, if◌then◌else◌, [], ◌∷◌, length, refl, sym, ap, ◌∙◌, subst, arith}
+use Rattle.std.proofs.Common.{◌≡◌, ◌≢◌, inl, inr, ℕ, zero, suc, ◌+◌, ◌<◌, ◌≤◌, true, false, ◌==◌, [], ◌∷◌, refl, sym, subst, arith}
 use Rattle.std.proofs.lemmas.Bool.Decides.{eqb_tells, nat_tests}
-use Rattle.persist_model.specs.Records.{Record, Log, IsAmong, Has, HasNo, IsOf, IsUpdate, IsEnd, IsCheckpoint, IsDeletion, IsRunning}
-use Rattle.persist_model.specs.Order.{is_kind_of}
-use Rattle.persist_model.specs.Need.{to_undo, has_kind_of, need_of, is_of, has_of, counted, sum_over, need_in}
+use Rattle.persist_model.specs.Records.{Record, Log, IsAmong, Has, IsOf, IsUpdate, IsEnd, IsDeletion}
+use Rattle.persist_model.specs.Need.{to_undo, has_kind_of, need_of, is_of, has_of, counted, need_in}
 use Rattle.persist_model.specs.State.{total_need}
-use Rattle.log_laws.proofs.Needs.{kind_test, total_same, need_other, or_false, of_test, sum_same, sum_moved, sum_elsewhere, counted_later, counted_first, has_of_true, has_kind_false}
+use Rattle.log_laws.proofs.Needs.{kind_test, total_same, need_other, or_false, of_test, sum_same, sum_moved, counted_later, counted_first, has_of_true}
 
 -- ---- one transaction
 

@@ -1,13 +1,13 @@
 -- The rule of room with one record more.
-use Rattle.std.proofs.Common.{◌≡◌, ◌≢◌, ◌⊎◌, inl, inr, ℕ, ◌+◌, ◌<◌, ◌≤◌, true, false, ◌==◌, if◌then◌else◌, [], ◌∷◌, refl, sym, ap, ◌∙◌, subst, arith}
+use Rattle.std.proofs.Common.{◌≡◌, ◌≢◌, ◌⊎◌, inl, inr, ℕ, ◌+◌, ◌≤◌, true, false, if◌then◌else◌, [], ◌∷◌, refl, sym, ◌∙◌, subst, arith}
 use Rattle.std.proofs.lemmas.Bool.Decides.{eqb_tells}
-use Rattle.persist_model.specs.Records.{Record, Log, IsAmong, Has, HasNo, IsOf, IsUpdate, IsCompensation, IsRollback, IsEnd, IsCheckpoint, IsDeletion, IsRunning, IsSkipped}
+use Rattle.persist_model.specs.Records.{Record, Log, Has, HasNo, IsOf, IsUpdate, IsCompensation, IsRollback, IsEnd, IsCheckpoint, IsDeletion, IsRunning}
 use Rattle.persist_model.specs.Shape.{Shape, part_of}
 use Rattle.persist_model.specs.Need.{to_undo, has_kind_of, need_of, is_of, has_of, need_in}
 use Rattle.persist_model.specs.State.{State, HasOpen, HasRoom, IsSoundState}
 use Rattle.log_laws.specs.Moves.{IsOfRunning}
 use Rattle.log_laws.specs.MoveRoom.{TakesCell, HasCells, FitsWith}
-use Rattle.log_laws.proofs.Needs.{need_rollback, need_compensation, need_stays, has_kind_false, has_of_true, of_test, or_false}
+use Rattle.log_laws.proofs.Needs.{need_rollback, need_compensation, need_stays, has_kind_false, of_test}
 use Rattle.log_laws.proofs.Keeping.{loser_open, need_in_checkpoint}
 use Rattle.log_laws.proofs.MoveNeeds.{need_updated, need_deleted, need_ended, need_positive, need_first_update, need_first_deletion, need_rose, need_fell_by, need_began, need_began_elsewhere}
 

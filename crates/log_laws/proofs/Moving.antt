@@ -1,13 +1,12 @@
 -- Each move of a running transaction keeps a state sound, with its standing values; and what the end of a commit does.
-use Rattle.std.proofs.Common.{◌≡◌, ◌≢◌, ◌⊎◌, inl, inr, ℕ, ◌<◌, ◌≤◌, [], ◌∷◌, refl, sym, ap, ◌∙◌, subst, arith}
-use Rattle.persist_model.specs.Records.{Record, Log, IsAmong, HasNo, IsOf, IsUpdate, IsRollback, IsEnd, IsDeletion, NamesWord, IsRunning}
-use Rattle.persist_model.specs.Order.{undo_point, last_new, Bars, Follows}
+use Rattle.std.proofs.Common.{◌≡◌, ◌≢◌, inl, inr, ℕ, ◌∷◌, refl, sym, ap, ◌∙◌, subst, arith}
+use Rattle.persist_model.specs.Records.{Record, Log, IsUpdate, IsEnd, IsRunning}
+use Rattle.persist_model.specs.Order.{undo_point, last_new, Follows}
 use Rattle.persist_model.specs.Shape.{Shape, part_of}
 use Rattle.persist_model.specs.ImageRecords.{IsWellFormed}
-use Rattle.persist_model.specs.Need.{to_undo}
 use Rattle.persist_model.specs.State.{State, HasNumbers, IsSoundState}
 use Rattle.log_laws.specs.Recovery.{grown, KeepsStanding}
-use Rattle.log_laws.specs.Moves.{Arrives, IsOfRunning, MayName, MayUpdate, Move, writes_words, adds_update, adds_deletion, adds_rollback, adds_compensation, adds_rolled_end, adds_checkpoint, drops_records, MayCommit, StandsCommitted, MovesKeep, CommitsKeep}
+use Rattle.log_laws.specs.Moves.{Arrives, MayName, Move, writes_words, adds_update, adds_deletion, adds_rollback, adds_compensation, adds_rolled_end, adds_checkpoint, drops_records, MayCommit, StandsCommitted}
 use Rattle.log_laws.proofs.Standings.{stands_stored}
 use Rattle.log_laws.proofs.Growing.{IsAbove, order_grown, stands_noted, bars_before}
 use Rattle.log_laws.proofs.Undoing.{IsInPart, fresh_above, rollback_follows, compensation_follows, end_follows, checkpoint_follows, stands_ended, stands_swept}

@@ -3,7 +3,7 @@ use Rattle.std.proofs.Common.{◌≡◌, ◌⊎◌, inl, inr, ℕ, ◌≤◌, []
 use Rattle.persist_model.specs.Region.{Words}
 use Rattle.persist_model.specs.Records.{Record, Log, IsAmong, Has, HasNo}
 use Rattle.persist_model.specs.Standing.{IsToUndo, IsToDelete, IsToRedo, IsEarliest, IsLatest, Stands, undone, deleted, redone, kept}
-use Rattle.log_laws.proofs.Deciding.{IsDecided, has_or_none, decide_to_undo, decide_to_delete, decide_to_redo}
+use Rattle.log_laws.proofs.Deciding.{IsDecided, decide_at_most, has_or_none, decide_to_undo, decide_to_delete, decide_to_redo}
 
 -- ---- stores to heap words
 
@@ -61,7 +61,23 @@ stands_one policy log w a v x apart (kept none nd nr e) (kept none' nd' nr' e') 
 
 -- ---- some value
 
-pub earliest_some : (P : Record → Type 0) (log : Log) → ((r : Record) → IsDecided (P r)) → ((r : Record) × IsEarliest P log r) ⊎ HasNo P log
+pub less_other : (a b : ℕ) → (a ≤ b → ⊥) → b ≤ a
+less_other a b n = grind (arith, n)
+
+unfoldable pub order_by : (a b : ℕ) → IsDecided (a ≤ b) → (a ≤ b) ⊎ (b ≤ a)
+order_by a b (inl le) = inl le
+order_by a b (inr n) = inr (less_other a b n)
+
+unfoldable pub first_of_two : (r s : Record) → (r.lsn ≤ s.lsn) ⊎ (s.lsn ≤ r.lsn)
+unfolding order_by decide_at_most
+first_of_two r s = order_by r.lsn s.lsn (decide_at_most r.lsn s.lsn)
+
+unfoldable pub last_of_two : (r s : Record) → (s.lsn ≤ r.lsn) ⊎ (r.lsn ≤ s.lsn)
+unfolding order_by decide_at_most
+last_of_two r s = order_by s.lsn r.lsn (decide_at_most s.lsn r.lsn)
+
+unfoldable pub earliest_some : (P : Record → Type 0) (log : Log) → ((r : Record) → IsDecided (P r)) → ((r : Record) × IsEarliest P log r) ⊎ HasNo P log
+unfolding first_of_two
 earliest_some P [] decide = inr (λ r m p. m)
 earliest_some P (s ∷ log) decide = elim (earliest_some P log decide) [
   | inl h ↦ inl (elim (decide s) [
@@ -76,11 +92,9 @@ earliest_some P (s ∷ log) decide = elim (earliest_some P log decide) [
     | inr n ↦ inr (λ r m q. elim m [ inl e ↦ n (subst P e q) | inr k ↦ none r k q ])
   ]
 ]
-  where
-    first_of_two : (r s : Record) → (r.lsn ≤ s.lsn) ⊎ (s.lsn ≤ r.lsn)
-    first_of_two r s = grind arith
 
-pub latest_some : (P : Record → Type 0) (log : Log) → ((r : Record) → IsDecided (P r)) → ((r : Record) × IsLatest P log r) ⊎ HasNo P log
+unfoldable pub latest_some : (P : Record → Type 0) (log : Log) → ((r : Record) → IsDecided (P r)) → ((r : Record) × IsLatest P log r) ⊎ HasNo P log
+unfolding last_of_two
 latest_some P [] decide = inr (λ r m p. m)
 latest_some P (s ∷ log) decide = elim (latest_some P log decide) [
   | inl h ↦ inl (elim (decide s) [
@@ -95,12 +109,10 @@ latest_some P (s ∷ log) decide = elim (latest_some P log decide) [
     | inr n ↦ inr (λ r m q. elim m [ inl e ↦ n (subst P e q) | inr k ↦ none r k q ])
   ]
 ]
-  where
-    last_of_two : (r s : Record) → (s.lsn ≤ r.lsn) ⊎ (r.lsn ≤ s.lsn)
-    last_of_two r s = grind arith
 
 -- each word has a standing value
-pub stands_some : (policy : ℕ) (log : Log) (w : Words) (a : ℕ) → (v : ℕ) × Stands policy log w a v
+unfoldable pub stands_some : (policy : ℕ) (log : Log) (w : Words) (a : ℕ) → (v : ℕ) × Stands policy log w a v
+unfolding earliest_some has_or_none latest_some decide_to_undo decide_to_delete decide_to_redo
 stands_some policy log w a = elim (earliest_some (IsToUndo log a) log (decide_to_undo log a)) [
   | inl u ↦ (u.0.before, undone u.0 u.1 refl)
   | inr nu ↦ elim (has_or_none (IsToDelete log a) log (decide_to_delete log a)) [

@@ -1,7 +1,7 @@
 -- An append as a part of recovery.
 use Rattle.std.specs.Prelude.{◌≡◌, ◌⊎◌, ℕ, ◌<◌, List, [], ◌∷◌, ◌++◌, length}
 use Rattle.persist_model.specs.declared.event.Event.{Event}
-use Rattle.persist_model.specs.declared.event.Event.TheVariants.{PStore, Fence}
+use Rattle.persist_model.specs.declared.event.Event.TheVariants.{Fence}
 use Rattle.persist_model.specs.Region.{Words}
 use Rattle.persist_model.specs.Progress.{Reaches}
 use Rattle.persist_model.specs.Runs.{progress_at}

@@ -3,5 +3,7 @@ pub mod Recovery
 pub mod Recovering
 pub mod Parts
 pub mod Appending
+pub mod Soundness
+pub mod Naming
 pub mod Moves
 pub mod MoveRoom

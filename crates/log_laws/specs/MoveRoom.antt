@@ -1,9 +1,9 @@
 -- How many cells a record of a running transaction wants, so that the rule of room holds with it.
-use Rattle.std.specs.Prelude.{◌≡◌, ◌≢◌, ◌⊎◌, ℕ, ◌+◌, ◌<◌, ◌≤◌, if◌then◌else◌, ◌∷◌}
-use Rattle.persist_model.specs.Records.{Record, Log, IsAmong, Has, HasNo, IsOf, IsUpdate, IsCompensation, IsRollback, IsEnd, IsCheckpoint, IsDeletion}
+use Rattle.std.specs.Prelude.{◌≡◌, ◌≢◌, ℕ, ◌+◌, ◌<◌, ◌≤◌, if◌then◌else◌, ◌∷◌}
+use Rattle.persist_model.specs.Records.{Record, Log, Has, HasNo, IsOf, IsUpdate, IsCompensation, IsRollback, IsEnd, IsCheckpoint, IsDeletion}
 use Rattle.persist_model.specs.Shape.{Shape, part_of}
 use Rattle.persist_model.specs.Need.{to_undo, has_of, need_in}
-use Rattle.persist_model.specs.State.{State, HasOpen, HasRoom, IsSoundState}
+use Rattle.persist_model.specs.State.{State, HasRoom, IsSoundState}
 use Rattle.log_laws.specs.Moves.{IsOfRunning}
 
 -- r takes one cell of its part

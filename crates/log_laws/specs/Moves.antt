@@ -9,7 +9,7 @@ use Rattle.persist_model.specs.ImageRecords.{IsWellFormed}
 use Rattle.persist_model.specs.Need.{to_undo}
 use Rattle.persist_model.specs.State.{State, HasRoom, HasNumbers, IsSoundState}
 use Rattle.log_laws.specs.Closing.{IsApplied, IsClosing}
-use Rattle.log_laws.specs.Recovery.{IsCovered, IsOfLoser, IsStored, grown, KeepsStanding}
+use Rattle.log_laws.specs.Recovery.{IsCovered, IsStored, grown, KeepsStanding}
 
 -- r takes a number above all others and a cell of its part, and the room and the numbers that are left are enough.
 pub record Arrives (shape : Shape) (s : State) (r : Record) (room : ℕ → ℕ) : Type 0 where

@@ -1,10 +1,42 @@
 //! What holds of a log's records, as functions that do nothing: the clause is the law.
 #![tactic(auto)]
 
+ghost use Rattle.log_laws.specs.Soundness.{SoundOrFaulty, SoundHasNoFault, FirstFaultIsOne, StandingIsOne};
+ghost use Rattle.log_laws.specs.Naming.{StackIsUnnamed, UndoPointIsEarlier};
 ghost use Rattle.log_laws.specs.Recovery.{RecoveryKeeps, RunsKeep, RecoveryEnds};
 ghost use Rattle.log_laws.specs.MoveRoom.{UpdateFits, DeletionFits, RollbackFits, CompensationFits, EndFits, CheckpointFits};
 ghost use Rattle.log_laws.specs.Moves.{MovesKeep, CommitsKeep};
 ghost use Rattle.log_laws.specs.Recovering.{EachImageKeeps, StoresGoOn, FencesGoOn};
+
+/// Words are a sound image or have a first fault.
+pub fn sound_or_faulty()
+    ensures { SoundOrFaulty }
+{}
+
+/// A sound image has no fault.
+pub fn sound_has_no_fault()
+    ensures { SoundHasNoFault }
+{}
+
+/// No words have two first faults.
+pub fn first_fault_is_one()
+    ensures { FirstFaultIsOne }
+{}
+
+/// A sound image determines the standing value of each of its words.
+pub fn standing_is_one()
+    ensures { StandingIsOne }
+{}
+
+/// In a sound state the stack of a running transaction is the list of its updates that no compensation names.
+pub fn stack_is_unnamed()
+    ensures { StackIsUnnamed }
+{}
+
+/// The update that a compensation names is an earlier record, so it may be sought among all.
+pub fn undo_point_is_earlier()
+    ensures { UndoPointIsEarlier }
+{}
 
 /// Each step of recovery keeps a sound state sound, with its standing values.
 pub fn recovery_keeps()

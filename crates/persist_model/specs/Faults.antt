@@ -12,22 +12,26 @@ use Rattle.persist_model.specs.ImageRecords.{IsWellFormed}
 use Rattle.persist_model.specs.State.{State, HasRoom, HasNumbers}
 use Rattle.persist_model.specs.Sound.{IsClosedBucket, HasState}
 
+-- which faults there are, each by its number and its address
+abbrev pub FaultSet : Type 1
+FaultSet = ℕ → ℕ → Type 0
+
 -- P is tried: where it fails the fault is this one at this address, and where it holds it is what next says.
-abbrev pub Tried : Type 0 → ℕ → ℕ → (ℕ → ℕ → Type 0) → ℕ → ℕ → Type 0
+abbrev pub Tried : Type 0 → ℕ → ℕ → FaultSet → FaultSet
 Tried P number address next fault a = ((P → ⊥) × (fault ≡ number) × (a ≡ address)) ⊎ (P × next fault a)
 
 -- each of xs is tried, in order, the fault of x being at address x
-abbrev pub TriedEach : (ℕ → Type 0) → ℕ → (ℕ → ℕ) → List ℕ → (ℕ → ℕ → Type 0) → ℕ → ℕ → Type 0
+abbrev pub TriedEach : (ℕ → Type 0) → ℕ → (ℕ → ℕ) → List ℕ → FaultSet → FaultSet
 TriedEach P number address [] next = next
 TriedEach P number address (x ∷ xs) next = Tried (P x) number (address x) (TriedEach P number address xs next)
 
 -- each record is tried by those before it, the oldest first, the fault being at its gate
-abbrev pub TriedOldest : (Log → Record → Type 0) → ℕ → Log → (ℕ → ℕ → Type 0) → ℕ → ℕ → Type 0
+abbrev pub TriedOldest : (Log → Record → Type 0) → ℕ → Log → FaultSet → FaultSet
 TriedOldest Good number [] next = next
 TriedOldest Good number (r ∷ earlier) next = TriedOldest Good number earlier (Tried (Good earlier r) number r.at next)
 
 -- no rule fails
-abbrev pub NoFault : ℕ → ℕ → Type 0
+abbrev pub NoFault : FaultSet
 NoFault fault a = ⊥
 
 -- the partitions of a region
@@ -36,17 +40,17 @@ parts shape = range_with_len 0 shape.partitions
 
 -- ---- the header
 
-abbrev pub TryMagic : ℕ → Words → (ℕ → ℕ → Type 0) → ℕ → ℕ → Type 0
+abbrev pub TryMagic : ℕ → Words → FaultSet → FaultSet
 TryMagic size w next = Tried ((32 ≤ size) × IsMagic (w 0)) 1 0 next
 
-abbrev pub TryPolicy : Words → (ℕ → ℕ → Type 0) → ℕ → ℕ → Type 0
+abbrev pub TryPolicy : Words → FaultSet → FaultSet
 TryPolicy w next = Tried (IsPolicy (w 1)) 2 1 next
 
-abbrev pub TryCells : Words → (ℕ → ℕ → Type 0) → ℕ → ℕ → Type 0
+abbrev pub TryCells : Words → FaultSet → FaultSet
 TryCells w next = Tried (IsCellCount (w 2)) 3 2 next
 
 -- the words 3, 4 and 5, in format 2 also 6 and the kinds, and then how many words there are
-abbrev pub TrySizes : ℕ → Words → (ℕ → ℕ → Type 0) → ℕ → ℕ → Type 0
+abbrev pub TrySizes : ℕ → Words → FaultSet → FaultSet
 TrySizes size w next =
     Tried (IsBucketCount (w 3)) 4 3 (
     Tried (IsBlockCount (w 4)) 4 4 (
@@ -55,18 +59,18 @@ TrySizes size w next =
     TriedEach (λ a. w 0 ≡ SECOND_MAGIC → IsKind (w a)) 4 (λ a. a) (range_with_len 13 (w 5)) (
     Tried (size ≡ words_of_shape (shape_of w)) 4 0 next)))))
 
-abbrev pub IsShapeFault : ℕ → Words → ℕ → ℕ → Type 0
+abbrev pub IsShapeFault : ℕ → Words → FaultSet
 IsShapeFault size w = TryMagic size w (TryPolicy w (TryCells w (TrySizes size w NoFault)))
 
 -- ---- the lists
 
 -- the words of a partition that are links, each of which is 0 or one of its buckets
-abbrev pub TryAddressesOf : Shape → Words → ℕ → (ℕ → ℕ → Type 0) → ℕ → ℕ → Type 0
+abbrev pub TryAddressesOf : Shape → Words → ℕ → FaultSet → FaultSet
 TryAddressesOf shape w p next fault a = (visited : List ℕ) × IsVisit (IsBucketOf shape p) (view p w) visited ×
     TriedEach (λ b. IsLink (IsBucketOf shape p) (view p w b)) 5 (out_address p) (address_words (view p w) visited) next fault a
 
 -- the PREV of each of xs, the first being behind before
-abbrev pub TryLinksBack : Words → ℕ → List ℕ → (ℕ → ℕ → Type 0) → ℕ → ℕ → Type 0
+abbrev pub TryLinksBack : Words → ℕ → List ℕ → FaultSet → FaultSet
 TryLinksBack w before [] next = next
 TryLinksBack w before (x ∷ xs) next = Tried ((w (prev_of x) ≡ before) ⊎ IsExcepted w (prev_of x)) 6 (prev_of x) (TryLinksBack w x xs next)
 
@@ -80,46 +84,45 @@ MayRemove shape w chain n = RemoveRule w chain n (w (prev_of n)) (w (next_of n))
 
 -- The list of a partition, whose view is w and whose HEAD stands at base: not both TO_APPEND and TO_REMOVE are set; the walk
 -- arrives; what is put in and what is taken out may be; and each PREV and TAIL name the bucket before.
-abbrev pub TryPoints : Shape → ℕ → Words → List ℕ → ℕ → (ℕ → ℕ → Type 0) → ℕ → ℕ → Type 0
-TryPoints shape base w visited beyond next =
+abbrev pub TryPoints : Shape → ℕ → Words → List ℕ → FaultSet → FaultSet
+TryPoints shape base w visited next =
     Tried ((w TO_APPEND ≡ 0) ⊎ (w TO_REMOVE ≡ 0)) 6 (base + 4) (
-    Tried (HasArrived w visited beyond) 6 base (
+    Tried (HasArrived w visited) 6 base (
     Tried (w TO_APPEND ≢ 0 → MayAppend w visited (w TO_APPEND)) 6 (base + 2) (
     Tried (w TO_REMOVE ≢ 0 → MayRemove shape w (chain_from w visited) (w TO_REMOVE)) 6 (base + 4) (
     TryLinksBack w 0 (chain_from w visited) (
     Tried ((w TAIL ≡ last_or 0 (chain_from w visited)) ⊎ IsExcepted w TAIL) 6 (base + 1) next)))))
 
-abbrev pub TryListOf : Shape → Words → ℕ → (ℕ → ℕ → Type 0) → ℕ → ℕ → Type 0
-TryListOf shape w p next fault a = (visited : List ℕ) × (visit : IsVisit (IsBucketOf shape p) (view p w) visited) ×
-    TryPoints shape (list_words p) (view p w) visited visit.beyond next fault a
+abbrev pub TryListOf : Shape → Words → ℕ → FaultSet → FaultSet
+TryListOf shape w p next fault a = (visited : List ℕ) × IsVisit (IsBucketOf shape p) (view p w) visited × TryPoints shape (list_words p) (view p w) visited next fault a
 
-abbrev pub TryAddresses : Shape → Words → List ℕ → (ℕ → ℕ → Type 0) → ℕ → ℕ → Type 0
+abbrev pub TryAddresses : Shape → Words → List ℕ → FaultSet → FaultSet
 TryAddresses shape w [] next = next
 TryAddresses shape w (p ∷ ps) next = TryAddressesOf shape w p (TryAddresses shape w ps next)
 
-abbrev pub TryLists : Shape → Words → List ℕ → (ℕ → ℕ → Type 0) → ℕ → ℕ → Type 0
+abbrev pub TryLists : Shape → Words → List ℕ → FaultSet → FaultSet
 TryLists shape w [] next = next
 TryLists shape w (p ∷ ps) next = TryListOf shape w p (TryLists shape w ps next)
 
 -- the addresses of all partitions are tried before their lists
-abbrev pub IsListFault : Shape → Words → ℕ → ℕ → Type 0
+abbrev pub IsListFault : Shape → Words → FaultSet
 IsListFault shape w = TryAddresses shape w (parts shape) (TryLists shape w (parts shape) NoFault)
 
 -- ---- the log
 
-abbrev pub TryRecords : Shape → State → (ℕ → ℕ → Type 0) → ℕ → ℕ → Type 0
+abbrev pub TryRecords : Shape → State → FaultSet → FaultSet
 TryRecords shape s next = TriedOldest (λ earlier r. IsWellFormed shape r) 7 s.log next
 
-abbrev pub TryOrder : Shape → State → (ℕ → ℕ → Type 0) → ℕ → ℕ → Type 0
+abbrev pub TryOrder : Shape → State → FaultSet → FaultSet
 TryOrder shape s next = TriedOldest (Follows (part_of shape) s.log) 8 s.log next
 
 -- the room of each partition, the fault being at its TAIL, and then the numbers that recovery draws
-abbrev pub TryRoom : Shape → State → (ℕ → ℕ → Type 0) → ℕ → ℕ → Type 0
+abbrev pub TryRoom : Shape → State → FaultSet → FaultSet
 TryRoom shape s next =
     TriedEach (λ p. HasRoom shape s.log p (s.room p)) 9 (λ p. list_words p + 1) (parts shape) (
     Tried ((r : Record) → IsAmong s.log r → HasNumbers shape s.log r) 9 9 next)
 
-abbrev pub IsLogFault : Shape → State → ℕ → ℕ → Type 0
+abbrev pub IsLogFault : Shape → State → FaultSet
 IsLogFault shape s = TryRecords shape s (TryOrder shape s (TryRoom shape s NoFault))
 
 -- ---- all rules

@@ -13,19 +13,22 @@ abbrev pub IsUncut : Words → ℕ → List ℕ → Type 0
 IsUncut w before [] = Unit {0}
 IsUncut w before (x ∷ xs) = (IsCutAt w before → ⊥) × IsUncut w x xs
 
+-- the link behind the buckets that were visited: the NEXT of the last, or HEAD where there is none
+abbrev pub link_behind : Words → List ℕ → ℕ
+link_behind w visited = w (last_or HEAD visited)
+
 -- The walk begins at HEAD, follows NEXT, visits no bucket twice, and goes on as long as it may: it stops where it is cut,
 -- where the link isn't a bucket's address, or where the link's bucket was visited.
 pub record IsVisit (bucket : ℕ → Type 0) (w : Words) (visited : List ℕ) : Type 0 where
-  pub beyond : ℕ
-  pub links : Links w HEAD visited beyond
+  pub links : Links w HEAD visited (link_behind w visited)
   pub buckets : AreBuckets bucket visited
   pub no_repeats : HasNoRepeats visited
   pub uncut : IsUncut w 0 visited
-  pub stops : IsCutAt w (last_or 0 visited) ⊎ (bucket beyond → ⊥) ⊎ IsAmong visited beyond
+  pub stops : IsCutAt w (last_or 0 visited) ⊎ (bucket (link_behind w visited) → ⊥) ⊎ IsAmong visited (link_behind w visited)
 
 -- It came to its end: to 0 or, where TO_APPEND is a bucket, to LAST_TAIL.
-abbrev pub HasArrived : Words → List ℕ → ℕ → Type 0
-HasArrived w visited beyond = ((w TO_APPEND ≡ 0) × (beyond ≡ 0)) ⊎ ((w TO_APPEND ≢ 0) × (last_or 0 visited ≡ w LAST_TAIL))
+abbrev pub HasArrived : Words → List ℕ → Type 0
+HasArrived w visited = ((w TO_APPEND ≡ 0) × (link_behind w visited ≡ 0)) ⊎ ((w TO_APPEND ≢ 0) × (last_or 0 visited ≡ w LAST_TAIL))
 
 -- the bucket that TO_APPEND names is put after those that were visited
 abbrev pub walk_from : Words → List ℕ → List ℕ

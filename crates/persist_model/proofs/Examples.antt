@@ -1,0 +1,4 @@
+-- The definitions on literal words.
+mod Events
+mod Covered
+mod Formats
