@@ -336,8 +336,7 @@ appends_end shape p lane z xs place r before region ok inside can settled run =
     let leaves = append_ends shape p z xs place r ok inside can in
     let all : take (length plan) plan ≡ plan = take_all (length plan) plan (omega arith) in
     let tracks : Tracks (IsPartWord shape p) lane (advance_all (start z) plan) region =
-    subst (λ es. Tracks (IsPartWord shape p) lane (advance_all (start z) es) region) all (run_tracks shape p lane z place r (length plan) before region settled run) in
-    (
+    subst (λ es. Tracks (IsPartWord shape p) lane (advance_all (start z) es) region) all (run_tracks shape p lane z place r (length plan) before region settled run) in (
       λ a m v c. elim ((tracks a m).values v c) [ inl e ↦ e | inr w ↦ absurd (subst (λ ws. Wrote ws a v) leaves.nothing_pending w) ],
       leaves.adds,
     )

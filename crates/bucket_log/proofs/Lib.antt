@@ -12,3 +12,4 @@ pub mod Walking
 pub mod NextPlaces
 pub mod Scans
 pub mod ScanLogs
+pub mod Examples

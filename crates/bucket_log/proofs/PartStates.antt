@@ -75,8 +75,7 @@ module _ (shape : Shape) (ok : IsAllowed shape) (z v : Words) (s : State) (p : �
 
     other_links : (b : ℕ) → IsBucketOf shape q b → (view q later b ≡ view q before b) × (view q later (b + 1) ≡ view q before (b + 1))
     other_links b is =
-        let e = is.3 in
-        (
+        let e = is.3 in (
           view_behind q later b (omega (arith, e)) ∙ bucket_word b b is (omega arith) (omega arith) ∙ sym (view_behind q before b (omega (arith, e))),
           view_behind q later (b + 1) (omega (arith, e)) ∙ bucket_word b (b + 1) is (omega arith) (omega arith) ∙ sym (view_behind q before (b + 1) (omega (arith, e))),
         )

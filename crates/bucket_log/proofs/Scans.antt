@@ -146,7 +146,7 @@ open_once w b (suc n) a =
       | inl none ↦ (let e : count_at a (one_more w b n) ≡ 0 = ap (count_at a) none.1 in let rest = open_once w b n a in omega (arith, all, e, rest))
       | inr some ↦ (let e : count_at a (one_more w b n) ≡ counts a (placed_at w (cell_address b n)) + count_at a [] = ap (count_at a) some.1 ∙ count-cons a (placed_at w (cell_address b n)) [] in elim (eqb_tells (cell_address b n) a) [
         | inl at ↦ (let rest : count_at a (open_cells w b n) ≡ 0 = count_none a (open_cells w b n) (λ x m z. (let h = open_found w b n x m in
-              let lt = h.below in let place : x.at ≡ cell_address b h.place = ap (λ (y : Placed). y.at) h.is in let same = at.1 in omega (arith, lt, place, same, z))) in
+            let lt = h.below in let place : x.at ≡ cell_address b h.place = ap (λ (y : Placed). y.at) h.is in let same = at.1 in omega (arith, lt, place, same, z))) in
             let small = counts_small a (placed_at w (cell_address b n)) in omega (arith, all, e, rest, small))
         | inr off ↦ (let none : counts a (placed_at w (cell_address b n)) ≡ 0 = ap (λ t. cond t 1 0) off.0 in let rest = open_once w b n a in omega (arith, all, e, none, rest))
       ])
@@ -303,7 +303,7 @@ newest (x ∷ xs) h once = subst IsNewestFirst (sym (reverse-cons (record_of_pla
     (newest-push (reverse (map record_of_placed xs)) (record_of_placed x)
     (newest xs h.1 (λ a. (let all = count-cons a x xs in let most = once a in omega (arith, all, most))))
     (λ s m. (let k = among_map xs s (among_reverse (map record_of_placed xs) s m) in
-        subst (λ r. IsNewer r (record_of_placed x)) (sym k.2) (newer_of x k.0 (h.0 k.0 k.1) (apart k.0 k.1)))))
+    subst (λ r. IsNewer r (record_of_placed x)) (sym k.2) (newer_of x k.0 (h.0 k.0 k.1) (apart k.0 k.1)))))
   where
     apart : (y : Placed) → IsAmong xs y → x.at ≢ y.at
     apart y m e =

@@ -4,13 +4,13 @@
 mod append;
 mod chain;
 pub mod laws;
-mod parts;
 mod next_place;
+mod parts;
 mod room_count;
 mod scanning;
 
 pub use append::{Place, append_event};
-pub use parts::{Closing, Giving, Part, Undoing, Update};
 pub use next_place::place;
+pub use parts::{Closing, Giving, Part, Undoing, Update};
 pub use room_count::room;
 pub use scanning::{Placed, scan};

@@ -33,7 +33,12 @@ fn keep_open(found: &mut Vec<Placed>, at: u32, cell: Cell) -> Result<(), NoMemor
 }
 
 // Puts the open cells of a bucket behind those found.
-fn scan_bucket<W: Look>(words: &W, layout: Layout, bucket: u32, found: &mut Vec<Placed>) -> Result<(), NoMemory>
+fn scan_bucket<W: Look>(
+    words: &W,
+    layout: Layout,
+    bucket: u32,
+    found: &mut Vec<Placed>,
+) -> Result<(), NoMemory>
     requires bucket { bucket + (8 + 8 * layout.cells) ≤ length (W.words words.now) }
     requires small { length (W.words words.now) < 2 ^ 31 }
     ensures { OnOk result (found.new.items ≡ found.old.items ++ open_cells (slice_index (W.words words.now)) bucket layout.cells) }

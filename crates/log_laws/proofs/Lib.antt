@@ -27,9 +27,9 @@ pub mod Parts
 pub mod Passes
 pub mod Finishing
 pub mod Committing
+pub mod SameLists
+pub mod Views
 mod Examples
 pub mod Moving
 pub mod MoveNeeds
 pub mod MoveRooms
-pub mod SameLists
-pub mod Views

@@ -80,7 +80,7 @@ fn is_inside(event: Event, size: u32) -> bool
 }
 
 // Makes one event on the region.
-fn make<D: Device>(rt: &impl Abort, region: &mut D, lane: u32, event: Event)
+pub(crate) fn make<D: Device>(rt: &impl Abort, region: &mut D, lane: u32, event: Event)
     requires { lane ≤ 16 }
 {
     if !is_inside(event, region.size()) {
