@@ -13,8 +13,8 @@ use Rattle.rewind.specs.History.{contents, history, first_names, report, stop_re
 use Rattle.rewind.specs.Events.{event_count, StopsAfter, with_events, has_stopped, HasNoEvent, AreCells, root_of}
 
 -- the most bytes of an input
-abbrev pub LIMIT : ℕ
-LIMIT = 1048576
+abbrev pub INPUT_LIMIT : ℕ
+INPUT_LIMIT = 1048576
 
 -- the words are `run`
 abbrev pub AreRun : List (List ℕ) → Type 0
@@ -51,7 +51,7 @@ pub record IsUntouched (call : Call) : Type 0 where
 pub record HasRead (call : Call) (text : List ℕ) : Type 0 where
   pub words : AreRun call.words
   pub input : TookAll call.left text call.left_after
-  pub short : length text ≤ LIMIT
+  pub short : length text ≤ INPUT_LIMIT
 
 -- The words aren't right, and nothing was read.
 pub record IsMisused (call : Call) : Type 0 where
@@ -59,9 +59,12 @@ pub record IsMisused (call : Call) : Type 0 where
   pub unread : call.left_after ≡ call.left
   pub untouched : IsUntouched call
 
--- The source's count of faults rose.
+-- The source's count of faults rose, before more bytes were read than an input may have.
 pub record HasReadFault (call : Call) : Type 0 where
   pub words : AreRun call.words
+  pub text : List ℕ
+  pub took : Took call.left text call.left_after
+  pub short : length text ≤ INPUT_LIMIT
   pub rose : HasRisen call.faults call.faults_after
   pub untouched : IsUntouched call
 
@@ -70,7 +73,7 @@ pub record IsTooLong (call : Call) : Type 0 where
   pub words : AreRun call.words
   pub text : List ℕ
   pub took : Took call.left text call.left_after
-  pub long : LIMIT < length text
+  pub long : INPUT_LIMIT < length text
   pub untouched : IsUntouched call
 
 -- All was read, and the text isn't in the form.
@@ -194,4 +197,4 @@ due_of_script (Some s) = status.Done
 
 -- The status of a call whose input are these bytes, where no count of faults rises and the device doesn't stop.
 abbrev pub due : List ℕ → Status
-due bytes = if nat_lt LIMIT (length bytes) then status.TooLong else due_of_script (script_of_text bytes)
+due bytes = if nat_lt INPUT_LIMIT (length bytes) then status.TooLong else due_of_script (script_of_text bytes)

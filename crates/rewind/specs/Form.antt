@@ -32,11 +32,11 @@ abbrev pub guard : Bool → Option (Unit {0})
 guard true = Some tt
 guard false = None
 
-abbrev pub MAX_TRANSACTIONS : ℕ
-MAX_TRANSACTIONS = 65536
+abbrev pub TRANSACTIONS_LIMIT : ℕ
+TRANSACTIONS_LIMIT = 65536
 
-abbrev pub MAX_PUTS : ℕ
-MAX_PUTS = 256
+abbrev pub PUTS_LIMIT : ℕ
+PUTS_LIMIT = 256
 
 abbrev pub word : List (List ℕ) → ℕ → List ℕ
 word ws i = slice_index_or ws i []
@@ -84,7 +84,7 @@ rest_of (w ∷ ws) = ws
 unfoldable pub begin_line : Draft → List (List ℕ) → Option Draft
 begin_line draft ws = do
   _ ← guard (nat_le 2 (length ws) && bytes_eq (word ws 0) (codes "begin") && list_all names_structure (rest_of ws))
-  _ ← guard (nat_lt (length draft.transactions) MAX_TRANSACTIONS)
+  _ ← guard (nat_lt (length draft.transactions) TRANSACTIONS_LIMIT)
   Some (record draft { part = part.Transaction })
 
 -- put 0 K V
@@ -93,7 +93,7 @@ put_line draft ws = do
   _ ← guard (length ws == 4 && bytes_eq (word ws 0) (codes "put") && names_structure (word ws 1))
   key ← number (word ws 2)
   value ← number (word ws 3)
-  _ ← guard (nat_le key 11 && nat_le 1 value && nat_lt (length draft.puts) MAX_PUTS)
+  _ ← guard (nat_le key 11 && nat_le 1 value && nat_lt (length draft.puts) PUTS_LIMIT)
   Some (record draft { puts = draft.puts ++ record { key = key; value = value } ∷ [] })
 
 -- commit
@@ -151,13 +151,13 @@ pub record IsPut (put : Put) : Type 0 where
   pub value : 1 ≤ put.value
 
 pub record IsTransaction (puts : List Put) : Type 0 where
-  pub short : length puts ≤ MAX_PUTS
+  pub short : length puts ≤ PUTS_LIMIT
   pub each : All IsPut puts
 
 pub record IsInLimits (buckets blocks : ℕ) (transactions : List (List Put)) : Type 0 where
   pub buckets_within : (4 ≤ buckets) × (buckets ≤ 1024)
   pub blocks_within : (16 ≤ blocks) × (blocks ≤ 65536)
-  pub short : length transactions ≤ MAX_TRANSACTIONS
+  pub short : length transactions ≤ TRANSACTIONS_LIMIT
   pub each : All IsTransaction transactions
 
 abbrev pub is_open : Part → Bool
@@ -167,7 +167,7 @@ is_open _ = false
 pub record IsDraft (draft : Draft) : Type 0 where
   pub limits : IsInLimits draft.buckets draft.blocks draft.transactions
   pub open_puts : IsTransaction draft.puts
-  pub room : is_open draft.part ≡ true → length draft.transactions < MAX_TRANSACTIONS
+  pub room : is_open draft.part ≡ true → length draft.transactions < TRANSACTIONS_LIMIT
 
 -- ---- what a function that reads a part answers: what the definition gives, unless memory ran out
 

@@ -2,8 +2,8 @@
 use Rattle.std.specs.Prelude.{◌≡◌, ℕ, ◌<◌, List, Option, None, slice_index_or}
 use Rattle.rewind.specs.History.{Contents}
 
-abbrev pub KEYS : ℕ
-KEYS = 12
+abbrev pub KEY_COUNT : ℕ
+KEY_COUNT = 12
 
 abbrev pub IsTableOf : Contents → List (Option ℕ) → Type 0
-IsTableOf m table = (k : ℕ) → k < KEYS → slice_index_or table k None ≡ m k
+IsTableOf m table = (k : ℕ) → k < KEY_COUNT → slice_index_or table k None ≡ m k

@@ -1,7 +1,7 @@
 //! Reads the whole input.
 ghost use Rattle.std.specs.Prelude.{◌≡◌, ◌≢◌, ◌+◌, ◌<◌, ◌≤◌, ℕ, List, Option, length, vec_len, IfOk, OnOk, Ok, Err};
 ghost use Rattle.lane_traits.specs.Stream.{HasRisen};
-ghost use Rattle.rewind.specs.Call.{Took, TookAll, LIMIT};
+ghost use Rattle.rewind.specs.Call.{Took, TookAll, INPUT_LIMIT};
 
 use lane_traits::{Failed, Source};
 use std::alloc::{AllocError, Global};
@@ -34,15 +34,18 @@ impl From<AllocError> for Unread {
 /// The bytes up to the end of the source.
 pub fn read_input<S: Source>(alloc: Global, source: &mut S) -> Result<Vec<u8>, Unread>
     ensures whole { IfOk result (λ text. TookAll (S.left source.old) text.items (S.left source.new)) }
-    ensures short { IfOk result (λ text. length text.items ≤ LIMIT) }
+    ensures short { IfOk result (λ text. length text.items ≤ INPUT_LIMIT) }
     ensures failed { result ≡ Err Unread.Failed → HasRisen (S.faults source.old) (S.faults source.new) }
-    ensures too_long { result ≡ Err Unread.TooLong → (text : List ℕ) × Took (S.left source.old) text (S.left source.new) × (LIMIT < length text) }
+    ensures part { result ≡ Err Unread.Failed → (text : List ℕ) × Took (S.left source.old) text (S.left source.new) × (length text ≤ INPUT_LIMIT) }
+    ensures too_long { result ≡ Err Unread.TooLong → (text : List ℕ) × Took (S.left source.old) text (S.left source.new) × (INPUT_LIMIT < length text) }
 {
     let mut text = Vec::new(alloc);
     let mut chunk = vec![in alloc; 0; CHUNK]?;
     while text.len() <= LIMIT {
-        if read_chunk(source, &mut chunk, &mut text)? == 0 {
-            return Ok(text);
+        match read_chunk(source, &mut chunk, &mut text) {
+            Err(unread) => return Err(unread),
+            Ok(0) => return Ok(text),
+            Ok(_) => {}
         }
     }
     Err(Unread::TooLong)
@@ -61,6 +64,7 @@ fn read_chunk<S: Source>(
     ensures fits { IfOk result (λ n. n ≤ length chunk.old) }
     ensures never_falls { S.faults source.old ≤ S.faults source.new }
     ensures failed { result ≡ Err Unread.Failed → HasRisen (S.faults source.old) (S.faults source.new) }
+    ensures kept { result ≡ Err Unread.Failed → S.left source.new ≡ S.left source.old }
     ensures not_too_long { result ≢ Err Unread.TooLong }
 {
     let count = match source.read(chunk) {

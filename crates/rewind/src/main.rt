@@ -10,6 +10,8 @@ mod script;
 mod status;
 mod streams;
 mod table;
+#[cfg(test)]
+mod tests;
 mod text;
 mod words;
 

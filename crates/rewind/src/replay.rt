@@ -1,7 +1,9 @@
 //! Replays the script of an input.
-ghost use Rattle.std.specs.Prelude.{◌≡◌, ◌≢◌, ◌⊎◌, ℕ, List, Some, map, string_bytes, IfOk};
+ghost use Rattle.std.specs.Prelude.{◌≡◌, ◌≢◌, ◌⊎◌, ◌+◌, ◌≤◌, ℕ, List, Some, map, string_bytes, IfOk};
 ghost use Rattle.lane_traits.specs.Stream.{HasRisen};
 ghost use Rattle.lane_traits.specs.Device.{since_load};
+ghost use Rattle.rewind.specs.Form.{script as script_of_text};
+ghost use Rattle.rewind.specs.Events.{event_count};
 ghost use Rattle.rewind.specs.Call.{IsCauseOf, IsTextOutcome, AreLimitsOf, IsAnswerTo, AreRun, HasRun, status_of, text_of, due};
 
 use crate::form::{Refusal, read_form};
@@ -81,6 +83,8 @@ pub fn rewind_replay<S: Source, K: Sink, D: Device>(
     ensures write_fault { result.0 ≡ Status.WriteFault → HasRisen (K.faults out.old) (K.faults out.new) }
     ensures stopped { result.0 ≡ Status.Stopped → HasRisen (D.counts region).stopped (D.counts result.1).stopped }
     ensures last_load { (result.0 ≡ Status.Done) ⊎ (result.0 ≡ Status.Stopped) → (D.counts result.1).restarts ≡ (since_load (D.counts region)).restarts }
+    ensures one_event_each { (bytes : List ℕ) (s : Script) → S.left script.old ≡ Some bytes → script_of_text bytes ≡ Some s
+        → (D.counts result.1).events ≤ (D.counts region).events + event_count s.transactions }
     ensures never_unsound { result.0 ≢ Status.Unsound }
     ensures ran { HasRun
         (record {

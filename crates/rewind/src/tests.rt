@@ -1,0 +1,168 @@
+use crate::replay::rewind_replay;
+use crate::status::Status;
+use lane_traits::{TextSink, TextSource};
+use persist_model::List;
+use std::alloc::{AllocError, Global};
+use std::process::Abort;
+use std::test::Fail;
+use word_region::PlainCells;
+
+const FIRST: &[u8] =
+    b"region force 4 16\nlog simple\nmap cells\nlane\nbegin 0\nput 0 3 7\ncommit\n";
+
+const TWO: &[u8] =
+    b"region force 4 16\nlog simple\nmap cells\nlane\nbegin 0\nput 0 3 7\nput 0 0 1\ncommit\nbegin 0 0\nput 0 3 09\ncommit\n";
+
+/// A call, and what it is to answer.
+#[derive(Drop)]
+struct Case<'a> {
+    words: &'a [&'a str],
+    script: &'a [u8],
+    failing_reads: &'a [u64],
+    failing_writes: &'a [u64],
+    budget: u64,
+    status: Status,
+    text: &'a [u8],
+}
+
+/// The words `run`, with nothing that fails or stops.
+fn run<'a>(script: &'a [u8], status: Status, text: &'a [u8]) -> Case<'a> {
+    Case {
+        words: &["run"],
+        script,
+        failing_reads: &[],
+        failing_writes: &[],
+        budget: u64::MAX,
+        status,
+        text,
+    }
+}
+
+fn list<T: Copy + Drop>(alloc: Global, items: &[T]) -> Result<List<T>, AllocError> {
+    let mut list = List::new(alloc);
+    for item in items {
+        if list.push(*item).is_err() {
+            return Err(AllocError);
+        }
+    }
+    Ok(list)
+}
+
+fn strings(alloc: Global, words: &[&str]) -> Result<Vec<String>, AllocError> {
+    let mut strings = Vec::new(alloc);
+    for word in words {
+        strings.push(String::from_str(alloc, *word)?)?;
+    }
+    Ok(strings)
+}
+
+fn check(rt: &(impl Abort + AllocGlobal), case: Case<'_>) -> Result<(), AllocError> {
+    let alloc = rt.alloc();
+    let words = strings(alloc, case.words)?;
+    let mut script = TextSource::new(list(alloc, case.script)?, list(alloc, case.failing_reads)?);
+    let Ok(mut out) = TextSink::new(alloc, 1000, list(alloc, case.failing_writes)?) else {
+        return Err(AllocError);
+    };
+    let region = PlainCells::new(alloc, case.budget);
+    let (status, _) = rewind_replay(alloc, &words, &mut script, region, &mut out);
+    assert_eq!(rt; status, case.status);
+    assert_eq!(rt; out.text(), case.text);
+    Ok(())
+}
+
+#[test]
+fn scripts_run_and_report(rt: HostRuntime) -> Result<(), Fail> {
+    check(
+        &rt,
+        run(FIRST, Status::Done, b"commit 0 0\nmap 0\n3 7\nend\n"),
+    )?;
+    let no_lanes = b"region force 4 16\nlog simple\nmap cells\n";
+    check(&rt, run(no_lanes, Status::Done, b"map 0\nend\n"))?;
+    let two = b"commit 0 0\ncommit 0 1\nmap 0\n0 1\n3 9\nend\n";
+    check(&rt, run(TWO, Status::Done, two))?;
+    Ok(())
+}
+
+#[test]
+fn a_device_stops_a_run(rt: HostRuntime) -> Result<(), Fail> {
+    let none = b"stopped\n".as_slice();
+    let one = b"commit 0 0\nstopped\n".as_slice();
+    for (budget, text) in [(0, none), (2, none), (3, one), (4, one)] {
+        check(
+            &rt,
+            Case {
+                budget,
+                ..run(TWO, Status::Stopped, text)
+            },
+        )?;
+    }
+    let two = b"commit 0 0\ncommit 0 1\nmap 0\n0 1\n3 9\nend\n";
+    check(
+        &rt,
+        Case {
+            budget: 5,
+            ..run(TWO, Status::Done, two)
+        },
+    )?;
+    Ok(())
+}
+
+#[test]
+fn faults_and_wrong_words_have_their_status(rt: HostRuntime) -> Result<(), Fail> {
+    check(
+        &rt,
+        Case {
+            failing_reads: &[0],
+            ..run(FIRST, Status::ReadFault, b"")
+        },
+    )?;
+    check(
+        &rt,
+        Case {
+            failing_reads: &[1],
+            ..run(FIRST, Status::ReadFault, b"")
+        },
+    )?;
+    check(
+        &rt,
+        Case {
+            failing_writes: &[0],
+            ..run(FIRST, Status::WriteFault, b"")
+        },
+    )?;
+    for words in [
+        &[].as_slice(),
+        &["walk"].as_slice(),
+        &["run", "run"].as_slice(),
+    ] {
+        check(
+            &rt,
+            Case {
+                words,
+                ..run(FIRST, Status::Usage, b"usage\n")
+            },
+        )?;
+    }
+    Ok(())
+}
+
+#[test]
+fn other_texts_are_refused(rt: HostRuntime) -> Result<(), Fail> {
+    for script in [
+        b"".as_slice(),
+        b"region force 4 16\nlog simple\n".as_slice(),
+        b"region force 3 16\nlog simple\nmap cells\n".as_slice(),
+        b"region force 4 16\nlog simple\nmap cells".as_slice(),
+        b"region  force 4 16\nlog simple\nmap cells\n".as_slice(),
+        b"region noforce 4 16\nlog simple\nmap cells\n".as_slice(),
+        b"region force 4 16\nlog simple\nmap cells\nlane\nbegin 0\n".as_slice(),
+        b"region force 4 16\nlog simple\nmap cells\nlane\nbegin 0\nput 0 12 1\ncommit\n".as_slice(),
+        b"region force 4 16\nlog simple\nmap cells\nlane\nbegin 0\nput 0 0 0\ncommit\n".as_slice(),
+        b"region force 4 16\nlog simple\nmap cells\nlane\nlane\n".as_slice(),
+    ] {
+        check(&rt, run(script, Status::Script, b"script 0 form\n"))?;
+    }
+    let long = vec![in rt.alloc(); b'\n'; 1_048_577]?;
+    check(&rt, run(&long, Status::TooLong, b"toolong\n"))?;
+    Ok(())
+}
