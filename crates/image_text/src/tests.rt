@@ -26,7 +26,8 @@ impl Look for Row {
 }
 
 /// A region with one cells map, into which the put of 7 at key 3 has come as far as its word.
-const HALF_PUT: &[u8] = b"image 352\nmap cells\n0 52574e4400000002\n1 0000000000000001\n2 0000000000000001\n3 0000000000000004\n4 0000000000000010\n5 0000000000000001\n6 0000000000000001\n8 0000000000000020\n9 0000000000000020\n13 0000000000000001\n40 0000000000000001\n41 0000000000000001\n42 0000000000000001\n43 0000000000000067\n45 0000000000000007\n96 0000000000000001\n103 0000000000000007\nend\n";
+const HALF_PUT: &[u8] =
+    b"image 352\nmap cells\n0 52574e4400000002\n1 0000000000000001\n2 0000000000000001\n3 0000000000000004\n4 0000000000000010\n5 0000000000000001\n6 0000000000000001\n8 0000000000000020\n9 0000000000000020\n13 0000000000000001\n40 0000000000000001\n41 0000000000000001\n42 0000000000000001\n43 0000000000000067\n45 0000000000000007\n96 0000000000000001\n103 0000000000000007\nend\n";
 
 #[test]
 fn an_image_is_written_as_it_was_read(rt: HostRuntime) -> Result<(), Fail> {
@@ -46,11 +47,17 @@ fn an_image_is_written_as_it_was_read(rt: HostRuntime) -> Result<(), Fail> {
 
 #[test]
 fn digits_are_read_in_either_case_and_written_in_one(rt: HostRuntime) -> Result<(), Fail> {
-    let image = read_image(rt.alloc(), b"image 11\nmap tree\nmap hash\n0 0000000000000000\n10 00fFaA0123456789\nend")?;
+    let image = read_image(
+        rt.alloc(),
+        b"image 11\nmap tree\nmap hash\n0 0000000000000000\n10 00fFaA0123456789\nend",
+    )?;
     let words = Vec::from_slice(rt.alloc(), image.words.as_slice())?;
     assert!(rt; words.len() < 1000);
     let text = write_image(rt.alloc(), &Row { words }, image.kinds.as_slice())?;
-    assert_eq!(rt; text.as_slice(), b"image 11\nmap tree\nmap hash\n10 00ffaa0123456789\nend\n".as_slice());
+    assert_eq!(rt;
+        text.as_slice(),
+        b"image 11\nmap tree\nmap hash\n10 00ffaa0123456789\nend\n".as_slice()
+    );
     Ok(())
 }
 
@@ -75,17 +82,29 @@ fn the_first_wrong_line_is_named(rt: HostRuntime) -> Result<(), Fail> {
         (b"image 4\nmap cells\n0 000000000000001\n", 3),
         (b"image 4\nmap cells\n0 00000000000000001\n", 3),
         (b"image 4\nmap cells\n0 000000000000000g\n", 3),
-        (b"image 4\nmap cells\n2 0000000000000001\n2 0000000000000001\n", 4),
-        (b"image 4\nmap cells\n2 0000000000000001\n1 0000000000000001\n", 4),
+        (
+            b"image 4\nmap cells\n2 0000000000000001\n2 0000000000000001\n",
+            4,
+        ),
+        (
+            b"image 4\nmap cells\n2 0000000000000001\n1 0000000000000001\n",
+            4,
+        ),
         (b"image 4\nmap cells\n2 0000000000000001\nmap cells\n", 4),
         (b"image 4\nmap cells\n2 0000000000000001\n", 4),
         (b"image 4\nmap cells\nend\n\n", 4),
         (b"image 4\nmap cells\nend\nend\n", 4),
         (b"image 4\nmap cells\nEnd\n", 3),
-        (b"image 4\nmap cells\nmap cells\nmap cells\nmap cells\nmap cells\nmap cells\nmap cells\nmap cells\nmap cells\nend\n", 10),
+        (
+            b"image 4\nmap cells\nmap cells\nmap cells\nmap cells\nmap cells\nmap cells\nmap cells\nmap cells\nmap cells\nend\n",
+            10,
+        ),
     ];
     for (text, line) in cases {
-        assert!(rt; read_image(rt.alloc(), text).err() == Some(TextFault::Line(line)), "at {line}");
+        assert!(rt;
+            read_image(rt.alloc(), text).err() == Some(TextFault::Line(line)),
+            "at {line}"
+        );
     }
     Ok(())
 }

@@ -12,7 +12,9 @@ pub enum Policy {
 pub enum Kind {
     /// Keys 0 to 11, one data word each.
     Cells,
+    /// Keys of 64 bits in order, in a tree of blocks.
     Tree,
+    /// Keys of 64 bits, in chains of blocks.
     Hash,
 }
 
