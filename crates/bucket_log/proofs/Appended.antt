@@ -1,5 +1,5 @@
 -- The append of a record in one partition of a region: what each image is, for its view and as a state.
-use Rattle.std.proofs.Common.{◌≡◌, ◌≢◌, ◌⊎◌, ◌↔◌, inl, inr, ℕ, zero, suc, ◌+◌, ◌<◌, ◌≤◌, Bool, true, false, List, [], ◌∷◌, ◌++◌, map, take, length, Some, refl, sym, ap, subst, ◌∙◌, arith, append_assoc, nat_lt, if◌then◌else◌, cond}
+use Rattle.std.proofs.Common.{◌≡◌, ◌⊎◌, ◌↔◌, inl, inr, ℕ, zero, suc, ◌+◌, ◌<◌, Bool, true, false, List, [], ◌∷◌, ◌++◌, map, take, length, Some, refl, sym, ap, subst, ◌∙◌, arith, append_assoc, nat_lt, if◌then◌else◌, cond}
 use Rattle.std.specs.Prelude.{slice_get}
 use Rattle.std.proofs.lemmas.Bool.Decides.{nat_tests}
 use Rattle.std.proofs.lemmas.List.{take_all, map-append, length-map}
@@ -24,7 +24,7 @@ use Rattle.log_laws.specs.Appending.{IsAppend}
 use Rattle.log_laws.specs.MoveRoom.{TakesCell}
 use Rattle.log_laws.proofs.Views.{IsStoreOn, AreStoresOn, AreStoresOn-out, AreAway-stores, view_reaches, view_behind}
 use Rattle.atomic_list.specs.Plans.{insertion}
-use Rattle.atomic_list.specs.Rules.{IsAtRest, IsList, at_rest}
+use Rattle.atomic_list.specs.Rules.{IsList, at_rest}
 use Rattle.atomic_list.proofs.Cases.{chain_is_buckets}
 use Rattle.atomic_list.proofs.CasesToRules.{rules_of_list}
 use Rattle.atomic_list.proofs.RulesToCases.{list_of_rules}
@@ -35,7 +35,7 @@ use Rattle.bucket_log.specs.declared.append.Place.{Place}
 use Rattle.bucket_log.specs.Words.{IsLogWord, IsPartWord, SameRecords, AddsRecord, KeepsLog, AddsToLog}
 use Rattle.bucket_log.specs.Plans.{closing, body, insertion_of, append_plan}
 use Rattle.bucket_log.specs.Places.{IsPlaceBy}
-use Rattle.bucket_log.specs.Appends.{CanAppend, NextPlacesTake, KeepsOrAdds, region_append, AppendLeaves, EachAppendingImage, AppendEnds, EachImageOfAppends, AppendsEnd}
+use Rattle.bucket_log.specs.Appends.{CanAppend, NextPlacesTake, KeepsOrAdds, region_append, EachAppendingImage, AppendEnds, EachImageOfAppends, AppendsEnd}
 use Rattle.bucket_log.specs.States.{less_room, AppendsAreStates, AppendsTakeCell}
 use Rattle.bucket_log.proofs.Partitions.{few_parts, log_word_out, log_word_own, part_word_below, part_of_cell}
 use Rattle.bucket_log.proofs.RecordSets.{same_cell}

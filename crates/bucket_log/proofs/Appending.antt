@@ -9,7 +9,7 @@ use Rattle.persist_model.specs.Progress.{Progress, start, advance, advance_all, 
 use Rattle.persist_model.specs.Runs.{progress_at}
 use Rattle.persist_model.specs.Records.{Record, IsAmong}
 use Rattle.persist_model.specs.Shape.{Shape, IsBucketOf, count_buckets}
-use Rattle.persist_model.specs.Chain.{HEAD, word_behind, Each, last_or}
+use Rattle.persist_model.specs.Chain.{word_behind, Each, last_or}
 use Rattle.persist_model.specs.ImageRecords.{cell_address, record_at}
 use Rattle.persist_model.specs.Sound.{room_of, closed_cells}
 use Rattle.persist_model.proofs.Projecting.{advance_all-append, take_cases, AreAway, AreAway-take, AreAway-append, IsFixed, IsFixed-start, IsFixed-aways, IsDue, IsDue-stored, IsDue-away, IsDue-aways, IsFixed-fence, Reaches-fixed, SameOn, SameOn-refl, SameOn-events, SameOn-idles, Reaches-same, Reaches-part}
@@ -20,14 +20,14 @@ use Rattle.atomic_list.specs.Insertion.{CanInsert, inserted}
 use Rattle.atomic_list.proofs.Insertions.{insertion_images, insertion_before, insertion_ends}
 use Rattle.atomic_list.proofs.Repairs.{still}
 use Rattle.bucket_log.specs.declared.append.Place.{Place}
-use Rattle.bucket_log.specs.Words.{IsLogWord, KeepsLog, AddsToLog, AddsRecord}
+use Rattle.bucket_log.specs.Words.{IsLogWord, KeepsLog, AddsToLog}
 use Rattle.bucket_log.specs.Plans.{closing, body, opening, insertion_of, place_address, append_plan}
 use Rattle.bucket_log.specs.Places.{IsFreshPlace, IsUsedPlace, IsPlaceBy}
 use Rattle.bucket_log.specs.Appends.{CanAppend, KeepsOrAdds, appending}
 use Rattle.bucket_log.proofs.ListFacts.{insertion_stores, chain_few}
 use Rattle.bucket_log.proofs.Addresses.{bucket_above, list_word_is_no_cell, list_word_is_log_word, cell_word_is_log_word, cells_apart}
 use Rattle.bucket_log.proofs.RecordSets.{same_cell, IsKept, SameRecords-from, AddsRecord-from, gate_of}
-use Rattle.bucket_log.proofs.Rooms.{room_same, room-last, room_full, room_of_push, closed_same, closed_all, closed_less}
+use Rattle.bucket_log.proofs.Rooms.{room_same, room-last, room_full, room_of_push, closed_all, closed_less}
 use Rattle.bucket_log.proofs.Bodies.{cell_stores, cell_away, closed_or_record, record_at_end}
 
 pub Each-among : (P : ℕ → Type 0) (xs : List ℕ) (b : ℕ) → Each P xs → IsAmong xs b → P b

@@ -1,5 +1,5 @@
 -- The definitions on small worked words: a region with buckets of one cell at 32, 48, 64 and 80.
-use Rattle.std.proofs.Common.{◌≡◌, ◌≢◌, ℕ, Bool, true, false, ◌==◌, if◌then◌else◌, List, [], ◌∷◌, length, map, reverse, inl, inr, refl, arith}
+use Rattle.std.proofs.Common.{◌≡◌, ℕ, true, false, ◌==◌, if◌then◌else◌, [], ◌∷◌, map, inl, inr, refl, arith}
 use Rattle.persist_model.specs.declared.event.Event.TheVariants.{PStore, Fence}
 use Rattle.persist_model.specs.Region.{Words}
 use Rattle.persist_model.specs.Records.{Record}
@@ -7,7 +7,6 @@ use Rattle.persist_model.specs.Shape.{Shape}
 use Rattle.persist_model.specs.Sound.{room_of}
 use Rattle.bucket_log.specs.declared.append.Place.{Place}
 use Rattle.bucket_log.specs.Plans.{append_plan, append_events}
-use Rattle.bucket_log.specs.Appends.{region_append}
 use Rattle.bucket_log.specs.Places.{IsNextPlace}
 use Rattle.bucket_log.specs.Scans.{record_of_placed, chain_cells}
 use Rattle.bucket_log.specs.States.{less_room}

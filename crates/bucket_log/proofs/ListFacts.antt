@@ -1,15 +1,13 @@
 -- What the append uses of the list.
-use Rattle.std.proofs.Common.{◌≡◌, ℕ, zero, suc, ◌≤◌, ◌<◌, List, [], ◌∷◌, length, Some, refl}
-use Rattle.std.specs.Prelude.{slice_get}
+use Rattle.std.proofs.Common.{ℕ, suc, ◌≤◌, ◌<◌, List, [], ◌∷◌, length, refl}
 use Rattle.persist_model.specs.declared.event.Event.{Event}
 use Rattle.persist_model.specs.declared.event.Event.TheVariants.{Store, PStore, WriteBack, Fence}
 use Rattle.persist_model.specs.Region.{Words}
 use Rattle.persist_model.specs.Shape.{Shape, count_buckets}
-use Rattle.log_laws.specs.Parts.{AreDurable}
 use Rattle.log_laws.proofs.Views.{IsStoreOn, AreStoresOn}
 use Rattle.atomic_list.specs.declared.plans.Insert.{Insert}
 use Rattle.atomic_list.specs.Plans.{insertion}
-use Rattle.atomic_list.specs.Rules.{IsAtRest, IsList, IsListWord}
+use Rattle.atomic_list.specs.Rules.{IsList, IsListWord}
 use Rattle.atomic_list.specs.ListPlans.{IsOnList, IsListPlan}
 use Rattle.atomic_list.specs.Insertion.{CanInsert}
 use Rattle.atomic_list.proofs.Insertions.{insertion_is_on_list}

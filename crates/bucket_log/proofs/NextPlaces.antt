@@ -1,12 +1,12 @@
 -- The room and the next place that are read are those of the partition.
-use Rattle.std.proofs.Common.{◌≡◌, ◌≢◌, ◌⊎◌, ◌↔◌, inl, inr, ℕ, zero, suc, ◌+◌, ◌-◌, ◌*◌, ◌<◌, ◌≤◌, Bool, true, false, cond, ◌==◌, ◌||◌, IsTrue, List, [], ◌∷◌, ◌++◌, length, Option, Some, None, refl, ap, sym, ◌∙◌, arith, subst, length-append}
+use Rattle.std.proofs.Common.{◌≡◌, ◌≢◌, ◌↔◌, inl, inr, ℕ, zero, suc, ◌+◌, ◌-◌, ◌*◌, ◌<◌, ◌≤◌, true, cond, ◌==◌, ◌||◌, IsTrue, List, [], ◌∷◌, ◌++◌, length, Option, Some, None, refl, ap, sym, ◌∙◌, arith, subst, length-append}
 use Rattle.std.specs.Prelude.{IfSome}
 use Rattle.std.proofs.lemmas.Bool.{cases_lt}
-use Rattle.std.proofs.lemmas.Bool.Decides.{nat_tests, eqb_tells}
+use Rattle.std.proofs.lemmas.Bool.Decides.{eqb_tells}
 use Rattle.persist_model.specs.Region.{Words}
 use Rattle.persist_model.specs.Records.{IsAmong}
-use Rattle.persist_model.specs.Shape.{Shape, bucket, bucket_size, heap, IsBucketOf, first_bucket, count_buckets}
-use Rattle.persist_model.specs.Chain.{Each, IsAbsent, last_or, without}
+use Rattle.persist_model.specs.Shape.{Shape, bucket, bucket_size, IsBucketOf, count_buckets}
+use Rattle.persist_model.specs.Chain.{IsAbsent, last_or, without}
 use Rattle.persist_model.specs.ImageRecords.{cell_address}
 use Rattle.persist_model.specs.Sound.{closed_cells, room_of}
 use Rattle.atomic_list.specs.Reads.{SameLog}
@@ -19,7 +19,7 @@ use Rattle.region_layout.specs.declared.layout.Buckets.{Buckets}
 use Rattle.region_layout.specs.Layout.{layout_shape, IsPart}
 use Rattle.bucket_log.specs.declared.append.Place.{Place}
 use Rattle.bucket_log.specs.Places.{IsPlaceBy, IsNextPlace}
-use Rattle.bucket_log.specs.Reads.{IsLogOfPart, room_in, IsFirstClosed, IsInPart, IsLeastOutside, IsUsedIn, IsFreshIn, IsNextIn}
+use Rattle.bucket_log.specs.Reads.{IsLogOfPart, room_in, IsInPart, IsLeastOutside, IsUsedIn, IsFreshIn, IsNextIn}
 use Rattle.bucket_log.proofs.Appending.{Each-among, among_last}
 use Rattle.bucket_log.proofs.Rooms.{room_same, room_full, room-last, closed_some}
 use Rattle.bucket_log.proofs.Walking.{IsGoodChain, good_chain, same_chain, same_below}

@@ -1,12 +1,12 @@
 -- What a change of one partition's log makes of the state.
-use Rattle.std.proofs.Common.{◌≡◌, ◌≢◌, ◌⊎◌, ◌↔◌, inl, inr, ℕ, ◌+◌, ◌-◌, ◌*◌, ◌<◌, ◌≤◌, Bool, true, false, cond, if◌then◌else◌, ◌==◌, List, [], ◌∷◌, refl, ap, sym, ◌∙◌, arith, subst, nat_lt}
+use Rattle.std.proofs.Common.{◌≡◌, ◌≢◌, ◌⊎◌, ◌↔◌, inl, inr, ℕ, ◌+◌, ◌-◌, ◌*◌, ◌<◌, ◌≤◌, Bool, true, false, cond, if◌then◌else◌, ◌==◌, List, ◌∷◌, refl, ap, sym, ◌∙◌, arith, subst, nat_lt}
 use Rattle.std.proofs.lemmas.Bool.{ltb-true}
 use Rattle.std.proofs.lemmas.Bool.Decides.{nat_tests, eqb_tells}
 use Rattle.persist_model.specs.Region.{Words}
 use Rattle.persist_model.specs.Records.{Record, Log, IsAmong, IsNewestFirst}
 use Rattle.persist_model.specs.Shape.{Shape, IsBucketOf, heap, list_words, log_words, heap_words}
-use Rattle.persist_model.specs.Chain.{view, out_address, last_or, ListRules}
-use Rattle.persist_model.specs.ImageRecords.{cell_address, record_at, IsRecordOf, AreRecords}
+use Rattle.persist_model.specs.Chain.{view, out_address, last_or}
+use Rattle.persist_model.specs.ImageRecords.{cell_address, record_at, IsRecordOf}
 use Rattle.persist_model.specs.Sound.{IsListOf, IsClosedBucket, HaveChains, HasState, room_of}
 use Rattle.persist_model.specs.State.{State}
 use Rattle.log_laws.specs.Recovering.{with_heap}
@@ -14,9 +14,9 @@ use Rattle.log_laws.specs.Recovery.{grown}
 use Rattle.log_laws.proofs.SameLists.{chain_buckets, rules_same}
 use Rattle.log_laws.proofs.Views.{out_cases, view-out, view_behind}
 use Rattle.region_layout.specs.Layout.{IsAllowed}
-use Rattle.bucket_log.specs.Words.{IsBucketWord, IsPartWord, SameRecords, AddsRecord}
+use Rattle.bucket_log.specs.Words.{IsPartWord, SameRecords, AddsRecord}
 use Rattle.bucket_log.specs.States.{less_room}
-use Rattle.bucket_log.proofs.Partitions.{few_parts, part_words_apart}
+use Rattle.bucket_log.proofs.Partitions.{part_words_apart}
 use Rattle.bucket_log.proofs.RecordSets.{same_cell}
 use Rattle.bucket_log.proofs.Rooms.{room_same}
 use Rattle.bucket_log.proofs.Appending.{Each-among, among_last}

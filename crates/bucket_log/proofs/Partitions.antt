@@ -1,11 +1,11 @@
 -- The words of different partitions are different words.
-use Rattle.std.proofs.Common.{◌≡◌, ◌≢◌, ◌⊎◌, inl, inr, ℕ, ◌+◌, ◌-◌, ◌*◌, ◌<◌, ◌≤◌, refl, sym, ap, subst, ◌∙◌, arith}
-use Rattle.persist_model.specs.Shape.{Shape, bucket, bucket_size, heap, IsBucketOf, list_words, part_of}
-use Rattle.persist_model.specs.Chain.{view, out_address}
+use Rattle.std.proofs.Common.{◌≡◌, ◌≢◌, inl, inr, ℕ, ◌+◌, ◌*◌, ◌<◌, ◌≤◌, sym, subst, arith}
+use Rattle.persist_model.specs.Shape.{Shape, bucket_size, heap, IsBucketOf, list_words, part_of}
+use Rattle.persist_model.specs.Chain.{out_address}
 use Rattle.persist_model.specs.ImageRecords.{cell_address}
 use Rattle.log_laws.proofs.Views.{list_words_cases, out_cases, out_behind, IsOwn}
 use Rattle.region_layout.specs.Layout.{IsAllowed}
-use Rattle.region_layout.specs.Apart.{IsWordOfBucket, AreApart, ArePartitioned}
+use Rattle.region_layout.specs.Apart.{IsWordOfBucket}
 use Rattle.region_layout.proofs.Places.{words_apart}
 use Rattle.region_layout.proofs.Parts.{parts_apart}
 use Rattle.bucket_log.specs.Words.{IsBucketWord, IsLogWord, IsPartWord}

@@ -1,17 +1,15 @@
 -- What a scan reads is the log of all words that have the same log words.
-use Rattle.std.proofs.Common.{◌≡◌, ℕ, ◌+◌, ◌*◌, ◌<◌, ◌≤◌, List, map, reverse, sym, ap, ◌∙◌, subst, arith}
+use Rattle.std.proofs.Common.{◌≡◌, ℕ, ◌<◌, List, map, reverse, sym, ap, ◌∙◌, subst, arith}
 use Rattle.persist_model.specs.Region.{Words}
-use Rattle.persist_model.specs.Records.{IsAmong}
-use Rattle.persist_model.specs.Shape.{Shape, IsBucketOf, heap, log_words}
+use Rattle.persist_model.specs.Shape.{IsBucketOf, log_words}
 use Rattle.persist_model.specs.Chain.{view}
-use Rattle.persist_model.specs.Sound.{IsListOf, HasState}
-use Rattle.persist_model.specs.State.{State}
+use Rattle.persist_model.specs.Sound.{IsListOf}
 use Rattle.log_laws.proofs.RecordLists.{lists_one}
 use Rattle.log_laws.proofs.SameLists.{chain_buckets}
 use Rattle.atomic_list.proofs.ListChains.{list_has_chain}
 use Rattle.atomic_list.proofs.RulesToCases.{list_of_rules}
 use Rattle.atomic_list.proofs.Unique.{chain_is_one}
-use Rattle.persist_model.specs.ImageRecords.{cell_address, record_at, IsRecordOf}
+use Rattle.persist_model.specs.ImageRecords.{cell_address, IsRecordOf}
 use Rattle.atomic_list.specs.Reads.{SameLog}
 use Rattle.atomic_list.specs.Walk.{chain_of}
 use Rattle.atomic_list.proofs.Parts.{whole_bucket_fits}

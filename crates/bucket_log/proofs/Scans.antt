@@ -1,5 +1,5 @@
 -- What is read along a chain are its records.
-use Rattle.std.proofs.Common.{◌≡◌, ◌≢◌, ◌⊎◌, ◌↔◌, inl, inr, ℕ, zero, suc, ◌+◌, ◌*◌, ◌<◌, ◌≤◌, Bool, true, false, cond, ◌==◌, List, [], ◌∷◌, ◌++◌, length, map, reverse, refl, ap, sym, ◌∙◌, arith, subst, append_assoc, append-nil, nat_lt}
+use Rattle.std.proofs.Common.{◌≡◌, ◌≢◌, ◌⊎◌, inl, inr, ℕ, zero, suc, ◌+◌, ◌<◌, ◌≤◌, Bool, true, false, cond, ◌==◌, List, [], ◌∷◌, ◌++◌, length, map, reverse, refl, ap, sym, ◌∙◌, arith, subst, append_assoc, append-nil, nat_lt}
 use Rattle.std.specs.Prelude.{slice_index_or, IsPermutation, sum_by}
 use Rattle.std.proofs.lemmas.Bool.Decides.{nat_tests, eqb_tells}
 use Rattle.std.proofs.lemmas.List.Sorted.{IsPermutation-sym, Contains-permutation, sum_by-IsPermutation}
@@ -12,16 +12,16 @@ use Rattle.std.specs.declared.cmp.Ordering.TheVariants.{Less, Equal, Greater}
 use Rattle.std.proofs.lemmas.Bool.{ltb-false}
 use Rattle.persist_model.specs.Region.{Words}
 use Rattle.persist_model.specs.Records.{Record, Log, IsAmong, IsNewer, IsNewestFirst}
-use Rattle.persist_model.specs.Shape.{Shape, IsBucketOf, heap}
-use Rattle.persist_model.specs.Chain.{Each, HasNoRepeats, IsAbsent, AreBuckets}
+use Rattle.persist_model.specs.Shape.{Shape, IsBucketOf}
+use Rattle.persist_model.specs.Chain.{HasNoRepeats, AreBuckets}
 use Rattle.persist_model.specs.ImageRecords.{cell_address, record_at, IsRecordOf}
 use Rattle.region_layout.specs.declared.cell.Cell.{Cell}
-use Rattle.region_layout.specs.Cell.{record_of, cell_at}
+use Rattle.region_layout.specs.Cell.{cell_at}
 use Rattle.bucket_log.specs.declared.scanning.Placed.{Placed}
 use Rattle.bucket_log.specs.Scans.{record_of_placed, IsLogIn, placed_at, open_cell, open_cells, chain_cells, ComesBefore, IsSortedOf}
 use Rattle.bucket_log.proofs.Addresses.{cells_apart}
 use Rattle.bucket_log.proofs.Appending.{Each-among}
-use Rattle.bucket_log.proofs.RecordSets.{same_cell, gate_of}
+use Rattle.bucket_log.proofs.RecordSets.{gate_of}
 
 pub chain_cells-push : (w : Words) (cells : ℕ) (front : List ℕ) (b : ℕ) → chain_cells w cells (front ++ b ∷ []) ≡ chain_cells w cells front ++ open_cells w b cells
 chain_cells-push w cells [] b = append-nil (open_cells w b cells)

@@ -2,21 +2,21 @@
 use Rattle.std.proofs.Common.{◌≡◌, ◌≢◌, ◌⊎◌, inl, inr, ℕ, ◌+◌, ◌*◌, ◌<◌, ◌≤◌, ◌^◌, List, [], ◌∷◌, ◌++◌, length, refl, ap, sym, ◌∙◌, arith, subst, append-nil, append_assoc, length-append}
 use Rattle.persist_model.specs.Region.{Words}
 use Rattle.persist_model.specs.Records.{IsAmong}
-use Rattle.persist_model.specs.Shape.{Shape, shape_of, heap, IsBucketOf, count_buckets, first_bucket}
+use Rattle.persist_model.specs.Shape.{Shape, shape_of, heap, IsBucketOf, count_buckets}
 use Rattle.persist_model.specs.Chain.{AreBuckets, HasNoRepeats, first_or, last_or}
 use Rattle.atomic_list.specs.Rules.{IsList}
-use Rattle.atomic_list.specs.Reads.{HasList, SameLog, IsInChain, next_in}
+use Rattle.atomic_list.specs.Reads.{SameLog, IsInChain, next_in}
 use Rattle.atomic_list.specs.Walk.{chain_of}
 use Rattle.atomic_list.proofs.Agreeing.{list_of, shape_same, chain_same}
 use Rattle.atomic_list.proofs.Cases.{chain_is_buckets, chain_has_no_repeats}
-use Rattle.atomic_list.proofs.Chains.{last-push, Each-last}
+use Rattle.atomic_list.proofs.Chains.{last-push}
 use Rattle.atomic_list.proofs.NextBuckets.{among_not_0, next_in-bucket, behind-front}
 use Rattle.atomic_list.proofs.Parts.{parts_fit, whole_bucket_fits, shape_fits}
 use Rattle.atomic_list.proofs.Splits.{HasNoRepeats-left, Each-right}
 use Rattle.atomic_list.proofs.Walks.{chain_of_list}
 use Rattle.region_layout.specs.declared.layout.Layout.{Layout}
 use Rattle.region_layout.specs.declared.layout.Buckets.{Buckets}
-use Rattle.region_layout.specs.Layout.{layout_shape, IsPart}
+use Rattle.region_layout.specs.Layout.{layout_shape}
 use Rattle.bucket_log.specs.Reads.{IsLogOf, IsLogOfPart}
 use Rattle.bucket_log.proofs.Appending.{Each-among, among_last}
 

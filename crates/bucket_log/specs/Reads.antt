@@ -1,9 +1,9 @@
 -- What is read of the log, in words whose list is sound.
-use Rattle.std.specs.Prelude.{◌≡◌, ◌≢◌, ◌⊎◌, ℕ, ◌+◌, ◌-◌, ◌*◌, ◌<◌, ◌≤◌, ◌==◌, if◌then◌else◌, Bool, true, false, List, length, Option, Some, None}
+use Rattle.std.specs.Prelude.{◌≡◌, ◌≢◌, ◌⊎◌, ℕ, ◌+◌, ◌-◌, ◌*◌, ◌<◌, ◌≤◌, ◌==◌, if◌then◌else◌, true, false, List, length, Option, Some, None}
 use Rattle.persist_model.specs.Region.{Words}
 use Rattle.persist_model.specs.Records.{IsAmong}
-use Rattle.persist_model.specs.Shape.{Shape, shape_of, bucket, IsBucketOf}
-use Rattle.persist_model.specs.Chain.{IsAbsent, last_or}
+use Rattle.persist_model.specs.Shape.{Shape, shape_of, bucket}
+use Rattle.persist_model.specs.Chain.{last_or}
 use Rattle.persist_model.specs.ImageRecords.{cell_address}
 use Rattle.persist_model.specs.Sound.{closed_cells}
 use Rattle.atomic_list.specs.Reads.{HasList}
@@ -11,7 +11,6 @@ use Rattle.region_layout.specs.declared.layout.Layout.{Layout}
 use Rattle.region_layout.specs.declared.layout.Buckets.{Buckets}
 use Rattle.region_layout.specs.Layout.{layout_shape, IsPart}
 use Rattle.bucket_log.specs.declared.append.Place.{Place}
-use Rattle.bucket_log.specs.Places.{IsPlace}
 
 -- These many words are those of a region of this layout, or of a partition's view of it, and the list is sound.
 pub record IsLogOf (layout : Layout) (size : ℕ) (w : Words) : Type 0 where

@@ -1,5 +1,5 @@
 use Rattle.std.specs.Prelude.{slice_index, length}
-use Rattle.std.proofs.Common.{◌+◌, arith, ap, ◌∙◌}
+use Rattle.std.proofs.Common.{◌+◌, arith, ap}
 use Rattle.atomic_list.specs.Walk.{chain_of}
 use Rattle.region_layout.specs.Layout.{layout_shape}
 use Rattle.bucket_log.proofs.Walking.{in_chain, next_is, good_chain, walk_node, walk_goes_on, walk_stops, walk_is_over}

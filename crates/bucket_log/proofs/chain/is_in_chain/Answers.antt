@@ -1,5 +1,5 @@
 use Rattle.std.specs.Prelude.{slice_index, length}
-use Rattle.std.proofs.Common.{inl, inr, refl, arith, sym, subst, ◌∙◌}
+use Rattle.std.proofs.Common.{inl, inr, refl, arith, sym, subst}
 use Rattle.persist_model.specs.Records.{IsAmong}
 use Rattle.atomic_list.specs.Walk.{chain_of}
 use Rattle.region_layout.specs.Layout.{layout_shape}

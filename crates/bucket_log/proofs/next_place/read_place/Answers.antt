@@ -1,8 +1,8 @@
-use Rattle.std.specs.Prelude.{slice_index, length}
-use Rattle.std.proofs.Common.{None, Some, inl, subst}
+use Rattle.std.specs.Prelude.{slice_index}
+use Rattle.std.proofs.Common.{Some, inl, subst}
 use Rattle.atomic_list.specs.Walk.{chain_of}
 use Rattle.region_layout.specs.Layout.{layout_shape}
-use Rattle.bucket_log.specs.Reads.{IsUsedIn, IsFreshIn}
+use Rattle.bucket_log.specs.Reads.{IsUsedIn}
 use Rattle.bucket_log.proofs.NextPlaces.{next_in}
 use Rattle.bucket_log.proofs.next_place.read_place.Goals as goal
 

@@ -1,4 +1,4 @@
-use Rattle.std.specs.Prelude.{slice_index, length}
+use Rattle.std.specs.Prelude.{slice_index}
 use Rattle.bucket_log.proofs.Scans.{kept_more}
 use Rattle.bucket_log.proofs.scanning.scan_bucket.Goals as goal
 

@@ -1,10 +1,10 @@
 use Rattle.std.specs.Prelude.{slice_index, length}
-use Rattle.std.proofs.Common.{◌≡◌, arith, ap, sym, ◌∙◌, ◌++◌}
+use Rattle.std.proofs.Common.{◌≡◌, arith}
 use Rattle.atomic_list.specs.Walk.{chain_of}
 use Rattle.region_layout.specs.Layout.{layout_shape}
-use Rattle.bucket_log.specs.Scans.{chain_cells, open_cells}
-use Rattle.bucket_log.proofs.Walking.{in_chain, next_is, next_among, bucket_inside, good_chain, walk_node, walk_goes_to, walk_stops, walk_is_over, IsWalked}
-use Rattle.bucket_log.proofs.Scans.{chain_cells-push, walked_more}
+use Rattle.bucket_log.specs.Scans.{chain_cells}
+use Rattle.bucket_log.proofs.Walking.{in_chain, next_is, next_among, bucket_inside, good_chain, walk_node, walk_goes_to, walk_stops, walk_is_over}
+use Rattle.bucket_log.proofs.Scans.{walked_more}
 use Rattle.bucket_log.proofs.scanning.scan_chain.Goals as goal
 use Rattle.bucket_log.proofs.scanning.scan_chain.Goals.{else-loop-test, then-loop-test+then-next-eq0}
 
