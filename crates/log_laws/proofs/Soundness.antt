@@ -116,7 +116,7 @@ state_with shape w chains = record { log = log_of shape chains (log_words shape 
 
 pub has_state_with : (shape : Shape) (w : Words) (chains : ℕ → List ℕ) → HaveChains shape w chains → HasState shape w (state_with shape w chains)
 unfolding state_with
-has_state_with shape w chains h = record { chains = chains; lists = h; records = records_some shape chains (log_words shape w); words = refl; room = refl }
+has_state_with shape w chains h = record { chains = chains; lists = h; records = records_some shape chains (log_words shape w); words = refl; room = λ p lt. refl }
 
 pub state_gates : (shape : Shape) (w : Words) (s : State) → HasState shape w s → (r : Record) → IsAmong s.log r → r.lsn ≢ 0
 state_gates shape w s h r m = ((h.records.each r).0 m).2.gate
@@ -136,7 +136,7 @@ same_log shape w s x h k = records_one shape h.chains (log_words shape w) s.log 
 
 pub same_room : (shape : Shape) (w : Words) (s x : State) → HasState shape w s → HasState shape w x → (p : ℕ) → p < shape.partitions → s.room p ≡ x.room p
 same_room shape w s x h k p lt =
-    ap (λ f. f p) h.room ∙ ap (room_of shape (log_words shape w) p) (same_chains shape w s x h k p lt) ∙ sym (ap (λ f. f p) k.room)
+    h.room p lt ∙ ap (room_of shape (log_words shape w) p) (same_chains shape w s x h k p lt) ∙ sym (k.room p lt)
 
 -- a state of a sound image is sound
 pub sound_of_image : (shape : Shape) (w : Words) (s x : State) → HasState shape w s → HasState shape w x → IsSoundState shape s → IsSoundState shape x

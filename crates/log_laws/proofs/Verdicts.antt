@@ -85,7 +85,7 @@ has_state_at shape w log lists is = record {
   lists = chains_are shape z (from_holds (ListsHold shape z) (IsListFault shape z) (parts_some shape z) lists);
   records = subst (λ l. AreRecords shape (chains_in shape z) z l) is (records_some shape (chains_in shape z) z);
   words = refl;
-  room = refl;
+  room = λ p lt. refl;
 }
   where
     z : Words
