@@ -40,16 +40,16 @@ pub walked_more : (w : Words) (cells : ℕ) (front : List ℕ) (b : ℕ) (found 
     later ≡ chain_cells w cells (front ++ b ∷ [])
 walked_more w cells front b found later so_far more = more ∙ ap (λ xs. xs ++ open_cells w b cells) so_far ∙ sym (chain_cells-push w cells front b)
 
-among_left : {X : Type 0} (xs ys : List X) (x : X) → IsAmong xs x → IsAmong (xs ++ ys) x
+pub among_left : {X : Type 0} (xs ys : List X) (x : X) → IsAmong xs x → IsAmong (xs ++ ys) x
 among_left [] ys x m = absurd m
 among_left (y ∷ xs) ys x (inl e) = inl e
 among_left (y ∷ xs) ys x (inr m) = inr (among_left xs ys x m)
 
-among_right : {X : Type 0} (xs ys : List X) (x : X) → IsAmong ys x → IsAmong (xs ++ ys) x
+pub among_right : {X : Type 0} (xs ys : List X) (x : X) → IsAmong ys x → IsAmong (xs ++ ys) x
 among_right [] ys x m = m
 among_right (y ∷ xs) ys x m = inr (among_right xs ys x m)
 
-among_append : {X : Type 0} (xs ys : List X) (x : X) → IsAmong (xs ++ ys) x → IsAmong xs x ⊎ IsAmong ys x
+pub among_append : {X : Type 0} (xs ys : List X) (x : X) → IsAmong (xs ++ ys) x → IsAmong xs x ⊎ IsAmong ys x
 among_append [] ys x m = inr m
 among_append (y ∷ xs) ys x (inl e) = inl (inl e)
 among_append (y ∷ xs) ys x (inr m) = elim (among_append xs ys x m) [ inl k ↦ inl (inr k) | inr k ↦ inr k ]
@@ -108,19 +108,19 @@ chain_is_found w cells (x ∷ chain) b c (inr m) lt ne = among_right (open_cells
 
 -- ---- each is found once
 
-abbrev counts : ℕ → Placed → ℕ
+abbrev pub counts : ℕ → Placed → ℕ
 counts a x = cond (x.at == a) 1 0
 
-abbrev count_at : ℕ → List Placed → ℕ
+abbrev pub count_at : ℕ → List Placed → ℕ
 count_at a xs = sum_by (counts a) xs
 
-count-append : (a : ℕ) (xs ys : List Placed) → count_at a (xs ++ ys) ≡ count_at a xs + count_at a ys
+pub count-append : (a : ℕ) (xs ys : List Placed) → count_at a (xs ++ ys) ≡ count_at a xs + count_at a ys
 count-append a xs ys = sum_by-append (counts a) xs ys
 
-count-cons : (a : ℕ) (x : Placed) (xs : List Placed) → count_at a (x ∷ xs) ≡ counts a x + count_at a xs
+pub count-cons : (a : ℕ) (x : Placed) (xs : List Placed) → count_at a (x ∷ xs) ≡ counts a x + count_at a xs
 count-cons a x xs = sum_by-cons (counts a) x xs
 
-count_none : (a : ℕ) (xs : List Placed) → ((x : Placed) → IsAmong xs x → x.at ≢ a) → count_at a xs ≡ 0
+pub count_none : (a : ℕ) (xs : List Placed) → ((x : Placed) → IsAmong xs x → x.at ≢ a) → count_at a xs ≡ 0
 count_none a [] off = refl
 count_none a (x ∷ xs) off =
     let rest = count_none a xs (λ y m. off y (inr m)) in
@@ -131,7 +131,7 @@ count_none a (x ∷ xs) off =
     none : x.at ≢ a → counts a x ≡ 0
     none ne = let f : (x.at == a) ≡ false = grind (arith, nat_tests, ne) in ap (λ t. cond t 1 0) f
 
-counts_small : (a : ℕ) (x : Placed) → counts a x ≤ 1
+pub counts_small : (a : ℕ) (x : Placed) → counts a x ≤ 1
 counts_small a x = by (x.at == a)
   where
     by : (t : Bool) → cond t 1 0 ≤ 1
@@ -188,7 +188,7 @@ comes_trans x y z (inr a) (inl b) = let e = a.0 in inl (omega (arith, e, b))
 comes_trans x y z (inr a) (inr b) = let e = a.1 in let f = b.1 in inr (a.0 ∙ b.0, omega (arith, e, f))
 
 -- each comes before all that are behind it
-abbrev IsAscending : List Placed → Type 0
+abbrev pub IsAscending : List Placed → Type 0
 IsAscending [] = Unit {0}
 IsAscending (x ∷ xs) = ((y : Placed) → IsAmong xs y → ComesBefore x y) × IsAscending xs
 
@@ -200,7 +200,7 @@ ascends (x ∷ z ∷ zs) h =
     let first : ComesBefore x z = h 0 x (omega arith) in
     ((λ y m. elim m [ inl e ↦ subst (ComesBefore x) (sym e) first | inr k ↦ comes_trans x z y first (rest.0 y k) ]), rest)
 
-ascending : (found sorted : List Placed) → IsSortedOf found sorted → IsAscending sorted
+pub ascending : (found sorted : List Placed) → IsSortedOf found sorted → IsAscending sorted
 ascending found sorted h = ascends sorted (λ k d lt. (let e : k + 1 ≡ suc k = omega arith in
     subst (λ n. ComesBefore (slice_index_or sorted k d) (slice_index_or sorted n d)) e (h.ascending k d (omega (arith, lt)))))
 
@@ -232,7 +232,7 @@ sorted_pairs xs h k d lt = pair_order (slice_index_or xs (k + 1) d).cell.gate (s
 
 -- ---- membership
 
-reverse-cons : (r : Record) (log : Log) → reverse (r ∷ log) ≡ reverse log ++ r ∷ []
+pub reverse-cons : (r : Record) (log : Log) → reverse (r ∷ log) ≡ reverse log ++ r ∷ []
 reverse-cons r log = reverse-append (r ∷ []) log
 
 among_contains : (xs : List Placed) (x : Placed) → IsAmong xs x → Contains xs x
@@ -245,25 +245,25 @@ contains_among [] x k lt e = absurd (omega (arith, lt))
 contains_among (y ∷ ys) x zero lt e = inl (sym e)
 contains_among (y ∷ ys) x (suc k) lt e = inr (contains_among ys x k (omega (arith, lt)) e)
 
-permuted : (xs ys : List Placed) (x : Placed) → IsPermutation xs ys → IsAmong xs x → IsAmong ys x
+pub permuted : (xs ys : List Placed) (x : Placed) → IsPermutation xs ys → IsAmong xs x → IsAmong ys x
 permuted xs ys x h m = let k = Contains-permutation xs ys x h (among_contains xs x m) in contains_among ys x k.0 k.1 k.2
 
-among_map : (xs : List Placed) (r : Record) → IsAmong (map record_of_placed xs) r → (x : Placed) × IsAmong xs x × (r ≡ record_of_placed x)
+pub among_map : (xs : List Placed) (r : Record) → IsAmong (map record_of_placed xs) r → (x : Placed) × IsAmong xs x × (r ≡ record_of_placed x)
 among_map [] r m = absurd m
 among_map (y ∷ ys) r (inl e) = (y, inl refl, e)
 among_map (y ∷ ys) r (inr m) = let k = among_map ys r m in (k.0, inr k.1, k.2)
 
-map_among : (xs : List Placed) (x : Placed) → IsAmong xs x → IsAmong (map record_of_placed xs) (record_of_placed x)
+pub map_among : (xs : List Placed) (x : Placed) → IsAmong xs x → IsAmong (map record_of_placed xs) (record_of_placed x)
 map_among [] x m = absurd m
 map_among (y ∷ ys) x (inl e) = inl (ap record_of_placed e)
 map_among (y ∷ ys) x (inr m) = inr (map_among ys x m)
 
-reverse_among : (log : Log) (r : Record) → IsAmong log r → IsAmong (reverse log) r
+pub reverse_among : (log : Log) (r : Record) → IsAmong log r → IsAmong (reverse log) r
 reverse_among [] r m = absurd m
 reverse_among (x ∷ log) r (inl e) = subst (λ zs. IsAmong zs r) (sym (reverse-cons x log)) (among_right (reverse log) (x ∷ []) r (inl e))
 reverse_among (x ∷ log) r (inr m) = subst (λ zs. IsAmong zs r) (sym (reverse-cons x log)) (among_left (reverse log) (x ∷ []) r (reverse_among log r m))
 
-among_reverse : (log : Log) (r : Record) → IsAmong (reverse log) r → IsAmong log r
+pub among_reverse : (log : Log) (r : Record) → IsAmong (reverse log) r → IsAmong log r
 among_reverse [] r m = m
 among_reverse (x ∷ log) r m = elim (among_append (reverse log) (x ∷ []) r (subst (λ zs. IsAmong zs r) (reverse-cons x log) m)) [
   | inl k ↦ inr (among_reverse log r k)
@@ -297,7 +297,7 @@ newer_of : (x y : Placed) → ComesBefore x y → x.at ≢ y.at → IsNewer (rec
 newer_of x y (inl lt) ne = inl lt
 newer_of x y (inr h) ne = let le = h.1 in inr (h.0, omega (arith, le, ne))
 
-newest : (xs : List Placed) → IsAscending xs → ((a : ℕ) → count_at a xs ≤ 1) → IsNewestFirst (reverse (map record_of_placed xs))
+pub newest : (xs : List Placed) → IsAscending xs → ((a : ℕ) → count_at a xs ≤ 1) → IsNewestFirst (reverse (map record_of_placed xs))
 newest [] h once = tt
 newest (x ∷ xs) h once = subst IsNewestFirst (sym (reverse-cons (record_of_placed x) (map record_of_placed xs)))
     (newest-push (reverse (map record_of_placed xs)) (record_of_placed x)

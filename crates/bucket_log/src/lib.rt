@@ -13,4 +13,4 @@ pub use append::{Place, append_event};
 pub use next_place::place;
 pub use parts::{Closing, Giving, Part, Undoing, Update};
 pub use room_count::room;
-pub use scanning::{Placed, scan};
+pub use scanning::{Placed, scan, sort_placed};

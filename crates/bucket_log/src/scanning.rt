@@ -68,7 +68,8 @@ fn scan_chain<W: Look>(alloc: Global, words: &W, layout: Layout) -> Result<Vec<P
     Ok(found)
 }
 
-fn sort_placed(mut found: Vec<Placed>) -> Result<Vec<Placed>, NoMemory>
+/// Sorts cells ascending by gate, then by address. Nothing is left of them where there is no memory.
+pub fn sort_placed(mut found: Vec<Placed>) -> Result<Vec<Placed>, NoMemory>
     ensures { IfOk result (λ sorted. IsSortedOf found.items sorted.items) }
 {
     found.sort_by_key(|placed| (placed.cell.gate, placed.at))?;

@@ -1,0 +1,14 @@
+//! The partitions of the log: each as if it were the only one, and the records of all of them.
+#![tactic(auto)]
+
+mod events;
+mod gathering;
+pub mod laws;
+mod view;
+
+pub use events::out;
+pub use gathering::merge;
+pub use view::PartView;
+
+#[cfg(test)]
+mod tests;
