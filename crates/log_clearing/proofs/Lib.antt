@@ -1,4 +1,0 @@
-pub mod PlanEvents
-pub mod Closing
-pub mod ClosedStates
-pub mod ClosingImages

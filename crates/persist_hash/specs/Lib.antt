@@ -1,4 +1,0 @@
-pub mod Chains
-pub mod Calls
-pub mod Adding
-pub mod Walk
