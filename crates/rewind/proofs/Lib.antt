@@ -5,3 +5,4 @@ pub mod Tables
 pub mod Runs
 pub mod Loaded
 pub mod Inputs
+pub mod Examples
