@@ -13,7 +13,7 @@ returns-clause-limits c =
     let is : is_served c.args.whole.now ≡ true = sym c.is_served.ensures ∙ c.if-not-is_served.false in
     let limits = within (meaning_of c.args.whole.now) c.requires (serves-meaning c.args.whole.now ∙ is) in
     let all : c.in_ok-transactions.transactions ≡ flat_map lane_of c.args.whole.now.lanes =
-    c.in_ok-transactions.ensures tt ∙ ap (λ (lanes : List LaneText). flat_map lane_of lanes) c.as_slice.ensures in
+    c.in_ok-transactions.ensures ∙ ap (λ (lanes : List LaneText). flat_map lane_of lanes) c.as_slice.ensures in
     subst (λ (ts : List (List Put)). IsInLimits c.from.result c.from-2.result ts) (sym all)
     (subst (λ (blocks : ℕ). IsInLimits c.from.result blocks (flat_map lane_of c.args.whole.now.lanes)) (sym c.from-2.ensures)
     (subst (λ (buckets : ℕ). IsInLimits buckets c.args.whole.now.layout.blocks (flat_map lane_of c.args.whole.now.lanes)) (sym c.from.ensures) limits))
