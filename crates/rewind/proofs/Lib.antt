@@ -1,7 +1,7 @@
-pub mod Reading
-pub mod Forms
 pub mod Reports
 pub mod Tables
 pub mod Runs
 pub mod Loaded
 pub mod Inputs
+pub mod ServedLimits
+pub mod Examples

@@ -3,7 +3,7 @@ use Rattle.std.proofs.Common.{◌≡◌, ℕ, zero, suc, ◌+◌, List, [], ◌�
 use Rattle.std.specs.List.{flat_map, range_with_len}
 use Rattle.std.proofs.lemmas.List.{map-append}
 use Rattle.std.proofs.lemmas.Grind.{flat_map-append}
-use Rattle.rewind.specs.History.{commit_line, commit_lines, first_names, Name}
+use Rattle.rewind.specs.History.{commit_line, commit_lines, printed, first_names, Name}
 
 range-suc : (a n : ℕ) → range_with_len a (suc n) ≡ range_with_len a n ++ (a + n) ∷ []
 range-suc a zero = ap (λ x. x ∷ []) (omega arith)
@@ -23,9 +23,15 @@ commit_lines-more n =
     ∙ flat_map-append commit_line (first_names n) (named n ∷ [])
     ∙ ap (λ last. commit_lines (first_names n) ++ last) (append-nil _)
 
+pub commits-more : (n : ℕ) → map printed (first_names (n + 1)) ≡ map printed (first_names n) ++ printed (named n) ∷ []
+commits-more n =
+    ap (λ numbers. map printed (map named numbers)) (range-more n)
+    ∙ ap (map printed) (map-append named (range_with_len 0 n) (n ∷ []))
+    ∙ map-append printed (first_names n) (named n ∷ [])
+
 -- one key more
-pub pair_lines-more : (line : ℕ → List ℕ) (n : ℕ) → flat_map line (range_with_len 0 (n + 1)) ≡ flat_map line (range_with_len 0 n) ++ line n
-pair_lines-more line n =
-    ap (flat_map line) (range-more n)
-    ∙ flat_map-append line (range_with_len 0 n) (n ∷ [])
-    ∙ ap (λ last. flat_map line (range_with_len 0 n) ++ last) (append-nil _)
+pub each-more : {A : Type 0} (each : ℕ → List A) (n : ℕ) → flat_map each (range_with_len 0 (n + 1)) ≡ flat_map each (range_with_len 0 n) ++ each n
+each-more each n =
+    ap (flat_map each) (range-more n)
+    ∙ flat_map-append each (range_with_len 0 n) (n ∷ [])
+    ∙ ap (λ last. flat_map each (range_with_len 0 n) ++ last) (append-nil _)

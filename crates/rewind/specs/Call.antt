@@ -8,7 +8,9 @@ use Rattle.rewind.specs.declared.status.Status.TheVariants as status
 use Rattle.rewind.specs.declared.script.Script.{Script}
 use Rattle.rewind.specs.declared.replay.Outcome.{Outcome}
 use Rattle.rewind.specs.declared.replay.Outcome.TheVariants as outcome
-use Rattle.rewind.specs.Form.{script as script_of_text, IsInLimits}
+use Rattle.rewind_script.specs.Grammar.{script as meaning_of_text}
+use Rattle.rewind.specs.declared.served.Wrong.{Wrong}
+use Rattle.rewind.specs.Served.{script as script_of_text, IsWrong, wrong_text, IsInLimits}
 use Rattle.rewind.specs.History.{contents, history, first_names, report, stop_report, ended_line}
 use Rattle.rewind.specs.Events.{event_count, StopsAfter, with_events, has_stopped, HasNoEvent, AreCells, root_of}
 
@@ -76,11 +78,12 @@ pub record IsTooLong (call : Call) : Type 0 where
   pub long : INPUT_LIMIT < length text
   pub untouched : IsUntouched call
 
--- All was read, and the text isn't in the form.
-pub record IsMisformed (call : Call) : Type 0 where
+-- All was read, and the text isn't a script, or none that the program runs so far.
+pub record IsMisformed (call : Call) (wrong : Wrong) : Type 0 where
   pub text : List ℕ
   pub read : HasRead call text
   pub misformed : script_of_text text ≡ None
+  pub wrong_is : IsWrong (meaning_of_text text) wrong
   pub untouched : IsUntouched call
 
 -- Memory ran out before the first event.
@@ -121,14 +124,14 @@ abbrev pub IsCauseOf : Outcome → Call → Type 0
 IsCauseOf outcome.Usage call = IsMisused call
 IsCauseOf outcome.ReadFault call = HasReadFault call
 IsCauseOf outcome.TooLong call = IsTooLong call
-IsCauseOf outcome.Form call = IsMisformed call
+IsCauseOf (outcome.Wrong wrong) call = IsMisformed call wrong
 IsCauseOf outcome.NoMemory call = IsExhausted call
 IsCauseOf (outcome.Stopped commits) call = HasStopped call commits
 IsCauseOf (outcome.Done s) call = IsDone call s
 
 -- what the text of a whole input came to
 abbrev pub IsTextOutcome : List ℕ → Region → Counts → Region → Counts → Outcome → Type 0
-IsTextOutcome text region counts region_after counts_after outcome.Form = (script_of_text text ≡ None) × (region_after ≡ region) × (counts_after ≡ counts)
+IsTextOutcome text region counts region_after counts_after (outcome.Wrong wrong) = (script_of_text text ≡ None) × (IsWrong (meaning_of_text text) wrong) × (region_after ≡ region) × (counts_after ≡ counts)
 IsTextOutcome text region counts region_after counts_after outcome.NoMemory = HasNoEvent counts counts_after
 IsTextOutcome text region counts region_after counts_after (outcome.Stopped commits) = (s : Script) × (script_of_text text ≡ Some s) × IsStoppedRun s counts counts_after commits
 IsTextOutcome text region counts region_after counts_after (outcome.Done s) = (script_of_text text ≡ Some s) × IsWholeRun s counts counts_after region_after
@@ -143,7 +146,7 @@ abbrev pub status_of : Outcome → Status
 status_of outcome.Usage = status.Usage
 status_of outcome.ReadFault = status.ReadFault
 status_of outcome.TooLong = status.TooLong
-status_of outcome.Form = status.Script
+status_of (outcome.Wrong wrong) = status.Script
 status_of outcome.NoMemory = status.NoMemory
 status_of (outcome.Stopped commits) = status.Stopped
 status_of (outcome.Done s) = status.Done
@@ -153,7 +156,7 @@ abbrev pub text_of : Outcome → List ℕ
 text_of outcome.Usage = ended_line (codes "usage")
 text_of outcome.ReadFault = []
 text_of outcome.TooLong = ended_line (codes "toolong")
-text_of outcome.Form = ended_line (codes "script 0 form")
+text_of (outcome.Wrong wrong) = wrong_text wrong
 text_of outcome.NoMemory = []
 text_of (outcome.Stopped commits) = stop_report (first_names commits)
 text_of (outcome.Done s) = report (history s.transactions) (contents s.transactions)

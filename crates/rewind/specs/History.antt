@@ -2,6 +2,10 @@
 use Rattle.std.specs.Prelude.{ℕ, ◌==◌, if◌then◌else◌, List, [], ◌∷◌, ◌++◌, length, map, Option, Some, None, codes}
 use Rattle.std.specs.List.{range_with_len, flat_map}
 use Rattle.std.specs.Fmt.{decimal}
+use Rattle.lane_traits.specs.declared.words.Pair.{Pair}
+use Rattle.rewind_script.specs.declared.report.Printed.{Printed}
+use Rattle.rewind_script.specs.declared.report.Report.{Report}
+use Rattle.rewind_script.specs.Report.{report as text_of_report}
 use Rattle.rewind.specs.declared.script.Put.{Put}
 
 -- ---- a finite map, and the commands on it
@@ -61,18 +65,25 @@ commit_line name = codes "commit " ++ (decimal name.lane ++ (codes " " ++ (decim
 abbrev pub commit_lines : List Name → List ℕ
 commit_lines names = flat_map commit_line names
 
--- K V, for a key that has a value
-abbrev pub pair_line : ℕ → Option ℕ → List ℕ
-pair_line k None = []
-pair_line k (Some v) = decimal k ++ (codes " " ++ (decimal v ++ line_feed))
+-- a transaction that gets nothing, in the report
+abbrev pub printed : Name → Printed
+printed name = record { lane = name.lane; number = name.number; gets = [] }
+
+-- a key that has a value
+abbrev pub pair_of : ℕ → Option ℕ → List Pair
+pair_of k None = []
+pair_of k (Some v) = record { key = k; value = v } ∷ []
 
 -- the pairs, ascending by key: a map of cells has keys 0 to 11
-abbrev pub pair_lines : Contents → List ℕ
-pair_lines m = flat_map (λ k. pair_line k (m k)) (range_with_len 0 12)
+abbrev pub pairs : Contents → List Pair
+pairs m = flat_map (λ k. pair_of k (m k)) (range_with_len 0 12)
 
--- The commits, the map of structure 0, and the end.
+-- what is reported: the commits, and the map of structure 0
+abbrev pub report_of : List Name → Contents → Report
+report_of names m = record { commits = map printed names; kept = []; fates = []; maps = record { pairs = pairs m } ∷ [] }
+
 abbrev pub report : List Name → Contents → List ℕ
-report names m = commit_lines names ++ ended_line (codes "map 0") ++ pair_lines m ++ ended_line (codes "end")
+report names m = text_of_report (report_of names m)
 
 -- the commits before the stop
 abbrev pub stop_report : List Name → List ℕ

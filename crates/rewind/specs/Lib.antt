@@ -1,5 +1,4 @@
-pub mod Text
-pub mod Form
+pub mod Served
 pub mod History
 pub mod Table
 pub mod Events

@@ -1,18 +1,17 @@
 //! `rewind` runs a script on a region of words and writes a report.
 #![tactic(auto)]
 
-mod form;
 mod input;
 mod replay;
 mod report;
 mod run;
 mod script;
+mod served;
 mod status;
 mod streams;
 mod table;
 #[cfg(test)]
 mod tests;
-mod text;
 mod words;
 
 use replay::rewind_replay;

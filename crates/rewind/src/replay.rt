@@ -2,19 +2,20 @@
 ghost use Rattle.std.specs.Prelude.{◌≡◌, ◌≢◌, ◌⊎◌, ◌+◌, ◌≤◌, ℕ, List, Some, map, string_bytes, IfOk};
 ghost use Rattle.lane_traits.specs.Stream.{HasRisen};
 ghost use Rattle.lane_traits.specs.Device.{since_load};
-ghost use Rattle.rewind.specs.Form.{script as script_of_text};
+ghost use Rattle.rewind.specs.Served.{script as script_of_text};
 ghost use Rattle.rewind.specs.Events.{event_count};
 ghost use Rattle.rewind.specs.Call.{IsCauseOf, IsTextOutcome, AreLimitsOf, IsAnswerTo, AreRun, HasRun, status_of, text_of, due};
 
-use crate::form::{Refusal, read_form};
 use crate::input::{Unread, read_input};
-use crate::report::{report_text, stop_text};
+use crate::report::{report_text, stop_text, wrong_text};
 use crate::run::{Ran, run_script};
 use crate::script::Script;
+use crate::served::{Refusal, Wrong, read_served};
 use crate::status::Status;
 use crate::words::are_run;
 use lane_traits::{Device, Failed, Sink, Source};
-use std::alloc::{AllocError, Global};
+use persist_model::NoMemory;
+use std::alloc::Global;
 
 /// What a call came to.
 #[derive(Drop)]
@@ -22,7 +23,8 @@ pub enum Outcome {
     Usage,
     ReadFault,
     TooLong,
-    Form,
+    /// The text is no script, or none that is run so far.
+    Wrong(Wrong),
     NoMemory,
     /// The fences of so many transactions were made.
     Stopped { commits: u64 },
@@ -38,7 +40,7 @@ impl Outcome {
             Outcome::Usage => Status::Usage,
             Outcome::ReadFault => Status::ReadFault,
             Outcome::TooLong => Status::TooLong,
-            Outcome::Form => Status::Script,
+            Outcome::Wrong(_) => Status::Script,
             Outcome::NoMemory => Status::NoMemory,
             Outcome::Stopped { .. } => Status::Stopped,
             Outcome::Done(_) => Status::Done,
@@ -46,17 +48,17 @@ impl Outcome {
     }
 
     /// What is to be written.
-    fn text(&self, alloc: Global) -> Result<Vec<u8>, AllocError>
+    fn text(&self, alloc: Global) -> Result<Vec<u8>, NoMemory>
         requires { AreLimitsOf self.now }
         ensures { IfOk result (λ text. text.items ≡ text_of self.now) }
     {
         match self {
-            Outcome::Usage => Vec::from_slice(alloc, b"usage\n"),
-            Outcome::TooLong => Vec::from_slice(alloc, b"toolong\n"),
-            Outcome::Form => Vec::from_slice(alloc, b"script 0 form\n"),
+            Outcome::Usage => Ok(Vec::from_slice(alloc, b"usage\n")?),
+            Outcome::TooLong => Ok(Vec::from_slice(alloc, b"toolong\n")?),
+            Outcome::Wrong(wrong) => Ok(wrong_text(alloc, *wrong)?),
             Outcome::ReadFault => Ok(Vec::new(alloc)),
             Outcome::NoMemory => Ok(Vec::new(alloc)),
-            Outcome::Stopped { commits } => stop_text(alloc, *commits),
+            Outcome::Stopped { commits } => Ok(stop_text(alloc, *commits)?),
             Outcome::Done(script) => report_text(alloc, script.transactions.as_slice()),
         }
     }
@@ -169,8 +171,8 @@ fn run_text<D: Device>(alloc: Global, text: &[u8], region: &mut D) -> Outcome
     ensures limits { AreLimitsOf result }
     ensures cause { IsTextOutcome text.now (D.cells region.old) (D.counts region.old) (D.cells region.new) (D.counts region.new) result }
 {
-    match read_form(alloc, text) {
-        Err(Refusal::Form) => Outcome::Form,
+    match read_served(alloc, text) {
+        Err(Refusal::Wrong(wrong)) => Outcome::Wrong(wrong),
         Err(Refusal::NoMemory) => Outcome::NoMemory,
         Ok(script) => match run_script(alloc, &script, region) {
             Err(_) => Outcome::NoMemory,

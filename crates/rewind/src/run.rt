@@ -4,7 +4,7 @@ ghost use Rattle.lane_traits.specs.Device.{Counts, since_load};
 ghost use Rattle.persist_model.specs.Shape.{heap};
 ghost use Rattle.region_layout.specs.Layout.{layout_shape};
 ghost use Rattle.rewind.specs.History.{Contents, contents, after_puts, after_transactions};
-ghost use Rattle.rewind.specs.Form.{IsPut, IsTransaction, IsInLimits};
+ghost use Rattle.rewind.specs.Served.{IsPut, IsTransaction, IsInLimits};
 ghost use Rattle.rewind.specs.Events.{event_count, store_count, StopsAfter, with_events, has_stopped, IsAtRest, AreCells, HasNoEvent, root_of};
 
 use crate::script::{Put, Script};

@@ -3,7 +3,7 @@
 ghost use Rattle.std.specs.Prelude.{◌≡◌};
 ghost use Rattle.region_layout.specs.Layout.{layout_shape};
 ghost use Rattle.rewind.specs.Events.{script_shape};
-ghost use Rattle.rewind.specs.Form.{IsInLimits};
+ghost use Rattle.rewind.specs.Served.{IsInLimits};
 
 use persist_model::List;
 use region_layout::{Layout, Policy};

@@ -1,7 +1,7 @@
 //! The map that transactions leave, as a table with a place for each key.
 ghost use Rattle.std.specs.Prelude.{◌≡◌, ◌<◌, ◌≤◌, length, All};
 ghost use Rattle.rewind.specs.History.{Contents, contents, after_puts, after_transactions};
-ghost use Rattle.rewind.specs.Form.{IsPut, IsTransaction};
+ghost use Rattle.rewind.specs.Served.{IsPut, IsTransaction};
 ghost use Rattle.rewind.specs.Table.{IsTableOf};
 
 use crate::script::Put;

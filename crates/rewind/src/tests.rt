@@ -70,6 +70,22 @@ fn check(rt: &(impl Abort + AllocGlobal), case: Case<'_>) -> Result<(), AllocErr
     Ok(())
 }
 
+/// The text isn't run.
+fn refused(rt: &(impl Abort + AllocGlobal), script: &[u8], text: &[u8]) -> Result<(), AllocError> {
+    check(rt, run(script, Status::Script, text))
+}
+
+/// The words aren't known.
+fn misused(rt: &(impl Abort + AllocGlobal), words: &[&str]) -> Result<(), AllocError> {
+    check(
+        rt,
+        Case {
+            words,
+            ..run(FIRST, Status::Usage, b"usage\n")
+        },
+    )
+}
+
 #[test]
 fn scripts_run_and_report(rt: HostRuntime) -> Result<(), Fail> {
     check(
@@ -130,38 +146,80 @@ fn faults_and_wrong_words_have_their_status(rt: HostRuntime) -> Result<(), Fail>
             ..run(FIRST, Status::WriteFault, b"")
         },
     )?;
-    for words in [
-        &[].as_slice(),
-        &["walk"].as_slice(),
-        &["run", "run"].as_slice(),
-    ] {
-        check(
-            &rt,
-            Case {
-                words,
-                ..run(FIRST, Status::Usage, b"usage\n")
-            },
-        )?;
-    }
+    misused(&rt, &[])?;
+    misused(&rt, &["walk"])?;
+    misused(&rt, &["run", "run"])?;
     Ok(())
 }
 
 #[test]
-fn other_texts_are_refused(rt: HostRuntime) -> Result<(), Fail> {
-    for script in [
-        b"".as_slice(),
-        b"region force 4 16\nlog simple\n".as_slice(),
-        b"region force 3 16\nlog simple\nmap cells\n".as_slice(),
-        b"region force 4 16\nlog simple\nmap cells".as_slice(),
-        b"region  force 4 16\nlog simple\nmap cells\n".as_slice(),
-        b"region noforce 4 16\nlog simple\nmap cells\n".as_slice(),
-        b"region force 4 16\nlog simple\nmap cells\nlane\nbegin 0\n".as_slice(),
-        b"region force 4 16\nlog simple\nmap cells\nlane\nbegin 0\nput 0 12 1\ncommit\n".as_slice(),
-        b"region force 4 16\nlog simple\nmap cells\nlane\nbegin 0\nput 0 0 0\ncommit\n".as_slice(),
-        b"region force 4 16\nlog simple\nmap cells\nlane\nlane\n".as_slice(),
-    ] {
-        check(&rt, run(script, Status::Script, b"script 0 form\n"))?;
-    }
+fn wrong_texts_name_their_line_and_kind(rt: HostRuntime) -> Result<(), Fail> {
+    refused(&rt, b"", b"script 1 unfinished\n")?;
+    refused(
+        &rt,
+        b"region force 4 16\nlog simple\n",
+        b"script 3 unfinished\n",
+    )?;
+    refused(
+        &rt,
+        b"region force 3 16\nlog simple\nmap cells\n",
+        b"script 1 range\n",
+    )?;
+    refused(
+        &rt,
+        b"region force 4 16\nlog simple\nmaps\n",
+        b"script 3 word\n",
+    )?;
+    refused(
+        &rt,
+        b"region force 4 16\nlog simple\nmap cells\nlane\nbegin 0\n",
+        b"script 6 unfinished\n",
+    )?;
+    refused(
+        &rt,
+        b"region force 4 16\nlog simple\nmap cells\nlane\nbegin 0\nput 0 12 1\ncommit\n",
+        b"script 6 key\n",
+    )?;
+    refused(
+        &rt,
+        b"region force 4 16\nlog simple\nmap cells\nlane\nbegin 0\nput 0 0 0\ncommit\n",
+        b"script 6 value\n",
+    )?;
+    Ok(())
+}
+
+#[test]
+fn scripts_that_want_more_are_refused(rt: HostRuntime) -> Result<(), Fail> {
+    let form = b"script 0 form\n".as_slice();
+    refused(&rt, b"region noforce 4 16\nlog simple\nmap cells\n", form)?;
+    refused(&rt, b"region force 4 16\nlog bucket\nmap cells\n", form)?;
+    refused(&rt, b"region force 4 16\nlog simple\nmap tree\n", form)?;
+    refused(
+        &rt,
+        b"region force 4 16\nlog simple\nmap cells\nlane\nlane\n",
+        form,
+    )?;
+    refused(
+        &rt,
+        b"region force 4 16\nlog simple\nmap cells\nlane\nbegin 0\nabort\n",
+        form,
+    )?;
+    Ok(())
+}
+
+#[test]
+fn blanks_and_comments_are_passed_over(rt: HostRuntime) -> Result<(), Fail> {
+    let script =
+        b"# a map\r\n\r\nregion  force 4 16\r\nlog simple\nmap cells\nlane\nbegin 0\n\tput 0 3 7 \ncommit";
+    check(
+        &rt,
+        run(script, Status::Done, b"commit 0 0\nmap 0\n3 7\nend\n"),
+    )?;
+    Ok(())
+}
+
+#[test]
+fn a_long_text_is_refused(rt: HostRuntime) -> Result<(), Fail> {
     let long = vec![in rt.alloc(); b'\n'; 1_048_577]?;
     check(&rt, run(&long, Status::TooLong, b"toolong\n"))?;
     Ok(())

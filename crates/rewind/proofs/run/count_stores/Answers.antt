@@ -1,7 +1,7 @@
 use Rattle.std.proofs.Common.{◌∙◌, ◌<◌, sym, ap, subst, arith, length, List}
 use Rattle.std.proofs.lemmas.List.Elements.{All-get_or}
 use Rattle.rewind.specs.declared.script.Put.{Put}
-use Rattle.rewind.specs.Form.{IsTransaction}
+use Rattle.rewind.specs.Served.{IsTransaction}
 use Rattle.rewind.proofs.Runs.{stores-more, all_stores}
 use Rattle.rewind.proofs.run.count_stores.Goals as goal
 

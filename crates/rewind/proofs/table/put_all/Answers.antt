@@ -1,7 +1,7 @@
 use Rattle.std.proofs.Common.{◌≡◌, ◌<◌, ◌∙◌, sym, ap, arith, get_or, length}
 use Rattle.std.proofs.lemmas.List.Elements.{All-get_or}
 use Rattle.rewind.specs.declared.script.Put.{Put}
-use Rattle.rewind.specs.Form.{IsPut}
+use Rattle.rewind.specs.Served.{IsPut}
 use Rattle.rewind.specs.History.{put_in, Contents}
 use Rattle.rewind.proofs.Tables.{put_next, after_puts-next, after_puts-done}
 use Rattle.rewind.proofs.table.put_all.Goals as goal

@@ -1,8 +1,0 @@
-use Rattle.std.proofs.Common.{◌≡◌, ◌++◌}
-use Rattle.std.specs.List.{flat_map, range_with_len}
-use Rattle.rewind.specs.History.{Contents, pair_line}
-use Rattle.rewind.specs.Table.{IsTableOf}
-use Rattle.rewind.proofs.report.push_pairs.Given as goal
-
-abbrev pub invariant-loop-key : goal.invariant-loop-key
-invariant-loop-key l = (m : Contents) → IsTableOf m l.table → l.text.items ≡ l.initial.text.items ++ flat_map (λ k. pair_line k (m k)) (range_with_len 0 l.key)
