@@ -10,3 +10,5 @@ pub mod Puts
 pub mod Removals
 pub mod Walks
 pub mod Gathering
+pub mod MarkLaws
+pub mod Readings

@@ -2,3 +2,4 @@ pub mod Chains
 pub mod Calls
 pub mod Adding
 pub mod Walk
+pub mod Reading

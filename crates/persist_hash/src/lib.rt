@@ -5,6 +5,7 @@ mod add;
 mod fields;
 mod lookup;
 mod insertion;
+mod marks;
 mod removal;
 mod search;
 mod walking;
