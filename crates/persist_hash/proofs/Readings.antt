@@ -195,6 +195,10 @@ marks_more w root c node front x =
     swap false true u = refl
     swap false false u = refl
 
+pub length-keys : (ns : List Node) → length (keys ns) ≡ length ns
+length-keys [] = refl
+length-keys (n ∷ ns) = let again = length-keys ns in omega (arith, again)
+
 -- there are fewer nodes in front than words
 pub few_in_front : (land : Land) (w : Words) (root c node : ℕ) (front : List Node) → HasFront land w root c front node → length front ≤ MAX_WORDS
 few_in_front land w root c node front h =

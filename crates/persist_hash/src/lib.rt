@@ -8,9 +8,11 @@ mod insertion;
 mod marks;
 mod removal;
 mod search;
+mod soundness;
 mod walking;
 
 pub use lookup::{get, needs};
 pub use insertion::put;
 pub use removal::remove;
+pub use soundness::{Broken, sound};
 pub use walking::walk;
