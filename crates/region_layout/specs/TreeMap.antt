@@ -61,14 +61,17 @@ abbrev pub IsBalanced : Tree → Type 0
 IsBalanced Leaf = Unit {0}
 IsBalanced (Node b k v l r) = (height l ≤ height r + 1) × (height r ≤ height l + 1) × IsBalanced l × IsBalanced r
 
--- the blocks, and the keys with their values, from left to right
+-- what f gives of each node, from left to right
+abbrev pub in_order : {X : Type 0} → (ℕ → ℕ → ℕ → X) → Tree → List X
+in_order f Leaf = []
+in_order f (Node b k v l r) = in_order f l ++ f b k v ∷ in_order f r
+
+-- the blocks, and the keys with their values
 abbrev pub blocks : Tree → List ℕ
-blocks Leaf = []
-blocks (Node b k v l r) = blocks l ++ b ∷ blocks r
+blocks t = in_order (λ b k v. b) t
 
 abbrev pub entries : Tree → FiniteMap
-entries Leaf = []
-entries (Node b k v l r) = entries l ++ (k, v) ∷ entries r
+entries t = in_order (λ b k v. (k, v)) t
 
 -- The tree hangs at word 1 of the root block. The structure owns its nodes, each reached once, and no block beside them and the root.
 pub record IsTree (land : Land) (w : Words) (root : ℕ) (t : Tree) : Type 0 where
