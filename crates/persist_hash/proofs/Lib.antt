@@ -5,6 +5,7 @@ pub mod Blocks
 pub mod Changing
 pub mod Places
 pub mod Entries
+pub mod Lands
 pub mod Adding
 pub mod Puts
 pub mod Removals
@@ -12,3 +13,4 @@ pub mod Walks
 pub mod Gathering
 pub mod MarkLaws
 pub mod Readings
+pub mod OneMap

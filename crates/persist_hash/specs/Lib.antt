@@ -3,3 +3,4 @@ pub mod Calls
 pub mod Adding
 pub mod Walk
 pub mod Reading
+pub mod Laws

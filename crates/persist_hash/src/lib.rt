@@ -3,6 +3,7 @@
 
 mod add;
 mod fields;
+pub mod laws;
 mod lookup;
 mod insertion;
 mod marks;

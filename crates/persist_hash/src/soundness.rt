@@ -1,11 +1,11 @@
 ghost use Rattle.std.specs.Prelude.{◌≡◌, ◌≢◌, ℕ, ◌+◌, ◌*◌, ◌<◌, ◌≤◌, Bool, false, true, IsTrue, IfOk, OnOk, Err, length, slice_index, slice_index_or};
 ghost use Rattle.persist_model.specs.Records.{IsAmong};
-ghost use Rattle.persist_model.specs.Shape.{words_of_shape};
+ghost use Rattle.persist_model.specs.Shape.{words_of_shape, heap, block};
 ghost use Rattle.lane_traits.specs.Space.{IsOwn};
 ghost use Rattle.region_layout.specs.Layout.{layout_shape};
 ghost use Rattle.region_layout.specs.HashMap.{chain_number, first_link};
-ghost use Rattle.region_layout.specs.HeapBlocks.{root_of};
-ghost use Rattle.persist_model.specs.Shape.{heap};
+ghost use Rattle.region_layout.specs.Contents.{IsMap};
+ghost use Rattle.region_layout.specs.declared.layout.Kind.TheVariants.{Hash};
 ghost use Rattle.persist_hash.specs.Reading.{IsHeap, land_in, HasHashMap, IsNoHash, AreMarks, is_root, in_directories, in_chains, HasDirectories, HasChains};
 
 use crate::marks::{Blocks, all_claimed, claim, claim_link, unclaimed};
@@ -190,10 +190,9 @@ pub fn sound<L: Look>(
 ) -> Result<(), Broken>
     requires long { length (L.words words.now) ≡ words_of_shape (layout_shape layout) }
     requires structure { structure < layout.structures }
-    ensures sound { OnOk result (HasHashMap (land_in (L.words words.now) (heap (layout_shape layout)) structure) (slice_index (L.words words.now))
-        (root_of (heap (layout_shape layout)) structure)) }
-    ensures broken { (at : ℕ) → result ≡ Err (Broken.At at) → (at ≡ root_of (heap (layout_shape layout)) structure)
-        × (HasHashMap (land_in (L.words words.now) (heap (layout_shape layout)) structure) (slice_index (L.words words.now)) at → ⊥) }
+    ensures sound { OnOk result (IsMap Hash (heap (layout_shape layout)) (slice_index (L.words words.now)) structure) }
+    ensures broken { (at : ℕ) → result ≡ Err (Broken.At at) → (at ≡ block (layout_shape layout) structure)
+        × (IsMap Hash (heap (layout_shape layout)) (slice_index (L.words words.now)) structure → ⊥) }
 {
     let blocks = Blocks {
         heap: layout.heap(),
