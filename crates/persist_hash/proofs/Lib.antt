@@ -14,3 +14,4 @@ pub mod Gathering
 pub mod MarkLaws
 pub mod Readings
 pub mod OneMap
+pub mod Fresh

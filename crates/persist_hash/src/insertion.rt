@@ -23,6 +23,7 @@ pub fn put<W: Words>(
         → Holds (W.space words.new) root (with_pair key value contents)) }
     ensures takes { OnOk result ((contents : FiniteMap) → Holds (W.space words.old) root contents
         → TakesBlocks (needed (W.space words.old).word root key contents) (W.space words.old) (W.space words.new)) }
+    ensures map { OnOk result (HasMap (W.space words.new) root) }
     ensures others { OnOk result (KeepsOthers (W.space words.old) (W.space words.new)) }
     ensures writes { OnOk result ((W.space words.new).writes ≤ (W.space words.old).writes + 12) }
 

@@ -188,7 +188,7 @@ returns-clause-enough g c = λ contents holds.
     let one = needs_one s c.args.root c.args.key contents holds _ _ _ (c.place_of-place.ensures.place holds.chains holds.is) c.if-place-ne0.false c.if-place-eq0.false in
     omega (arith, can, one)
 
--- ---- the words elsewhere
+-- ---- the words elsewhere, and that they stay a map
 
 pub returns-then-place-ne0-clause-others : goal.returns-then-place-ne0-clause-others
 returns-then-place-ne0-clause-others g c =
@@ -219,3 +219,18 @@ returns-clause-others g c =
     let own = directory_own s.land s.word c.args.root holds.chains (chain_number c.args.key) holds.is (chain_below c.args.key) (λ z. c.if-place-eq0.false (at.directory_is ∙ z)) in
     others_added s u slot c.args.key c.args.value
     (slot_held s.land c.place_of-place.result.directory c.chain_of-chain.result (subst (IsOwn s.land) (sym at.directory_is) own)) adds
+
+pub returns-then-place-ne0-clause-map : goal.returns-then-place-ne0-clause-map
+returns-then-place-ne0-clause-map g c =
+    let holds = c.requires.map.holds in
+    record { contents = with_pair c.args.key c.args.value c.requires.map.contents; holds = returns-then-place-ne0-clause-contents g c c.requires.map.contents holds }
+
+pub returns-then-place-eq0-clause-map : goal.returns-then-place-eq0-clause-map
+returns-then-place-eq0-clause-map g c =
+    let holds = c.requires.map.holds in
+    record { contents = with_pair c.args.key c.args.value c.requires.map.contents; holds = returns-then-place-eq0-clause-contents g c c.requires.map.contents holds }
+
+pub returns-clause-map : goal.returns-clause-map
+returns-clause-map g c =
+    let holds = c.requires.map.holds in
+    record { contents = with_pair c.args.key c.args.value c.requires.map.contents; holds = returns-clause-contents g c c.requires.map.contents holds }

@@ -70,3 +70,11 @@ returns-clause-others g c =
     others_unlinked s (g.W.Reads.space c.unlink.new.words) place.node place.link (s.word (place.node + 3))
     (link_held s c.args.root c.args.key holds.chains _ _ _ holds.is (c.place_of-place.ensures.place holds.chains holds.is) c.if-place-eq0.false)
     (unlinked_at _ _ _ _ _ c.place_of-place.ensures.same c.in_ok-before.ensures.unlinked)
+
+pub returns-then-place-eq0-clause-map : goal.returns-then-place-eq0-clause-map
+returns-then-place-eq0-clause-map g c =
+    record { contents = without_key c.args.key c.requires.contents; holds = returns-then-place-eq0-clause-contents g c c.requires.contents c.requires.holds }
+
+pub returns-clause-map : goal.returns-clause-map
+returns-clause-map g c =
+    record { contents = without_key c.args.key c.requires.contents; holds = returns-clause-contents g c c.requires.contents c.requires.holds }
