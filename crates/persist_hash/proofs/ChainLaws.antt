@@ -88,7 +88,7 @@ link_behind-last at (m ∷ front) n = link_behind-last (m.block + 3) front n
 
 -- ---- how many nodes are left
 
-chain_from_is : (land : Land) (w : Words) (link n : ℕ) (ns : List Node) → AreOwnNodes land ns → IsChain w link ns → length ns ≤ n → chain_from n w link ≡ ns
+pub chain_from_is : (land : Land) (w : Words) (link n : ℕ) (ns : List Node) → AreOwnNodes land ns → IsChain w link ns → length ns ≤ n → chain_from n w link ≡ ns
 unfolding chain_from
 chain_from_is land w link zero [] own h few = refl
 chain_from_is land w link zero (m ∷ ns) own h few = absurd (omega (arith, few))

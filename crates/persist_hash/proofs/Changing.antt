@@ -73,7 +73,7 @@ link_word land w root chains c later u ns p below some h d ld ne there =
     ap u (sym place) ∙ h.elsewhere (directory_of w root d) (1 + d % 8) (p.own_directory (d / 8) (index_below d ld) there)
         (p.directory_no_node (d / 8) c (index_below d ld) below) (omega arith) (omega (arith, qd)) (λ e. apart (e ∙ at)) ∙ ap w place
 
-first_kept : (w u : Words) (root d : ℕ) → directory_of u root d ≡ directory_of w root d
+pub first_kept : (w u : Words) (root d : ℕ) → directory_of u root d ≡ directory_of w root d
     → (directory_of w root d ≢ 0 → u (chain_word (directory_of w root d) d) ≡ w (chain_word (directory_of w root d) d)) → first_link u root d ≡ first_link w root d
 first_kept w u root d same word =
     ap (λ x. if x == 0 then 0 else u (chain_word x d)) same ∙ step (directory_of w root d) word

@@ -5,8 +5,13 @@ pub mod Blocks
 pub mod Changing
 pub mod Places
 pub mod Entries
+pub mod Lands
 pub mod Adding
 pub mod Puts
 pub mod Removals
 pub mod Walks
 pub mod Gathering
+pub mod MarkLaws
+pub mod Readings
+pub mod OneMap
+pub mod Fresh

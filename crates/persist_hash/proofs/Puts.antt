@@ -13,43 +13,14 @@ use Rattle.region_layout.specs.HashMap.{Node, Chains, CHAINS, IsChain, EachNode,
 use Rattle.persist_hash.specs.Chains.{HasNotKey, IsPlaceOf, put_chain, link_behind}
 use Rattle.persist_hash.specs.Calls.{Holds, needed, TakesBlocks}
 use Rattle.persist_hash.specs.Adding.{linked, AddsNode, link_to, OpensChain, AddsDirectory}
-use Rattle.persist_hash.proofs.Adding.{among_kept}
+use Rattle.persist_hash.proofs.Adding.{among_kept, opens_elsewhere}
+use Rattle.persist_hash.proofs.Lands.{with_block, own_more, own_new, own_either}
 use Rattle.persist_hash.proofs.Lists.{decide, among_left, among_right, among_either, once_left, once_right, once_apart}
 use Rattle.persist_hash.proofs.ChainLaws.{each_joined, each_left, each_right, blocks-append, keys-append, blocks_apart, chain_kept, chain_behind, chain_relinked, link_in}
 use Rattle.persist_hash.proofs.Blocks.{IsPlaced, placed_of, of_placed}
 use Rattle.persist_hash.proofs.Changing.{ChangesChain, changed, OpensDirectory, opened}
 use Rattle.persist_hash.proofs.Places.{HasNode, node_there, none_there, no_nodes, chain_below, index_below, needs_one, needs_two, needs_none}
 use Rattle.persist_hash.proofs.Entries.{lookup_changed, lookup-with_pair, lookup_replaced, ascending-with_pair, changed_at}
-
--- ---- the land with one block more
-
-abbrev pub with_block : ℕ → Land → Land
-with_block b land = with_owner b (land.structure + 1) land
-
-pub own_more : (land : Land) (n b : ℕ) → IsOwn land b → IsOwn (with_block n land) b
-own_more land n b own = (
-  record { number = own.0.number; place = own.0.place; positive = own.0.positive; fits = own.0.fits },
-  step (b == n),
-)
-  where
-    step : (t : Bool) → (if t then land.structure + 1 else land.owner b) ≡ land.structure + 1
-    step true = refl
-    step false = own.1
-
-pub own_new : (land : Land) (n : ℕ) → IsBlock land n → IsOwn (with_block n land) n
-own_new land n block = (
-  record { number = block.number; place = block.place; positive = block.positive; fits = block.fits },
-  put_same n (land.structure + 1) land.owner,
-)
-
-pub own_either : (land : Land) (n b : ℕ) → IsOwn (with_block n land) b → IsOwn land b ⊎ (b ≡ n)
-own_either land n b own = ⊎_elim
-    (λ same. inr same.1)
-    (λ other. inl (
-      record { number = own.0.number; place = own.0.place; positive = own.0.positive; fits = own.0.fits },
-      sym (put_other n (land.structure + 1) b land.owner other.1) ∙ own.1,
-    ))
-    (eqb_tells b n)
 
 -- ---- a node more
 
@@ -274,7 +245,9 @@ new_chain s u root key value directory node own block fresh node_block node_fres
               let under : i - 1 < 8 = omega (arith, small, pos) in
               ap u.word shift ∙ h.links (i - 1) under ∙ no_link (i - 1) (c % 8) node other
               ∙ sym (ap w1 shift ∙ opened_empty (root + 1 + c / 8) directory (i - 1) s.word (λ g. off.1 (shift ∙ g)) under))
-          (λ other. h.elsewhere b i (own_more (with_block directory s.land) node b has) other.1 (λ f. node_fresh (subst (IsOwn (with_block directory s.land)) f has))
+          (λ other. opens_elsewhere root (c / 8) directory (c % 8) node key value (taken node (taken directory s)) u h
+              (own_more (with_block directory s.land) node directory (own_new s.land directory block)) (own_new (with_block directory s.land) node node_block) b i
+              (own_more (with_block directory s.land) node b has) other.1 (λ f. node_fresh (subst (IsOwn (with_block directory s.land)) f has))
               (omega (arith, small)) (λ f. off.1 (f ∙ sym place))
               ∙ sym (opened_other (root + 1 + c / 8) directory (b + i) s.word off.1
               (λ j lt. blocks_apart (with_block directory s.land) b directory i (1 + j) has (own_new s.land directory block) other.1 (omega (arith, small)) (omega (arith, lt)))))

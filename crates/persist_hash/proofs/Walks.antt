@@ -223,7 +223,7 @@ pub record LooksUp (n : ℕ) (chains : Chains) (k : ℕ) : Type 0 where
   pub within : chain_number k < n → lookup k (pairs (nodes_up_to n chains)) ≡ lookup k (pairs (chains (chain_number k)))
   pub outside : n ≤ chain_number k → lookup k (pairs (nodes_up_to n chains)) ≡ None
 
-all_lookups : (n : ℕ) (chains : Chains) (k : ℕ) → n ≤ 64 → ((c : ℕ) → c < 64 → EachNode (λ m. chain_number m.key ≡ c) (chains c)) → LooksUp n chains k
+pub all_lookups : (n : ℕ) (chains : Chains) (k : ℕ) → n ≤ 64 → ((c : ℕ) → c < 64 → EachNode (λ m. chain_number m.key ≡ c) (chains c)) → LooksUp n chains k
 unfolding nodes_up_to
 all_lookups zero chains k le h = record { within = λ lt. absurd (omega (arith, lt)); outside = λ ge. refl }
 all_lookups (suc n) chains k le h =

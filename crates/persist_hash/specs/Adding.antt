@@ -19,16 +19,15 @@ pub record AddsNode (slot key value : ℕ) (s u : Space) : Type 0 where
 abbrev pub link_to : ℕ → ℕ → ℕ → ℕ
 link_to place node i = if i == place then node else 0
 
--- The first n links of the directory block are written, and no other word of the structure's blocks.
+-- The first n links of the directory block are written, and no other word.
 pub record FillsLinks (directory place node n : ℕ) (s u : Space) : Type 0 where
   pub land : u.land ≡ s.land
   pub spare : u.spare ≡ s.spare
   pub writes : u.writes ≡ s.writes + n
   pub links : (i : ℕ) → i < n → u.word (directory + (1 + i)) ≡ link_to place node i
-  pub elsewhere : (b i : ℕ) → IsOwn s.land b → b ≢ directory → i < 16 → u.word (b + i) ≡ s.word (b + i)
+  pub elsewhere : (a : ℕ) → ((i : ℕ) → i < n → a ≢ directory + (1 + i)) → u.word a ≡ s.word a
 
--- The word of the root names the directory block, which links to a chain of one node. No other word of the structure's blocks
--- is written.
+-- The word of the root names the directory block, which links to a chain of one node. No other word is written.
 pub record OpensChain (root index directory place node key value : ℕ) (s u : Space) : Type 0 where
   pub land : u.land ≡ s.land
   pub spare : u.spare ≡ s.spare
@@ -38,7 +37,8 @@ pub record OpensChain (root index directory place node key value : ℕ) (s u : S
   pub key_is : u.word (node + 1) ≡ key
   pub value_is : u.word (node + 2) ≡ value
   pub next_is : u.word (node + 3) ≡ 0
-  pub elsewhere : (b i : ℕ) → IsOwn s.land b → b ≢ directory → b ≢ node → i < 16 → b + i ≢ root + (1 + index) → u.word (b + i) ≡ s.word (b + i)
+  pub elsewhere : (a : ℕ) → ((i : ℕ) → i < 8 → a ≢ directory + (1 + i)) → a ≢ node + 1 → a ≢ node + 2 → a ≢ node + 3 → a ≢ root + (1 + index)
+      → u.word a ≡ s.word a
 
 -- two blocks are taken, one for the directory and one for the node
 pub record AddsDirectory (root index place key value : ℕ) (s u : Space) : Type 0 where

@@ -2,7 +2,7 @@
 ghost use Rattle.std.specs.Prelude.{◌≡◌, ◌↔◌, ◌+◌, ◌<◌, ◌≤◌, [], OnOk, OnErr, IfOk, Err, length};
 ghost use Rattle.lane_traits.specs.Space.{Space, IsOwn, IsDataWord, written};
 ghost use Rattle.persist_hash.specs.Calls.{IsUnwritten};
-ghost use Rattle.persist_hash.specs.Adding.{linked, AddsNode, FillsLinks, OpensChain, AddsDirectory, AreThree};
+ghost use Rattle.persist_hash.specs.Adding.{linked, AddsNode, link_to, FillsLinks, OpensChain, AddsDirectory, AreThree};
 
 use crate::fields::{field, set};
 use lane_traits::{Words, WordsRefusal};
@@ -60,6 +60,12 @@ pub(crate) fn add<W: Words>(
     link_node(words, slot, node, key, value)
 }
 
+fn link_for(i: u32, place: u32, node: u32) -> u64
+    ensures { result ≡ link_to place node i }
+{
+    if i == place { u64::from(node) } else { 0 }
+}
+
 // The eight links of a directory block: one to the node, the others to none.
 fn fill_links<W: Words>(
     words: &mut W,
@@ -72,8 +78,7 @@ fn fill_links<W: Words>(
     ensures memory { OnErr result (result ≡ Err WordsRefusal.NoMemory) }
 {
     for i in 0..8u32 {
-        let link = if i == place { u64::from(node) } else { 0 };
-        set(words, directory, 1 + i, link)?;
+        set(words, directory, 1 + i, link_for(i, place, node))?;
     }
     Ok(())
 }
@@ -98,7 +103,8 @@ fn open_chain<W: Words>(
     set(words, node, 1, key)?;
     set(words, node, 2, value)?;
     set(words, node, 3, 0)?;
-    set(words, root, 1 + index, u64::from(directory))
+    set(words, root, 1 + index, u64::from(directory))?;
+    Ok(())
 }
 
 // A new directory block and in it a chain of one new node.

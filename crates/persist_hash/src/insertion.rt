@@ -1,7 +1,7 @@
 ghost use Rattle.std.specs.Prelude.{◌≡◌, ◌+◌, ◌<◌, ◌≤◌, [], length, OnOk, IfOk, Err};
 ghost use Rattle.lane_traits.specs.Space.{Space};
 ghost use Rattle.region_layout.specs.FiniteMap.{FiniteMap, lookup, with_pair};
-ghost use Rattle.persist_hash.specs.Calls.{Holds, HasMap, needed, TakesBlocks, IsUnwritten};
+ghost use Rattle.persist_hash.specs.Calls.{Holds, HasMap, needed, TakesBlocks, IsUnwritten, KeepsOthers};
 
 use crate::add::{add, add_directory, replace};
 use crate::search::{chain_of, place_of};
@@ -23,6 +23,8 @@ pub fn put<W: Words>(
         → Holds (W.space words.new) root (with_pair key value contents)) }
     ensures takes { OnOk result ((contents : FiniteMap) → Holds (W.space words.old) root contents
         → TakesBlocks (needed (W.space words.old).word root key contents) (W.space words.old) (W.space words.new)) }
+    ensures map { OnOk result (HasMap (W.space words.new) root) }
+    ensures others { OnOk result (KeepsOthers (W.space words.old) (W.space words.new)) }
     ensures writes { OnOk result ((W.space words.new).writes ≤ (W.space words.old).writes + 12) }
 
     // Fewer blocks can be taken than it needs.

@@ -1,7 +1,7 @@
 ghost use Rattle.std.specs.Prelude.{◌≡◌, ◌+◌, ◌<◌, ◌≤◌, OnOk, OnErr, IfOk, Err, MatchOption};
 ghost use Rattle.lane_traits.specs.Space.{Space, IsOwn, IsDataWord, written, given};
 ghost use Rattle.region_layout.specs.FiniteMap.{FiniteMap, lookup, without_key};
-ghost use Rattle.persist_hash.specs.Calls.{Holds, HasMap, GivesBlock};
+ghost use Rattle.persist_hash.specs.Calls.{Holds, HasMap, GivesBlock, KeepsOthers};
 
 use crate::fields::field;
 use crate::search::place_of;
@@ -30,6 +30,8 @@ pub fn remove<W: Words>(words: &mut W, root: u32, key: u64) -> Result<Option<u64
         → Holds (W.space words.new) root (without_key key contents)) }
     ensures gives { IfOk result (λ before. MatchOption before (W.space words.new ≡ W.space words.old)
         (λ _. GivesBlock (W.space words.old) (W.space words.new))) }
+    ensures map { OnOk result (HasMap (W.space words.new) root) }
+    ensures others { OnOk result (KeepsOthers (W.space words.old) (W.space words.new)) }
     ensures writes { OnOk result ((W.space words.new).writes ≤ (W.space words.old).writes + 1) }
     ensures memory { OnErr result (result ≡ Err WordsRefusal.NoMemory) }
 {

@@ -19,3 +19,4 @@ pub mod Lawful
 pub mod Walking
 pub mod Owned
 pub mod Sounding
+pub mod Fresh

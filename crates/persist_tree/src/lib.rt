@@ -17,3 +17,6 @@ mod turn;
 pub use calls::{get, needs, put, remove};
 pub use collect::walk;
 pub use soundness::{Broken, sound};
+
+#[cfg(test)]
+mod tests;

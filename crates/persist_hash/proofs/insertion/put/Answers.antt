@@ -8,7 +8,7 @@ use Rattle.persist_hash.specs.Chains.{HasHash}
 use Rattle.persist_hash.specs.Calls.{Holds, TakesBlocks, needed}
 use Rattle.persist_hash.specs.Adding.{AddsNode, AddsDirectory}
 use Rattle.persist_hash.proofs.Places.{has_hash, none_of, some_of, place_own, needs_none, needs_one, needs_two, directory_own, slot_held, chain_below}
-use Rattle.persist_hash.proofs.Adding.{one_can, two_can, takes_none}
+use Rattle.persist_hash.proofs.Adding.{one_can, two_can, takes_none, others_written, others_added, others_opened}
 use Rattle.persist_hash.proofs.Puts.{holds_added, holds_opened, takes_one, takes_two}
 use Rattle.persist_hash.proofs.Removals.{holds_replaced}
 use Rattle.persist_hash.proofs.insertion.put.Goals as goal
@@ -187,3 +187,50 @@ returns-clause-enough g c = λ contents holds.
     let can = one_can s u slot c.args.key c.args.value adds in
     let one = needs_one s c.args.root c.args.key contents holds _ _ _ (c.place_of-place.ensures.place holds.chains holds.is) c.if-place-ne0.false c.if-place-eq0.false in
     omega (arith, can, one)
+
+-- ---- the words elsewhere, and that they stay a map
+
+pub returns-then-place-ne0-clause-others : goal.returns-then-place-ne0-clause-others
+returns-then-place-ne0-clause-others g c =
+    let s = g.W.Reads.space c.args.words.now in
+    let holds = c.requires.map.holds in
+    others_written s (g.W.Reads.space c.replace.new.words) c.place_of-place.result.node 2 c.args.value
+    (place_own s c.args.root c.args.key holds.chains _ _ _ holds.is (c.place_of-place.ensures.place holds.chains holds.is) c.if-place-ne0.true)
+    (omega arith) (omega arith)
+    (c.in_ok-before.ensures.made ∙ ap (written (c.place_of-place.result.node + 2) c.args.value) c.place_of-place.ensures.same)
+
+pub returns-then-place-eq0-clause-others : goal.returns-then-place-eq0-clause-others
+returns-then-place-eq0-clause-others g c =
+    let s = g.W.Reads.space c.args.words.now in
+    let u = g.W.Reads.space c.add_directory.new.words in
+    let chain = c.chain_of-chain.result in
+    let adds = subst (λ (t : Space). AddsDirectory c.args.root (chain / 8) (chain % 8) c.args.key c.args.value t u) c.place_of-place.ensures.same c.in_ok-add_directory.ensures.added in
+    let below = c.chain_of-chain.ensures.below in
+    others_opened s u c.args.root (chain / 8) (chain % 8) c.args.key c.args.value c.requires.map.holds.is.root_own (omega (arith, below)) adds
+
+pub returns-clause-others : goal.returns-clause-others
+returns-clause-others g c =
+    let s = g.W.Reads.space c.args.words.now in
+    let u = g.W.Reads.space c.add.new.words in
+    let holds = c.requires.map.holds in
+    let at = c.place_of-place.ensures.place holds.chains holds.is in
+    let slot = c.place_of-place.result.directory + 1 + c.chain_of-chain.result % 8 in
+    let adds = subst (λ (t : Space). AddsNode slot c.args.key c.args.value t u) c.place_of-place.ensures.same c.in_ok-add.ensures.added in
+    let own = directory_own s.land s.word c.args.root holds.chains (chain_number c.args.key) holds.is (chain_below c.args.key) (λ z. c.if-place-eq0.false (at.directory_is ∙ z)) in
+    others_added s u slot c.args.key c.args.value
+    (slot_held s.land c.place_of-place.result.directory c.chain_of-chain.result (subst (IsOwn s.land) (sym at.directory_is) own)) adds
+
+pub returns-then-place-ne0-clause-map : goal.returns-then-place-ne0-clause-map
+returns-then-place-ne0-clause-map g c =
+    let holds = c.requires.map.holds in
+    record { contents = with_pair c.args.key c.args.value c.requires.map.contents; holds = returns-then-place-ne0-clause-contents g c c.requires.map.contents holds }
+
+pub returns-then-place-eq0-clause-map : goal.returns-then-place-eq0-clause-map
+returns-then-place-eq0-clause-map g c =
+    let holds = c.requires.map.holds in
+    record { contents = with_pair c.args.key c.args.value c.requires.map.contents; holds = returns-then-place-eq0-clause-contents g c c.requires.map.contents holds }
+
+pub returns-clause-map : goal.returns-clause-map
+returns-clause-map g c =
+    let holds = c.requires.map.holds in
+    record { contents = with_pair c.args.key c.args.value c.requires.map.contents; holds = returns-clause-contents g c c.requires.map.contents holds }

@@ -4,6 +4,7 @@ use Rattle.region_layout.specs.FiniteMap.{FiniteMap, lookup, without_key}
 use Rattle.persist_hash.specs.Calls.{Holds, GivesBlock}
 use Rattle.persist_hash.proofs.Places.{has_hash, none_of, some_of, place_own}
 use Rattle.persist_hash.proofs.Entries.{without_absent}
+use Rattle.persist_hash.proofs.Adding.{others_same, others_unlinked}
 use Rattle.persist_hash.proofs.Removals.{holds_removed, link_held, gives_one, unlinked_at}
 use Rattle.persist_hash.proofs.removal.remove.Goals as goal
 
@@ -56,3 +57,24 @@ returns-clause-gives g c =
     gives_one s (g.W.Reads.space c.unlink.new.words) place.node place.link (s.word (place.node + 3))
     (place_own s c.args.root c.args.key holds.chains _ _ _ holds.is (c.place_of-place.ensures.place holds.chains holds.is) c.if-place-eq0.false)
     (unlinked_at _ _ _ _ _ c.place_of-place.ensures.same c.in_ok-before.ensures.unlinked)
+
+pub returns-then-place-eq0-clause-others : goal.returns-then-place-eq0-clause-others
+returns-then-place-eq0-clause-others g c =
+    others_same (g.W.Reads.space c.args.words.now) (g.W.Reads.space c.place_of-place.new.words) c.place_of-place.ensures.same
+
+pub returns-clause-others : goal.returns-clause-others
+returns-clause-others g c =
+    let place = c.place_of-place.result in
+    let holds = c.requires.holds in
+    let s = g.W.Reads.space c.args.words.now in
+    others_unlinked s (g.W.Reads.space c.unlink.new.words) place.node place.link (s.word (place.node + 3))
+    (link_held s c.args.root c.args.key holds.chains _ _ _ holds.is (c.place_of-place.ensures.place holds.chains holds.is) c.if-place-eq0.false)
+    (unlinked_at _ _ _ _ _ c.place_of-place.ensures.same c.in_ok-before.ensures.unlinked)
+
+pub returns-then-place-eq0-clause-map : goal.returns-then-place-eq0-clause-map
+returns-then-place-eq0-clause-map g c =
+    record { contents = without_key c.args.key c.requires.contents; holds = returns-then-place-eq0-clause-contents g c c.requires.contents c.requires.holds }
+
+pub returns-clause-map : goal.returns-clause-map
+returns-clause-map g c =
+    record { contents = without_key c.args.key c.requires.contents; holds = returns-clause-contents g c c.requires.contents c.requires.holds }
