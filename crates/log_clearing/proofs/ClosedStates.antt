@@ -45,7 +45,7 @@ each_among P [] b h m = absurd m
 each_among P (x ∷ xs) b h (inl e) = subst P (sym e) h.0
 each_among P (x ∷ xs) b h (inr m) = each_among P xs b h.1 m
 
-part_in : (P : Record → Type 0) (later log : Log) → IsPart P later log → (r : Record) → IsAmong log r → (P r → ⊥) → IsAmong later r
+pub part_in : (P : Record → Type 0) (later log : Log) → IsPart P later log → (r : Record) → IsAmong log r → (P r → ⊥) → IsAmong later r
 part_in P _ _ empty r m off = m
 part_in P _ _ (stays x {later = later} {log = log} part) r (inl e) off = inl e
 part_in P _ _ (stays x {later = later} {log = log} part) r (inr m) off = inr (part_in P later log part r m off)

@@ -1,6 +1,7 @@
 -- Each image of each prefix of a closing has the state of some part of the closing.
 use Rattle.std.proofs.Common.{◌≡◌, ◌≢◌, ◌⊎◌, inl, inr, ℕ, Bool, true, false, ◌<◌, ◌≤◌, ◌==◌, if◌then◌else◌, List, refl, sym, ap, subst, ◌∙◌, arith, nat_lt}
 use Rattle.std.proofs.lemmas.Bool.{ltb-true, ltb-false}
+use Rattle.std.proofs.lemmas.Bool.Decides.{nat_tests}
 use Rattle.persist_model.specs.Region.{Words}
 use Rattle.persist_model.specs.Progress.{Progress, Reaches}
 use Rattle.persist_model.specs.Runs.{progress_at}
@@ -51,6 +52,13 @@ pub record HasPart (shape : Shape) (v : Words) (s : State) (gates ends checkpoin
   pub gates_open : (r : Record) → IsAmong later r → log_words shape v r.at ≢ 0
   pub state : (words : Words) → words ≡ heap_words shape v → HasState shape v (record { log = later; words = words; room = room })
 
+abbrev room_by : Bool → ℕ → ℕ → ℕ
+room_by t now was = if t then now else was
+
+less : (now was : ℕ) (t : Bool) → (t ≡ true → was ≤ now) → was ≤ room_by t now was
+less now was true h = h refl
+less now was false h = omega arith
+
 pub closing_image : (shape : Shape) (w v : Words) (s : State) (gates ends checkpoints : List ℕ) (k : ℕ) → shape.partitions ≤ 3 → HasState shape w s →
     AreGroups s.log gates ends checkpoints → Reaches (λ a. a < heap shape) (progress_at w (closing_plan gates ends checkpoints) k) v → HasPart shape v s gates ends checkpoints
 closing_image shape w v s gates ends checkpoints k few has groups r =
@@ -61,9 +69,11 @@ closing_image shape w v s gates ends checkpoints k few has groups r =
     record {
       later = (left shape few lw lv s.log has.chains gates ends checkpoints rules has.records groups closed).0;
       part = is_closed_by shape few lw lv s.log has.chains gates ends checkpoints rules has.records groups closed;
-      room = λ p. room_of shape lv p (has.chains p);
-      no_less = λ p. subst (λ (f : ℕ → ℕ). f p ≤ room_of shape lv p (has.chains p)) (sym has.room)
-          (more_room shape few lw lv s.log has.chains gates ends checkpoints rules has.records groups closed p);
+      room = λ p. room_by (nat_lt p shape.partitions) (room_of shape lv p (has.chains p)) (s.room p);
+      no_less = λ p. less (room_of shape lv p (has.chains p)) (s.room p) (nat_lt p shape.partitions) (λ t.
+          let was = has.room p (ltb-true p shape.partitions t) in
+          let more = more_room shape few lw lv s.log has.chains gates ends checkpoints rules has.records groups closed p in
+          omega (arith, was, more));
       gates_open = (left shape few lw lv s.log has.chains gates ends checkpoints rules has.records groups closed).3;
       state = λ words is. record {
         chains = has.chains;
@@ -73,6 +83,6 @@ closing_image shape w v s gates ends checkpoints k few has groups r =
         };
         records = records_closed shape few lw lv s.log has.chains gates ends checkpoints rules has.records groups closed;
         words = is;
-        room = refl;
+        room = λ p lt. (let on : nat_lt p shape.partitions ≡ true = grind (arith, nat_tests, lt) in ap (λ t. room_by t (room_of shape lv p (has.chains p)) (s.room p)) on);
       };
     }

@@ -2,3 +2,6 @@ pub mod PlanEvents
 pub mod Closing
 pub mod ClosedStates
 pub mod ClosingImages
+pub mod ClearingStates
+pub mod ClosedBuckets
+pub mod RemovalStates
