@@ -112,3 +112,23 @@ module _ (xs : List ℕ) (n : ℕ) (spare : List ℕ) (m : IsMemory xs n spare) 
       root_owner : (IsAmong spare 16 × (is_among spare 16 ≡ true)) ⊎ ((IsAmong spare 16 → ⊥) × (is_among spare 16 ≡ false)) → (if is_among [] 16 || is_among spare 16 then 0 else slice_index xs 16) ≡ 1
       root_owner (inl there) = absurd (let k = m.each 16 there.0 in let some = k.1 in let is = k.3 in omega (arith, some, is))
       root_owner (inr out) = let off = out.1 in rw off (m.owners 0 (let some = m.some in omega (arith, some)))
+
+-- ---- the blocks but the root, one after the other
+
+pub record AreOthers (found : List ℕ) (n : ℕ) : Type 0 where
+  pub each : (b : ℕ) → IsAmong found b → (j : ℕ) × (0 < j) × (j < n) × (b ≡ 16 + 16 * j)
+  pub all : (j : ℕ) → 0 < j → j < n → IsAmong found (16 + 16 * j)
+  pub once : HasNoRepeats found
+
+pub one_more : (found later : List ℕ) (n : ℕ) → 0 < n → AreOthers found n → later ≡ found ++ (16 + 16 * n) ∷ [] → AreOthers later (n + 1)
+one_more found later n positive h made = subst (λ (xs : List ℕ). AreOthers xs (n + 1)) (sym made) (record {
+  each = λ b m. elim (among_end found (16 + 16 * n) b m) [
+    | inl there ↦ (let j = h.each b there in let lt = j.2 in (j.0, j.1, omega (arith, lt), j.3))
+    | inr e ↦ (n, positive, omega arith, e)
+  ];
+  all = λ j some lt. elim (eqb_tells j n) [
+    | inl e ↦ subst (λ i. IsAmong (found ++ (16 + 16 * n) ∷ []) (16 + 16 * i)) (sym e.1) (at_end found (16 + 16 * n))
+    | inr ne ↦ (let apart = ne.1 in among_left found ((16 + 16 * n) ∷ []) (16 + 16 * j) (h.all j some (omega (arith, lt, apart))))
+  ];
+  once = once_end found (16 + 16 * n) h.once (λ m. let j = h.each (16 + 16 * n) m in let lt = j.2 in let e = j.3 in omega (arith, lt, e));
+})

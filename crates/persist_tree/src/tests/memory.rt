@@ -1,5 +1,5 @@
 // Words in a vector, of which a draft is made: the root block stands at 16, and all blocks are structure 0's.
-ghost use Rattle.std.specs.Prelude.{◌≡◌, ℕ, ◌+◌, ◌*◌, ◌<◌, ◌≤◌, length, slice_index, nat_lt, IfOk, [], IsTrue, vec_len};
+ghost use Rattle.std.specs.Prelude.{◌≡◌, ℕ, ◌+◌, ◌*◌, ◌<◌, ◌≤◌, length, slice_index, nat_lt, IfOk, OnOk, [], ◌∷◌, ◌++◌, IsTrue};
 ghost use Rattle.persist_model.specs.Records.{IsAmong};
 ghost use Rattle.persist_model.specs.Chain.{HasNoRepeats};
 ghost use Rattle.lane_traits.specs.Space.{Space};
@@ -37,7 +37,7 @@ impl Reads for Memory {
 // The words of so many blocks, each of structure 0, with 0 in their data words.
 fn owned_words(alloc: Global, blocks: u32) -> Result<Vec<u64>, AllocError>
     requires { blocks ≤ 64 }
-    ensures size { IfOk result (λ words. vec_len words ≡ 16 + 16 * blocks) }
+    ensures size { IfOk result (λ words. length words.items ≡ 16 + 16 * blocks) }
     ensures owners { IfOk result (λ words. (k : ℕ) → k < blocks → slice_index words.items (16 + 16 * k) ≡ 1) }
     ensures top { IfOk result (λ words. slice_index words.items 17 ≡ 0) }
 {
@@ -46,6 +46,13 @@ fn owned_words(alloc: Global, blocks: u32) -> Result<Vec<u64>, AllocError>
         words[16 + 16 * k] = 1;
     }
     Ok(words)
+}
+
+// The block comes behind the others.
+fn add(found: &mut List<u32>, block: u32) -> Result<(), NoMemory>
+    ensures { OnOk result (found.new ≡ found.old ++ block ∷ []) }
+{
+    found.push(block).map_err(|_| NoMemory)
 }
 
 // All blocks but the root.
@@ -58,7 +65,7 @@ fn other_blocks(alloc: Global, blocks: u32) -> Result<List<u32>, NoMemory>
 {
     let mut found = List::new(alloc);
     for k in 1..blocks {
-        found.push(16 + 16 * k).map_err(|_| NoMemory)?;
+        add(&mut found, 16 + 16 * k)?;
     }
     Ok(found)
 }

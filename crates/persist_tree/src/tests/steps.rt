@@ -155,7 +155,9 @@ fn keys_between_and_at_the_ends(rt: HostRuntime) -> Result<(), Fail> {
 #[test]
 fn a_full_heap_takes_no_new_key(rt: HostRuntime) -> Result<(), Fail> {
     let mut words = fresh(rt.alloc(), 1)?;
-    assert_eq!(rt; put(&mut words, 16, 5, 50), Ok(None));
+    if follow(&rt, &mut words, &[(Step::Put(5, 50), None)]).is_err() {
+        return Err("refused")?;
+    }
     assert_eq!(rt; put(&mut words, 16, 6, 60), Err(WordsRefusal::HeapFull));
     Ok(())
 }
