@@ -26,11 +26,11 @@ among_of (x ∷ xs) b h = ⊎_elim
 pub not_among : (xs : List ℕ) (b : ℕ) → (IsAmong xs b → ⊥) → is_among xs b ≡ false
 not_among xs b absent = false_from_ne_true (is_among xs b) (λ h. absent (among_of xs b h))
 
-pub or_assoc : (s t u : Bool) → ((s || t) || u) ≡ (s || (t || u))
+or_assoc : (s t u : Bool) → ((s || t) || u) ≡ (s || (t || u))
 or_assoc true t u = refl
 or_assoc false t u = refl
 
-pub or_false : (t : Bool) → (t || false) ≡ t
+or_false : (t : Bool) → (t || false) ≡ t
 or_false true = refl
 or_false false = refl
 
@@ -38,10 +38,6 @@ or_false false = refl
 pub is_among-last : (xs : List ℕ) (x b : ℕ) → is_among (xs ++ x ∷ []) b ≡ (is_among xs b || (b == x))
 is_among-last [] x b = or_false (b == x)
 is_among-last (y ∷ ys) x b = ap (λ t. (b == y) || t) (is_among-last ys x b) ∙ sym (or_assoc (b == y) (is_among ys b) (b == x))
-
-pub is_among-append : (xs ys : List ℕ) (b : ℕ) → is_among (xs ++ ys) b ≡ (is_among xs b || is_among ys b)
-is_among-append [] ys b = refl
-is_among-append (x ∷ xs) ys b = ap (λ t. (b == x) || t) (is_among-append xs ys b) ∙ sym (or_assoc (b == x) (is_among xs b) (is_among ys b))
 
 pub among_last : (xs : List ℕ) (x b : ℕ) → IsAmong (xs ++ x ∷ []) b → IsAmong xs b ⊎ (b ≡ x)
 among_last [] x b (inl e) = inr e

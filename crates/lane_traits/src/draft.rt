@@ -238,6 +238,3 @@ impl<R: Reads> Words for Draft<R> {
 
     ghost spare_apart = { λ d. are_spare (R.space d.base) d.structure d.log.items d.gives d.spare d.own_spare d.spare_once };
 }
-
-#[cfg(test)]
-mod tests;

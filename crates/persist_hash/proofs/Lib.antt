@@ -15,3 +15,4 @@ pub mod MarkLaws
 pub mod Readings
 pub mod OneMap
 pub mod Fresh
+pub mod Joined

@@ -8,7 +8,8 @@ use Rattle.lane_traits.specs.Device.{MAX_WORDS}
 use Rattle.lane_traits.specs.Space.{Land, IsOwn}
 use Rattle.lane_traits.specs.Draft.{is_among}
 use Rattle.lane_traits.specs.DraftLaws.{of_among}
-use Rattle.lane_traits.proofs.Among.{among_of, among_last, absent_of, of_absent, once_more, is_among-last, is_among-append, or_assoc, or_false}
+use Rattle.lane_traits.proofs.Among.{among_of, among_last, absent_of, of_absent, once_more, is_among-last}
+use Rattle.persist_hash.proofs.Joined.{is_among-append, or_assoc, or_false}
 use Rattle.region_layout.specs.FiniteMap.{FiniteMap, lookup, with_pair, IsAscending}
 use Rattle.region_layout.specs.HashMap.{Node, Chains, CHAINS, IsChain, EachNode, IsHash, IsHashMap, blocks, keys, pairs, directories, nodes, first_link, directory_of, chain_number}
 use Rattle.persist_hash.specs.Chains.{AreOwnNodes, chain_from}

@@ -4,3 +4,4 @@ pub mod Adding
 pub mod Walk
 pub mod Reading
 pub mod Laws
+pub mod Map

@@ -14,8 +14,3 @@ abbrev pub IsMapOf : Kind → ℕ → Words → ℕ → FiniteMap → Type 0
 IsMapOf Cells heap w structure contents = IsCellsMap (land_of heap w structure) w (root_of heap structure) contents
 IsMapOf Tree heap w structure contents = IsTreeMap (land_of heap w structure) w (root_of heap structure) contents
 IsMapOf Hash heap w structure contents = IsHashMap (land_of heap w structure) w (root_of heap structure) contents
-
--- the words of the structure are a map of this kind
-pub record IsMap (kind : Kind) (heap : ℕ) (w : Words) (structure : ℕ) : Type 0 where
-  pub contents : FiniteMap
-  pub is : IsMapOf kind heap w structure contents
