@@ -1,13 +1,13 @@
 -- A node or a directory block more: what the words are then.
-use Rattle.std.proofs.Common.{◌≡◌, ◌≢◌, ◌⊎◌, inl, inr, ⊎_elim, ℕ, zero, suc, ◌+◌, ◌*◌, ◌/◌, ◌%◌, ◌<◌, ◌≤◌, true, false, Bool, if◌then◌else◌, ◌==◌, not, List, [], ◌∷◌, ◌++◌, length, refl, ap, sym, ◌∙◌, arith, subst, add-zero}
+use Rattle.std.proofs.Common.{◌≡◌, ◌≢◌, ◌⊎◌, inl, inr, ⊎_elim, ℕ, ◌+◌, ◌<◌, ◌≤◌, true, false, Bool, if◌then◌else◌, ◌==◌, not, List, [], ◌∷◌, length, refl, ap, sym, ◌∙◌, arith, subst, add-zero}
 use Rattle.std.specs.Prelude.{filter}
-use Rattle.std.proofs.lemmas.Bool.Decides.{nat_tests, eqb_tells}
+use Rattle.std.proofs.lemmas.Bool.Decides.{eqb_tells}
 use Rattle.persist_model.specs.Records.{IsAmong}
 use Rattle.persist_model.specs.Chain.{HasNoRepeats}
 use Rattle.persist_model.specs.Region.{Words}
-use Rattle.lane_traits.specs.Space.{Land, Space, AreSpare, IsTaken, IsBlock, IsOwn, IsDataWord, with_owner, put_word, is_not, taken, given, written}
+use Rattle.lane_traits.specs.Space.{Land, Space, AreSpare, IsTaken, IsOwn, IsDataWord, put_word, is_not, taken, given, written}
 use Rattle.lane_traits.proofs.Writes.{put_same, put_other}
-use Rattle.lane_traits.proofs.Among.{of_absent, kept_all, same_eq}
+use Rattle.lane_traits.proofs.Among.{of_absent, kept_all}
 use Rattle.persist_hash.specs.Calls.{TakesBlocks, IsUnwritten, KeepsOthers}
 use Rattle.persist_hash.specs.Adding.{AddsNode, AddsDirectory, link_to, FillsLinks, OpensChain, AreThree}
 use Rattle.persist_hash.proofs.ChainLaws.{blocks_apart}
@@ -22,7 +22,7 @@ one_left (x ∷ xs) b once none = step (x == b) (eqb_tells x b) none
     step : (t : Bool) → ((t ≡ true) × (x ≡ b)) ⊎ ((t ≡ false) × (x ≢ b)) → (if not t then x ∷ filter (is_not b) xs else filter (is_not b) xs) ≡ [] → length (x ∷ xs) < 2
     step true tells empty = ⊎_elim
         (λ same. let rest : xs ≡ [] = sym (kept_all xs b (λ h. of_absent xs x once.0 (subst (IsAmong xs) (sym same.1) h))) ∙ empty in
-            let long = ap length rest in omega (arith, long))
+        let long = ap length rest in omega (arith, long))
         (λ other. absurd (let q = other.0 in cc))
         tells
     step false tells empty = absurd (let q = empty in cc)
@@ -114,9 +114,9 @@ fills_more directory place node n x s u v h is link = record {
   writes = (let e = ap (λ (t : Space). t.writes) is in let f = h.writes in omega (arith, e, f));
   links = λ i lt. ap (λ (t : Space). t.word (directory + (1 + i))) is ∙ ⊎_elim
       (λ same. let e : i ≡ n = same.1 in
-          ap (λ k. put_word (directory + (1 + n)) x u.word (directory + (1 + k))) e ∙ put_same (directory + (1 + n)) x u.word ∙ link ∙ ap (link_to place node) (sym e))
+      ap (λ k. put_word (directory + (1 + n)) x u.word (directory + (1 + k))) e ∙ put_same (directory + (1 + n)) x u.word ∙ link ∙ ap (link_to place node) (sym e))
       (λ other. let ne = other.1 in
-          put_other (directory + (1 + n)) x (directory + (1 + i)) u.word (λ f. ne (omega (arith, f))) ∙ h.links i (omega (arith, lt, ne)))
+      put_other (directory + (1 + n)) x (directory + (1 + i)) u.word (λ f. ne (omega (arith, f))) ∙ h.links i (omega (arith, lt, ne)))
       (eqb_tells i n);
   elsewhere = λ a out. ap (λ (t : Space). t.word a) is
       ∙ put_other (directory + (1 + n)) x a u.word (out n (omega arith)) ∙ h.elsewhere a (λ i lt. out i (omega (arith, lt)));
@@ -132,7 +132,7 @@ opens_of root index directory place node key value s a u three lt h is = record 
   named = ap (λ (t : Space). t.word (root + (1 + index))) is ∙ put_same (root + (1 + index)) directory w3;
   links = λ i small. ap (λ (t : Space). t.word (directory + (1 + i))) is
       ∙ put_other (root + (1 + index)) directory (directory + (1 + i)) w3 (λ e. blocks_apart s.land directory root (1 + i) (1 + index) three.directory_own three.root_own
-          (λ f. three.root_directory (sym f)) (omega (arith, small)) (omega (arith, lt)) e)
+      (λ f. three.root_directory (sym f)) (omega (arith, small)) (omega (arith, lt)) e)
       ∙ put_other (node + 3) 0 (directory + (1 + i)) w2 (node_apart 3 (1 + i) (omega arith) (omega (arith, small)))
       ∙ put_other (node + 2) value (directory + (1 + i)) w1 (node_apart 2 (1 + i) (omega arith) (omega (arith, small)))
       ∙ put_other (node + 1) key (directory + (1 + i)) a.word (node_apart 1 (1 + i) (omega arith) (omega (arith, small)))

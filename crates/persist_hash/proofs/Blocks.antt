@@ -1,11 +1,11 @@
 -- The blocks that a hash reaches, by where they stand.
-use Rattle.std.proofs.Common.{◌≡◌, ◌≢◌, ◌⊎◌, inl, inr, ⊎_elim, ℕ, zero, suc, ◌+◌, ◌*◌, ◌/◌, ◌%◌, ◌<◌, ◌≤◌, true, false, Bool, if◌then◌else◌, ◌==◌, List, [], ◌∷◌, ◌++◌, length, map, refl, ap, sym, ◌∙◌, arith, subst}
+use Rattle.std.proofs.Common.{◌≡◌, ◌≢◌, ◌⊎◌, inl, inr, ⊎_elim, ℕ, zero, suc, ◌+◌, ◌<◌, ◌≤◌, true, false, Bool, if◌then◌else◌, ◌==◌, List, ◌∷◌, ◌++◌, refl, ap, sym, ◌∙◌, arith, subst}
 use Rattle.std.proofs.lemmas.Bool.Decides.{nat_tests, eqb_tells}
 use Rattle.persist_model.specs.Region.{Words}
 use Rattle.persist_model.specs.Records.{IsAmong}
 use Rattle.persist_model.specs.Chain.{HasNoRepeats}
 use Rattle.lane_traits.specs.Space.{Land, IsOwn}
-use Rattle.region_layout.specs.HashMap.{Node, Chains, CHAINS, IsChain, EachNode, blocks, keys, first_link, directories, nodes, reached, chain_number, IsHash}
+use Rattle.region_layout.specs.HashMap.{Chains, CHAINS, IsChain, EachNode, blocks, keys, first_link, directories, nodes, reached, chain_number, IsHash}
 use Rattle.lane_traits.proofs.Among.{absent_of, of_absent}
 use Rattle.persist_hash.proofs.Lists.{among_left, among_right, among_either, AreApart, once_joined, once_left, once_right, once_apart}
 use Rattle.persist_hash.proofs.ChainLaws.{blocks-append}
@@ -18,7 +18,7 @@ in_nodes zero c chains b below h = absurd (omega (arith, below))
 in_nodes (suc n) c chains b below h = subst (λ xs. IsAmong xs b) (sym (blocks-append (chains n) (nodes n chains))) (⊎_elim
     (λ same. among_left (blocks (chains n)) (blocks (nodes n chains)) b (subst (λ k. IsAmong (blocks (chains k)) b) same.1 h))
     (λ other. among_right (blocks (chains n)) (blocks (nodes n chains)) b
-        (in_nodes n c chains b (let ne = other.1 in omega (arith, below, ne)) h))
+    (in_nodes n c chains b (let ne = other.1 in omega (arith, below, ne)) h))
     (eqb_tells c n))
 
 pub record IsNodeOf (n : ℕ) (chains : Chains) (b : ℕ) : Type 0 where
@@ -52,13 +52,13 @@ chains_apart (suc n) c d chains below_c below_d ne once =
     let apart = once_apart (blocks (chains n)) (blocks (nodes n chains)) joined in
     ⊎_elim
     (λ same. λ b h k. apart b (subst (λ x. IsAmong (blocks (chains x)) b) same.1 h)
-        (in_nodes n d chains b (let e = same.1 in omega (arith, e, ne, below_d)) k))
+    (in_nodes n d chains b (let e = same.1 in omega (arith, e, ne, below_d)) k))
     (λ other. ⊎_elim
-        (λ same. λ b h k. apart b (subst (λ x. IsAmong (blocks (chains x)) b) same.1 k)
-            (in_nodes n c chains b (let e = same.1 in omega (arith, e, ne, below_c)) h))
-        (λ another. chains_apart n c d chains (let e = other.1 in omega (arith, e, below_c)) (let e = another.1 in omega (arith, e, below_d)) ne
-            (once_right (blocks (chains n)) (blocks (nodes n chains)) joined))
-        (eqb_tells d n))
+    (λ same. λ b h k. apart b (subst (λ x. IsAmong (blocks (chains x)) b) same.1 k)
+    (in_nodes n c chains b (let e = same.1 in omega (arith, e, ne, below_c)) h))
+    (λ another. chains_apart n c d chains (let e = other.1 in omega (arith, e, below_c)) (let e = another.1 in omega (arith, e, below_d)) ne
+    (once_right (blocks (chains n)) (blocks (nodes n chains)) joined))
+    (eqb_tells d n))
     (eqb_tells c n)
 
 pub once_nodes : (n : ℕ) (chains : Chains) → ((c : ℕ) → c < n → HasNoRepeats (blocks (chains c)))
@@ -69,7 +69,7 @@ once_nodes (suc n) chains once apart = subst (λ xs. HasNoRepeats xs) (sym (bloc
     (once_joined (blocks (chains n)) (blocks (nodes n chains)) (once n (omega arith))
     (once_nodes n chains (λ c lt. once c (omega (arith, lt))) (λ c d lt below. apart c d (omega (arith, lt)) (omega (arith, below))))
     (λ b h k. let at = of_nodes n chains b k in let lt = at.below in
-        apart n at.chain (omega arith) (omega (arith, lt)) (λ e. omega (arith, e, lt)) b h at.among))
+    apart n at.chain (omega arith) (omega (arith, lt)) (λ e. omega (arith, e, lt)) b h at.among))
 
 -- ---- directory blocks
 
@@ -260,7 +260,7 @@ of_placed land w root chains p = record {
         (reached_either w root chains root h)),
     both_once w root chains (once_directories 8 w root p.directories_once) (once_nodes CHAINS chains p.nodes_once p.nodes_apart)
         (λ b h k. let d = of_directories 8 w root b h in let n = of_nodes CHAINS chains b k in
-            p.directory_no_node d.index n.chain d.below n.below (subst (IsAmong (blocks (chains n.chain))) (sym d.named) n.among)),
+        p.directory_no_node d.index n.chain d.below n.below (subst (IsAmong (blocks (chains n.chain))) (sym d.named) n.among)),
   );
   all = λ b own. ⊎_elim (λ e. inl e) (λ h. inr (⊎_elim
       (λ d. subst (IsAmong (reached w root chains)) d.named (among_directory w root chains d.index d.below (λ z. d.positive (sym d.named ∙ z))))

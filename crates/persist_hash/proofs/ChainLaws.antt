@@ -1,12 +1,12 @@
 -- Chains in words: that they are one, what a write leaves of them, and how a search goes on.
-use Rattle.std.proofs.Common.{◌≡◌, ◌≢◌, ◌⊎◌, inl, inr, ⊎_elim, ℕ, zero, suc, ◌+◌, ◌*◌, ◌<◌, ◌≤◌, true, false, if◌then◌else◌, ◌==◌, List, [], ◌∷◌, ◌++◌, length, map, refl, ap, sym, ◌∙◌, arith, subst}
-use Rattle.std.proofs.lemmas.Bool.Decides.{nat_tests, eqb_tells}
+use Rattle.std.proofs.Common.{◌≡◌, ◌≢◌, inl, inr, ℕ, zero, suc, ◌+◌, ◌*◌, ◌<◌, ◌≤◌, true, false, ◌==◌, List, [], ◌∷◌, ◌++◌, length, refl, ap, sym, ◌∙◌, arith, subst}
+use Rattle.std.proofs.lemmas.Bool.Decides.{nat_tests}
 use Rattle.persist_model.specs.Region.{Words}
 use Rattle.persist_model.specs.Records.{IsAmong}
 use Rattle.persist_model.specs.Chain.{HasNoRepeats}
 use Rattle.lane_traits.specs.Device.{MAX_WORDS}
-use Rattle.lane_traits.specs.Space.{Land, Space, IsOwn, IsDataWord}
-use Rattle.region_layout.specs.HashMap.{Node, IsChain, EachNode, blocks, keys, block_of}
+use Rattle.lane_traits.specs.Space.{Land, IsOwn}
+use Rattle.region_layout.specs.HashMap.{Node, IsChain, EachNode, blocks, keys}
 use Rattle.lane_traits.proofs.Among.{of_absent}
 use Rattle.persist_hash.specs.Chains.{link_behind, AreOwnNodes, chain_from, nodes_left}
 
@@ -81,7 +81,6 @@ pub chain_behind : (w : Words) (at : ℕ) (front rest : List Node) → IsChain w
 chain_behind w at [] rest h = h
 chain_behind w at (n ∷ front) rest h = chain_behind w (n.block + 3) front rest h.3
 
-
 link_behind-last : (at : ℕ) (front : List Node) (n : Node) → link_behind at (front ++ n ∷ []) ≡ n.block + 3
 link_behind-last at [] n = refl
 link_behind-last at (m ∷ front) n = link_behind-last (m.block + 3) front n
@@ -100,7 +99,7 @@ chain_from_is land w link (suc n) (m ∷ ns) own h few =
     let key : w (link + 1) ≡ m.key = ap (λ b. w (b + 1)) h.0 ∙ h.1 in
     let value : w (link + 2) ≡ m.value = ap (λ b. w (b + 2)) h.0 ∙ h.2 in
     let rest : chain_from n w (w (link + 3)) ≡ ns =
-        ap (λ b. chain_from n w (w (b + 3))) h.0 ∙ chain_from_is land w (w (m.block + 3)) n ns own.1 h.3 (omega (arith, few)) in
+    ap (λ b. chain_from n w (w (b + 3))) h.0 ∙ chain_from_is land w (w (m.block + 3)) n ns own.1 h.3 (omega (arith, few)) in
     let node : record { block = link; key = w (link + 1); value = w (link + 2) } ≡ m = λ i. record { block = e i; key = key i; value = value i } in
     rw off (ap (λ (x : Node). x ∷ chain_from n w (w (link + 3))) node ∙ ap (λ xs. m ∷ xs) rest)
 
@@ -135,15 +134,14 @@ pub chain_relinked : (w u : Words) (at : ℕ) (front rest later : List Node) →
     → IsChain u (u (link_behind at front)) later → IsChain u (u at) (front ++ later)
 chain_relinked w u at [] rest later h once apart fields links first behind = behind
 chain_relinked w u at (n ∷ front) rest later h once apart fields links first behind =
-    let last = link_in at n front in
-    (
+    let last = link_in at n front in (
       first (λ e. apart last.0 last.1 (e ∙ last.2)) ∙ h.0,
       fields n.block 1 (inl refl) (omega arith) (omega arith) ∙ h.1,
       fields n.block 2 (inl refl) (omega arith) (omega arith) ∙ h.2,
       chain_relinked w u (n.block + 3) front rest later h.3 once.1
-      (λ b k e. of_absent (blocks front) n.block once.0 (subst (IsAmong (blocks front)) (let q : b ≡ n.block = omega (arith, e) in q) k))
-      (λ b i k. fields b i (inr k))
-      (λ b k. links b (inr k))
-      (λ ne. links n.block (inl refl) ne)
-      behind,
+          (λ b k e. of_absent (blocks front) n.block once.0 (subst (IsAmong (blocks front)) (let q : b ≡ n.block = omega (arith, e) in q) k))
+          (λ b i k. fields b i (inr k))
+          (λ b k. links b (inr k))
+          (λ ne. links n.block (inl refl) ne)
+          behind,
     )

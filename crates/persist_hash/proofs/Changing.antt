@@ -1,15 +1,15 @@
 -- A hash in which one chain is changed, or a directory block is new.
-use Rattle.std.proofs.Common.{◌≡◌, ◌≢◌, ◌⊎◌, inl, inr, ⊎_elim, ℕ, zero, suc, ◌+◌, ◌*◌, ◌/◌, ◌%◌, ◌<◌, ◌≤◌, true, false, Bool, if◌then◌else◌, ◌==◌, List, [], ◌∷◌, ◌++◌, length, map, refl, ap, sym, ◌∙◌, arith, subst}
+use Rattle.std.proofs.Common.{◌≡◌, ◌≢◌, ◌⊎◌, inl, inr, ⊎_elim, ℕ, ◌+◌, ◌/◌, ◌%◌, ◌<◌, ◌≤◌, true, false, if◌then◌else◌, ◌==◌, List, [], ◌∷◌, refl, ap, sym, ◌∙◌, arith, subst}
 use Rattle.std.proofs.lemmas.Bool.Decides.{nat_tests, eqb_tells}
 use Rattle.persist_model.specs.Region.{Words}
 use Rattle.persist_model.specs.Records.{IsAmong}
 use Rattle.persist_model.specs.Chain.{HasNoRepeats}
-use Rattle.lane_traits.specs.Space.{Land, IsBlock, IsOwn}
+use Rattle.lane_traits.specs.Space.{Land, IsOwn}
 use Rattle.region_layout.specs.HashMap.{Node, Chains, CHAINS, IsChain, EachNode, blocks, keys, directory_of, chain_word, first_link, chain_number}
 use Rattle.persist_hash.specs.Chains.{put_chain}
 use Rattle.persist_hash.proofs.Lists.{AreApart}
 use Rattle.persist_hash.proofs.ChainLaws.{blocks_apart, chain_kept}
-use Rattle.persist_hash.proofs.Blocks.{IsPlaced, IsDirectoryOf, IsNodeOf}
+use Rattle.persist_hash.proofs.Blocks.{IsPlaced}
 
 -- what holds of the changed chain, and of each other one
 pub for_each : (P : ℕ → List Node → Type 0) (c : ℕ) (ns : List Node) (chains : Chains) → P c ns → ((d : ℕ) → d ≢ c → P d (chains d)) → (d : ℕ) → P d (put_chain c ns chains d)
@@ -50,7 +50,7 @@ root_word land w root chains c later u ns p below some h d ld =
     let place : root + (1 + d) ≡ root + 1 + d = omega arith in
     let at : chain_word (directory_of w root c) c ≡ directory_of w root c + (1 + c % 8) = omega arith in
     let apart = blocks_apart land root (directory_of w root c) (1 + d) (1 + c % 8) p.root_own (p.own_directory (c / 8) (index_below c below) some)
-        (λ e. p.root_no_directory (c / 8) (index_below c below) (sym e)) (omega (arith, ld)) (let q = part_below c in omega (arith, q)) in
+    (λ e. p.root_no_directory (c / 8) (index_below c below) (sym e)) (omega (arith, ld)) (let q = part_below c in omega (arith, q)) in
     ap u (sym place) ∙ h.elsewhere root (1 + d) p.root_own (p.root_no_node c below) (omega arith) (omega (arith, ld)) (λ e. apart (e ∙ at)) ∙ ap w place
 
 -- so does the link to another chain
@@ -63,15 +63,15 @@ link_word land w root chains c later u ns p below some h d ld ne there =
     let qd = part_below d in
     let qc = part_below c in
     let apart : directory_of w root d + (1 + d % 8) ≢ directory_of w root c + (1 + c % 8) = λ e. ⊎_elim
-        (λ same. let s = same.1 in
-            let parts : d % 8 ≢ c % 8 = (λ f. omega (arith, s, f, ne)) in
-            parts (let g : directory_of w root d ≡ directory_of w root c = ap (λ k. w (root + 1 + k)) s in omega (arith, e, g)))
-        (λ other. blocks_apart land (directory_of w root d) (directory_of w root c) (1 + d % 8) (1 + c % 8)
-            (p.own_directory (d / 8) (index_below d ld) there) (p.own_directory (c / 8) (index_below c below) some)
-            (p.directories_once (d / 8) (c / 8) (index_below d ld) (index_below c below) other.1 there) (omega (arith, qd)) (omega (arith, qc)) e)
-        (eqb_tells (d / 8) (c / 8)) in
+    (λ same. let s = same.1 in
+    let parts : d % 8 ≢ c % 8 = (λ f. omega (arith, s, f, ne)) in
+    parts (let g : directory_of w root d ≡ directory_of w root c = ap (λ k. w (root + 1 + k)) s in omega (arith, e, g)))
+    (λ other. blocks_apart land (directory_of w root d) (directory_of w root c) (1 + d % 8) (1 + c % 8)
+    (p.own_directory (d / 8) (index_below d ld) there) (p.own_directory (c / 8) (index_below c below) some)
+    (p.directories_once (d / 8) (c / 8) (index_below d ld) (index_below c below) other.1 there) (omega (arith, qd)) (omega (arith, qc)) e)
+    (eqb_tells (d / 8) (c / 8)) in
     ap u (sym place) ∙ h.elsewhere (directory_of w root d) (1 + d % 8) (p.own_directory (d / 8) (index_below d ld) there)
-        (p.directory_no_node (d / 8) c (index_below d ld) below) (omega arith) (omega (arith, qd)) (λ e. apart (e ∙ at)) ∙ ap w place
+    (p.directory_no_node (d / 8) c (index_below d ld) below) (omega arith) (omega (arith, qd)) (λ e. apart (e ∙ at)) ∙ ap w place
 
 pub first_kept : (w u : Words) (root d : ℕ) → directory_of u root d ≡ directory_of w root d
     → (directory_of w root d ≢ 0 → u (chain_word (directory_of w root d) d) ≡ w (chain_word (directory_of w root d) d)) → first_link u root d ≡ first_link w root d
@@ -93,8 +93,8 @@ changed land w root chains c later u ns p below some h = record {
   laid = for_each (λ d ms. d < CHAINS → IsChain u (first_link u root d) ms) c ns chains
       (λ lt. subst (λ l. IsChain u l ns) (sym (first_here u root c (directory_of w root c) (rooted (c / 8) (index_below c below)) some)) h.laid)
       (λ d ne lt. subst (λ l. IsChain u l (chains d))
-          (sym (first_kept w u root d (rooted (d / 8) (index_below d lt)) (λ there. link_word land w root chains c later u ns p below some h d lt ne there)))
-          (chain_kept w u (first_link w root d) (chains d) (node_word d ne lt) (p.laid d lt)));
+      (sym (first_kept w u root d (rooted (d / 8) (index_below d lt)) (λ there. link_word land w root chains c later u ns p below some h d lt ne there)))
+      (chain_kept w u (first_link w root d) (chains d) (node_word d ne lt) (p.laid d lt)));
   own_directory = λ d ld there. subst (IsOwn later) (sym (rooted d ld))
       (h.kept (w (root + 1 + d)) (p.own_directory d ld (λ z. there (rooted d ld ∙ z))) (p.directory_no_node d c ld below));
   own_node = λ d b lt k. for_each (λ e ms. e < CHAINS → IsAmong (blocks ms) b → IsOwn later b) c ns chains
@@ -107,15 +107,19 @@ changed land w root chains c later u ns p below some h = record {
   nodes_once = for_each (λ d ms. d < CHAINS → HasNoRepeats (blocks ms)) c ns chains (λ lt. h.once) (λ d ne lt. p.nodes_once d lt);
   nodes_apart = λ d e ld le ne. for_each (λ x ms. x < CHAINS → x ≢ e → AreApart (blocks ms) (blocks (put_chain c ns chains e))) c ns chains
       (λ lx nx b k. for_each (λ y ls. y < CHAINS → c ≢ y → IsAmong (blocks ls) b → ⊥) c ns chains
-          (λ ly ny m. ny refl) (λ y other ly ny m. new_apart y other ly b k m) e le nx)
+      (λ ly ny m. ny refl) (λ y other ly ny m. new_apart y other ly b k m) e le nx)
       (λ x other lx nx b k. for_each (λ y ls. y < CHAINS → x ≢ y → IsAmong (blocks ls) b → ⊥) c ns chains
-          (λ ly ny m. new_apart x other lx b m k) (λ y another ly ny m. p.nodes_apart x y lx ly ny b k m) e le nx)
+      (λ ly ny m. new_apart x other lx b m k) (λ y another ly ny m. p.nodes_apart x y lx ly ny b k m) e le nx)
       d ld ne;
   all = λ b own. ⊎_elim (λ was. ⊎_elim (λ e. inl e) (λ there. inr (⊎_elim
-          (λ d. inl (record { index = d.index; below = d.below; named = rooted d.index d.below ∙ d.named; positive = d.positive }))
-          (λ n. inr (record { chain = n.chain; below = n.below; among = for_each (λ d ms. d ≡ n.chain → IsAmong (blocks ms) b) c ns chains
-              (λ e. absurd (was.1 (subst (λ k. IsAmong (blocks (chains k)) b) (sym e) n.among)))
-              (λ d ne e. subst (λ k. IsAmong (blocks (chains k)) b) (sym e) n.among) n.chain refl })) there)) (p.all b was.0))
+      (λ d. inl (record { index = d.index; below = d.below; named = rooted d.index d.below ∙ d.named; positive = d.positive }))
+      (λ n. inr (record {
+        chain = n.chain;
+        below = n.below;
+        among = for_each (λ d ms. d ≡ n.chain → IsAmong (blocks ms) b) c ns chains
+            (λ e. absurd (was.1 (subst (λ k. IsAmong (blocks (chains k)) b) (sym e) n.among)))
+            (λ d ne e. subst (λ k. IsAmong (blocks (chains k)) b) (sym e) n.among) n.chain refl;
+      })) there)) (p.all b was.0))
       (λ new. inr (inr (record { chain = c; below = below; among = subst (λ ms. IsAmong (blocks ms) b) (sym (put_chain_same c ns chains)) new })))
       (h.all b own);
   in_chain = for_each (λ d ms. d < CHAINS → EachNode (λ n. chain_number n.key ≡ d) ms) c ns chains (λ lt. h.in_chain) (λ d ne lt. p.in_chain d lt);
@@ -132,15 +136,15 @@ changed land w root chains c later u ns p below some h = record {
         let qc = part_below c in
         let own = p.own_node d b lt k in
         let apart = blocks_apart land b (directory_of w root c) i (1 + c % 8) own (p.own_directory (c / 8) (index_below c below) some)
-            (λ e. p.directory_no_node (c / 8) d (index_below c below) lt (subst (IsAmong (blocks (chains d))) e k)) (omega (arith, small)) (omega (arith, qc)) in
+        (λ e. p.directory_no_node (c / 8) d (index_below c below) lt (subst (IsAmong (blocks (chains d))) e k)) (omega (arith, small)) (omega (arith, qc)) in
         h.elsewhere b i own (p.nodes_apart d c lt below ne b k) positive (omega (arith, small)) (λ e. apart (e ∙ at))
 
     no_node : (d : ℕ) → d < 8 → (e : ℕ) → e < CHAINS → IsAmong (blocks (put_chain c ns chains e)) (w (root + 1 + d)) → ⊥
     no_node d ld = for_each (λ e ms. e < CHAINS → IsAmong (blocks ms) (w (root + 1 + d)) → ⊥) c ns chains
         (λ le m. ⊎_elim (p.directory_no_node d c ld below)
-            (λ f. ⊎_elim (λ zero_is. let q = (h.own (w (root + 1 + d)) m).0.positive in let z = zero_is.1 in omega (arith, q, z))
-                (λ there. f (p.own_directory d ld there.1)) (eqb_tells (w (root + 1 + d)) 0))
-            (h.from (w (root + 1 + d)) m))
+        (λ f. ⊎_elim (λ zero_is. let q = (h.own (w (root + 1 + d)) m).0.positive in let z = zero_is.1 in omega (arith, q, z))
+        (λ there. f (p.own_directory d ld there.1)) (eqb_tells (w (root + 1 + d)) 0))
+        (h.from (w (root + 1 + d)) m))
         (λ e ne le m. p.directory_no_node d e ld le m)
 
     new_apart : (d : ℕ) → d ≢ c → d < CHAINS → (b : ℕ) → IsAmong (blocks ns) b → IsAmong (blocks (chains d)) b → ⊥
@@ -168,18 +172,18 @@ opened land w root chains c directory later u p below none h = record {
   root_own = h.kept root p.root_own;
   laid = λ d lt. ⊎_elim
       (λ same. let e : d / 8 ≡ c / 8 = same.1 in
-          let was : first_link w root d ≡ 0 = first_none w root d (ap (λ k. w (root + 1 + k)) e ∙ none) in
-          let is : first_link u root d ≡ 0 = first_here u root d directory (ap (λ k. u (root + 1 + k)) e ∙ h.named) positive ∙ h.empty (d % 8) (part_below d) in
-          subst (λ l. IsChain u l (chains d)) (sym is)
-          (no_chain land w u (chains d) (λ b k. p.own_node d b lt k) (subst (λ l. IsChain w l (chains d)) was (p.laid d lt))))
+      let was : first_link w root d ≡ 0 = first_none w root d (ap (λ k. w (root + 1 + k)) e ∙ none) in
+      let is : first_link u root d ≡ 0 = first_here u root d directory (ap (λ k. u (root + 1 + k)) e ∙ h.named) positive ∙ h.empty (d % 8) (part_below d) in
+      subst (λ l. IsChain u l (chains d)) (sym is)
+      (no_chain land w u (chains d) (λ b k. p.own_node d b lt k) (subst (λ l. IsChain w l (chains d)) was (p.laid d lt))))
       (λ other. subst (λ l. IsChain u l (chains d)) (sym (first_kept w u root d (rooted (d / 8) (index_below d lt) other.1) (λ there.
-          let place : directory_of w root d + (1 + d % 8) ≡ chain_word (directory_of w root d) d = omega arith in
-          let q = part_below d in
-          ap u (sym place) ∙ h.elsewhere (directory_of w root d) (1 + d % 8) (p.own_directory (d / 8) (index_below d lt) there) (omega arith) (omega (arith, q))
-          (λ e. blocks_apart land root (directory_of w root d) (1 + c / 8) (1 + d % 8) p.root_own (p.own_directory (d / 8) (index_below d lt) there)
-              (λ f. p.root_no_directory (d / 8) (index_below d lt) (sym f)) (let i = index_below c below in omega (arith, i)) (omega (arith, q)) (omega (arith, e)))
-          ∙ ap w place)))
-          (chain_kept w u (first_link w root d) (chains d) (λ b i k pos small. node_word d lt b i k pos small) (p.laid d lt)))
+      let place : directory_of w root d + (1 + d % 8) ≡ chain_word (directory_of w root d) d = omega arith in
+      let q = part_below d in
+      ap u (sym place) ∙ h.elsewhere (directory_of w root d) (1 + d % 8) (p.own_directory (d / 8) (index_below d lt) there) (omega arith) (omega (arith, q))
+      (λ e. blocks_apart land root (directory_of w root d) (1 + c / 8) (1 + d % 8) p.root_own (p.own_directory (d / 8) (index_below d lt) there)
+      (λ f. p.root_no_directory (d / 8) (index_below d lt) (sym f)) (let i = index_below c below in omega (arith, i)) (omega (arith, q)) (omega (arith, e)))
+      ∙ ap w place)))
+      (chain_kept w u (first_link w root d) (chains d) (λ b i k pos small. node_word d lt b i k pos small) (p.laid d lt)))
       (eqb_tells (d / 8) (c / 8));
   own_directory = λ d ld there. by_index d ld (λ x. x ≢ 0 → IsOwn later x) (λ ne there. h.kept (w (root + 1 + d)) (p.own_directory d ld there)) (λ e there. h.own) there;
   own_node = λ d b lt k. h.kept b (p.own_node d b lt k);
@@ -187,23 +191,23 @@ opened land w root chains c directory later u p below none h = record {
   root_no_node = p.root_no_node;
   directories_once = λ d e ld le ne. by_index d ld (λ x. x ≢ 0 → x ≢ u (root + 1 + e))
       (λ other there. by_index e le (λ y. w (root + 1 + d) ≢ y) (λ another. p.directories_once d e ld le ne there)
-          (λ g same. h.not_own (subst (IsOwn land) same (p.own_directory d ld there))))
+      (λ g same. h.not_own (subst (IsOwn land) same (p.own_directory d ld there))))
       (λ f there. by_index e le (λ y. directory ≢ y)
-          (λ another same. h.not_own (subst (IsOwn land) (sym same) (p.own_directory e le (λ z. positive (same ∙ z)))))
-          (λ g same. ne (f ∙ sym g)));
+      (λ another same. h.not_own (subst (IsOwn land) (sym same) (p.own_directory e le (λ z. positive (same ∙ z)))))
+      (λ g same. ne (f ∙ sym g)));
   directory_no_node = λ d e ld le. by_index d ld (λ x. IsAmong (blocks (chains e)) x → ⊥) (λ other. p.directory_no_node d e ld le)
       (λ f k. h.not_own (p.own_node e directory le k));
   nodes_once = p.nodes_once;
   nodes_apart = p.nodes_apart;
   all = λ b own. ⊎_elim
       (λ was. ⊎_elim (λ e. inl e) (λ there. inr (⊎_elim
-          (λ d. inl (record {
-            index = d.index;
-            below = d.below;
-            named = rooted d.index d.below (λ e. d.positive (sym d.named ∙ ap (λ k. w (root + 1 + k)) e ∙ none)) ∙ d.named;
-            positive = d.positive;
-          }))
-          (λ n. inr n) there)) (p.all b was))
+      (λ d. inl (record {
+        index = d.index;
+        below = d.below;
+        named = rooted d.index d.below (λ e. d.positive (sym d.named ∙ ap (λ k. w (root + 1 + k)) e ∙ none)) ∙ d.named;
+        positive = d.positive;
+      }))
+      (λ n. inr n) there)) (p.all b was))
       (λ e. inr (inl (record { index = c / 8; below = index_below c below; named = h.named ∙ sym e; positive = λ z. positive (sym e ∙ z) })))
       (h.all b own);
   in_chain = p.in_chain;
@@ -234,4 +238,4 @@ opened land w root chains c directory later u p below none h = record {
         let q = index_below c below in
         h.elsewhere b i (p.own_node d b lt k) pos (omega (arith, small))
         (λ e. blocks_apart land b root i (1 + c / 8) (p.own_node d b lt k) p.root_own (λ f. p.root_no_node d lt (subst (IsAmong (blocks (chains d))) f k))
-            (omega (arith, small)) (omega (arith, q)) (omega (arith, e)))
+        (omega (arith, small)) (omega (arith, q)) (omega (arith, e)))

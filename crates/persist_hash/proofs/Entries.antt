@@ -1,5 +1,5 @@
 -- Look-ups in finite maps and in the nodes of a chain.
-use Rattle.std.proofs.Common.{◌≡◌, ◌≢◌, ◌⊎◌, inl, inr, ⊎_elim, ℕ, ◌+◌, ◌<◌, ◌≤◌, if◌then◌else◌, ◌==◌, nat_lt, List, [], ◌∷◌, ◌++◌, Bool, true, false, Option, Some, None, refl, ap, sym, ◌∙◌, arith, subst}
+use Rattle.std.proofs.Common.{◌≡◌, ◌≢◌, ◌⊎◌, inl, inr, ⊎_elim, ℕ, ◌<◌, ◌≤◌, if◌then◌else◌, ◌==◌, nat_lt, List, [], ◌∷◌, ◌++◌, Bool, true, false, Option, Some, None, refl, ap, sym, ◌∙◌, arith, subst}
 use Rattle.std.proofs.lemmas.Bool.{cases_lt}
 use Rattle.std.proofs.lemmas.Bool.Decides.{nat_tests, eqb_tells}
 use Rattle.region_layout.specs.FiniteMap.{FiniteMap, lookup, with_pair, without_key, AreAfter, IsAscending}
@@ -22,9 +22,9 @@ lookup-with_pair k key v (p ∷ ps) = step (key == p.0) (eqb_tells key p.0) (nat
     swap : p.0 ≢ key → (if k == p.0 then Some p.1 else changed_at key (Some v) k (lookup k ps)) ≡ changed_at key (Some v) k (lookup k (p ∷ ps))
     swap ne = ⊎_elim
         (λ here. let e = here.1 in
-            let on : (k == p.0) ≡ true = here.0 in
-            let off : (k == key) ≡ false = (let f : k ≢ key = (λ g. ne (sym e ∙ g)) in grind (arith, nat_tests)) in
-            rw (on, off) refl)
+        let on : (k == p.0) ≡ true = here.0 in
+        let off : (k == key) ≡ false = (let f : k ≢ key = (λ g. ne (sym e ∙ g)) in grind (arith, nat_tests)) in
+        rw (on, off) refl)
         (λ there. let off = there.0 in rw off refl)
         (eqb_tells k p.0)
 
@@ -63,10 +63,10 @@ ascending-with_pair key v [] h = (tt, tt)
 ascending-with_pair key v (p ∷ ps) h = ⊎_elim
     (λ same. let on = same.0 in rw on (subst (λ x. AreAfter x ps) (sym same.1) h.0, h.1))
     (λ other. let off = other.0 in rw off (⊎_elim
-        (λ less. let on = less.0 in let lt = less.1 in rw on ((lt, after_less p.0 key ps (omega (arith, lt)) h.0), h))
-        (λ more. let no = more.0 in let ge = more.1 in let ne = other.1 in
-            rw no (after_with p.0 key v ps (omega (arith, ge, ne)) h.0, ascending-with_pair key v ps h.1))
-        (ltb_tells key p.0)))
+    (λ less. let on = less.0 in let lt = less.1 in rw on ((lt, after_less p.0 key ps (omega (arith, lt)) h.0), h))
+    (λ more. let no = more.0 in let ge = more.1 in let ne = other.1 in
+    rw no (after_with p.0 key v ps (omega (arith, ge, ne)) h.0, ascending-with_pair key v ps h.1))
+    (ltb_tells key p.0)))
     (eqb_tells key p.0)
 
 lookup_after : (k : ℕ) (ps : FiniteMap) → AreAfter k ps → lookup k ps ≡ None
@@ -93,8 +93,8 @@ lookup-without_key k key (p ∷ ps) h = step (key == p.0) (eqb_tells key p.0) (l
     swap : key ≢ p.0 → (if k == p.0 then Some p.1 else changed_at key None k (lookup k ps)) ≡ changed_at key None k (lookup k (p ∷ ps))
     swap ne = ⊎_elim
         (λ here. let e = here.1 in let on = here.0 in
-            let off : (k == key) ≡ false = (let f : k ≢ key = (λ g. ne (sym g ∙ e)) in grind (arith, nat_tests)) in
-            rw (on, off) refl)
+        let off : (k == key) ≡ false = (let f : k ≢ key = (λ g. ne (sym g ∙ e)) in grind (arith, nat_tests)) in
+        rw (on, off) refl)
         (λ there. let off = there.0 in rw off refl)
         (eqb_tells k p.0)
 
@@ -153,8 +153,8 @@ lookup_replaced k [] rest n later h e = ⊎_elim
 lookup_replaced k (m ∷ front) rest n later h e =
     ap (λ x. if k == m.key then Some m.value else x) (lookup_replaced k front rest n later h.1 e) ∙ ⊎_elim
     (λ here. let on = here.0 in let f = here.1 in let ne = h.0 in
-        let off : (k == n.key) ≡ false = (let g : k ≢ n.key = (λ q. ne (sym q ∙ f)) in grind (arith, nat_tests)) in
-        rw (on, off) refl)
+    let off : (k == n.key) ≡ false = (let g : k ≢ n.key = (λ q. ne (sym q ∙ f)) in grind (arith, nat_tests)) in
+    rw (on, off) refl)
     (λ there. let off = there.0 in rw off refl)
     (eqb_tells k m.key)
 
@@ -172,8 +172,8 @@ lookup_removed k [] rest n h behind = ⊎_elim
 lookup_removed k (m ∷ front) rest n h behind =
     ap (λ x. if k == m.key then Some m.value else x) (lookup_removed k front rest n h.1 behind) ∙ ⊎_elim
     (λ here. let on = here.0 in let f = here.1 in let ne = h.0 in
-        let off : (k == n.key) ≡ false = (let g : k ≢ n.key = (λ q. ne (sym q ∙ f)) in grind (arith, nat_tests)) in
-        rw (on, off) refl)
+    let off : (k == n.key) ≡ false = (let g : k ≢ n.key = (λ q. ne (sym q ∙ f)) in grind (arith, nat_tests)) in
+    rw (on, off) refl)
     (λ there. let off = there.0 in rw off refl)
     (eqb_tells k m.key)
 
@@ -185,8 +185,8 @@ pub lookup_changed : (key : ℕ) (x : Option ℕ) (m later : FiniteMap) (ns : Li
     → (k : ℕ) → lookup k later ≡ lookup k (pairs (put_chain (chain_number key) ns chains (chain_number k)))
 lookup_changed key x m later ns chains was is there k = ⊎_elim
     (λ same. let e : chain_number k ≡ chain_number key = same.1 in
-        is k ∙ ap (changed_at key x k) (was k ∙ ap (λ c. lookup k (pairs (chains c))) e) ∙ sym (there k)
-        ∙ ap (λ ms. lookup k (pairs ms)) (sym (ap (put_chain (chain_number key) ns chains) e ∙ put_chain_same (chain_number key) ns chains)))
+    is k ∙ ap (changed_at key x k) (was k ∙ ap (λ c. lookup k (pairs (chains c))) e) ∙ sym (there k)
+    ∙ ap (λ ms. lookup k (pairs ms)) (sym (ap (put_chain (chain_number key) ns chains) e ∙ put_chain_same (chain_number key) ns chains)))
     (λ other. let off : (k == key) ≡ false = (let f : k ≢ key = (λ q. other.1 (ap chain_number q)) in grind (arith, nat_tests)) in
-        is k ∙ rw off (was k ∙ ap (λ ms. lookup k (pairs ms)) (sym (put_chain_other (chain_number key) (chain_number k) ns chains other.1))))
+    is k ∙ rw off (was k ∙ ap (λ ms. lookup k (pairs ms)) (sym (put_chain_other (chain_number key) (chain_number k) ns chains other.1))))
     (eqb_tells (chain_number k) (chain_number key))

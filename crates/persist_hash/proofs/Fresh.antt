@@ -1,6 +1,6 @@
 -- A root block of zeros is an empty map.
-use Rattle.std.proofs.Common.{◌≡◌, ◌≢◌, ◌⊎◌, inl, inr, ⊎_elim, ℕ, ◌+◌, ◌*◌, ◌/◌, ◌<◌, ◌≤◌, Bool, true, false, if◌then◌else◌, ◌==◌, nat_lt, List, [], ◌∷◌, ◌++◌, refl, sym, subst, ◌∙◌, ap, arith, ltb-true}
-use Rattle.std.specs.Prelude.{◌||◌, IsTrue}
+use Rattle.std.proofs.Common.{◌≡◌, inl, ⊎_elim, ℕ, ◌+◌, ◌*◌, ◌/◌, ◌<◌, ◌≤◌, Bool, true, false, if◌then◌else◌, nat_lt, List, [], ◌∷◌, ◌++◌, refl, sym, subst, ◌∙◌, arith, ltb-true}
+use Rattle.std.specs.Prelude.{◌||◌}
 use Rattle.std.proofs.lemmas.Bool.Decides.{nat_tests, eqb_tells}
 use Rattle.persist_model.specs.Region.{Words}
 use Rattle.persist_model.specs.Records.{IsAmong}
@@ -9,7 +9,7 @@ use Rattle.lane_traits.specs.Space.{Land, Space, IsOwn}
 use Rattle.lane_traits.specs.Draft.{is_among, of_structure, drafted, AreSetAside}
 use Rattle.lane_traits.specs.DraftLaws.{of_among, owner_of}
 use Rattle.lane_traits.proofs.Among.{among_of, among_last, among_front, among_end, once_more}
-use Rattle.region_layout.specs.HashMap.{Node, Chains, IsHashMap, first_link, directory_of}
+use Rattle.region_layout.specs.HashMap.{Chains, IsHashMap}
 use Rattle.persist_hash.specs.Calls.{HasMap}
 use Rattle.persist_hash.proofs.Blocks.{IsPlaced, of_placed}
 use Rattle.persist_hash.proofs.Places.{index_below, none_is}
@@ -106,7 +106,7 @@ blank_map n spare some h = record {
         ⊎_elim
         (λ zero_is. let z = zero_is.1 in omega (arith, place, z))
         (λ positive. absurd (let ne = positive.1 in
-            not_both (is_among spare b) (of_among spare b (subst (IsAmong spare) (sym place) (h.all own.0.number (omega (arith, ne)) (omega (arith, lt, place))))) parts.1))
+        not_both (is_among spare b) (of_among spare b (subst (IsAmong spare) (sym place) (h.all own.0.number (omega (arith, ne)) (omega (arith, lt, place))))) parts.1))
         (eqb_tells own.0.number 0)
 
 -- ---- the list of the others grows at its end

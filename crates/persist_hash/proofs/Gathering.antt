@@ -1,9 +1,9 @@
 -- A walk along one chain.
 use Rattle.std.proofs.Common.{◌≡◌, ◌≢◌, ℕ, ◌+◌, ◌^◌, ◌<◌, ◌≤◌, List, [], ◌∷◌, ◌++◌, length, refl, ap, sym, ◌∙◌, arith, subst, append_assoc, append-nil}
 use Rattle.lane_traits.specs.Device.{MAX_WORDS}
-use Rattle.lane_traits.specs.Space.{Land, Space, IsOwn, IsDataWord}
+use Rattle.lane_traits.specs.Space.{Space, IsOwn}
 use Rattle.lane_traits.specs.declared.words.Pair.{Pair}
-use Rattle.region_layout.specs.HashMap.{Node, Chains, CHAINS, IsChain, IsHash, first_link, blocks}
+use Rattle.region_layout.specs.HashMap.{Node, Chains, IsChain, IsHash, first_link, blocks}
 use Rattle.persist_hash.specs.Chains.{AreOwnNodes, HasHash, nodes_left}
 use Rattle.persist_hash.specs.Walk.{node_pair, node_pairs, IsWalked}
 use Rattle.persist_hash.proofs.Lists.{at_most, each_of}
@@ -17,7 +17,7 @@ few_nodes : (s : Space) (root : ℕ) (chains : Chains) (c : ℕ) → IsHash s.la
 few_nodes s root chains c h below =
     let p = placed_of s.land s.word root chains h in
     let few = at_most MAX_WORDS (blocks (chains c)) (p.nodes_once c below)
-        (each_of (λ x. x < MAX_WORDS) (blocks (chains c)) (λ b k. let f = (p.own_node c b below k).0.fits in omega (arith, f))) in
+    (each_of (λ x. x < MAX_WORDS) (blocks (chains c)) (λ b k. let f = (p.own_node c b below k).0.fits in omega (arith, f))) in
     let long = length-blocks (chains c) in
     omega (arith, few, long)
 
@@ -51,7 +51,7 @@ walked_next s first node next before now later pair walked some key value next_i
     let at = walked_node s first node before now walked some in
     let n = at.first in
     let joined : (walked.front ++ n ∷ []) ++ at.more ≡ walked.front ++ walked.rest =
-        nodes-assoc walked.front (n ∷ []) at.more ∙ ap (λ xs. walked.front ++ xs) (sym at.is) in
+    nodes-assoc walked.front (n ∷ []) at.more ∙ ap (λ xs. walked.front ++ xs) (sym at.is) in
     let k : pair.key ≡ n.key = key ∙ at.key in
     let v : pair.value ≡ n.value = value ∙ at.value in
     let is : pair ≡ node_pair n = λ i. record { key = k i; value = v i } in
@@ -86,7 +86,7 @@ pub walked_end : (s : Space) (root c node : ℕ) (before now : List Pair) → Is
 walked_end s root c node before now walked none chains h below =
     let empty = none_left s node walked.rest walked.here (each_right (λ n. IsOwn s.land n.block) walked.front walked.rest walked.own) none in
     let all : walked.front ≡ chains c =
-        sym (ap (λ xs. walked.front ++ xs) empty ∙ append-nil walked.front)
-        ∙ chain_once s.land s.word (first_link s.word root c) (walked.front ++ walked.rest) (chains c) walked.own (own_chain s.land s.word root chains c h below)
-            walked.laid (h.laid c below) in
+    sym (ap (λ xs. walked.front ++ xs) empty ∙ append-nil walked.front)
+    ∙ chain_once s.land s.word (first_link s.word root c) (walked.front ++ walked.rest) (chains c) walked.own (own_chain s.land s.word root chains c h below)
+    walked.laid (h.laid c below) in
     walked.items ∙ ap (λ ms. before ++ node_pairs ms) all

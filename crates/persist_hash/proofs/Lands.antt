@@ -1,5 +1,5 @@
 -- The land with one block more.
-use Rattle.std.proofs.Common.{◌≡◌, ◌≢◌, ◌⊎◌, inl, inr, ⊎_elim, ℕ, ◌+◌, Bool, true, false, if◌then◌else◌, ◌==◌, refl, sym, ◌∙◌}
+use Rattle.std.proofs.Common.{◌≡◌, ◌⊎◌, inl, inr, ⊎_elim, ℕ, ◌+◌, Bool, true, false, if◌then◌else◌, ◌==◌, refl, sym, ◌∙◌}
 use Rattle.std.proofs.lemmas.Bool.Decides.{eqb_tells}
 use Rattle.lane_traits.specs.Space.{Land, IsBlock, IsOwn, with_owner}
 use Rattle.lane_traits.proofs.Writes.{put_same, put_other}

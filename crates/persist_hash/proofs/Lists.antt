@@ -1,5 +1,5 @@
 -- Lists without repeats: how they join, and how long they can be.
-use Rattle.std.proofs.Common.{◌≡◌, ◌≢◌, ◌⊎◌, inl, inr, ⊎_elim, ℕ, zero, suc, ◌+◌, ◌<◌, ◌≤◌, true, false, if◌then◌else◌, ◌==◌, List, [], ◌∷◌, ◌++◌, length, map, refl, ap, sym, ◌∙◌, arith, subst}
+use Rattle.std.proofs.Common.{◌≡◌, ◌≢◌, ◌⊎◌, inl, inr, ⊎_elim, ℕ, zero, suc, ◌<◌, ◌≤◌, false, ◌==◌, List, [], ◌∷◌, ◌++◌, length, refl, ap, sym, arith, subst}
 use Rattle.std.proofs.lemmas.Bool.Decides.{nat_tests, eqb_tells}
 use Rattle.persist_model.specs.Records.{IsAmong}
 use Rattle.persist_model.specs.Chain.{Each, IsAbsent, HasNoRepeats, without}
@@ -78,7 +78,7 @@ at_most zero [] once below = omega arith
 at_most zero (x ∷ xs) once below = absurd (let h = below.0 in omega (arith, h))
 at_most (suc n) xs once below =
     let fewer = at_most n (without n xs) (HasNoRepeats-without n xs once)
-        (Each-without (λ x. x < suc n) (λ x. x < n) n xs (λ x ne lt. omega (arith, ne, lt)) below) in
+    (Each-without (λ x. x < suc n) (λ x. x < n) n xs (λ x ne lt. omega (arith, ne, lt)) below) in
     let long = length-without n xs once in
     omega (arith, fewer, long)
 
@@ -114,8 +114,7 @@ pub once_fewer : (xs ys : List ℕ) (y : ℕ) → HasNoRepeats (xs ++ y ∷ ys) 
 once_fewer [] ys y once = (once.1, of_absent ys y once.0)
 once_fewer (x ∷ xs) ys y once =
     let again = once_fewer xs ys y once.1 in
-    let apart = of_absent (xs ++ y ∷ ys) x once.0 in
-    (
+    let apart = of_absent (xs ++ y ∷ ys) x once.0 in (
       (absent_of (xs ++ ys) x (λ h. apart (among_more xs ys y x h)), again.0),
       ⊎_elim (λ e. apart (subst (λ b. IsAmong (xs ++ y ∷ ys) b) e (among_here xs ys y))) again.1,
     )

@@ -1,12 +1,12 @@
 -- Words hold one map, and it depends on the structure's blocks alone.
-use Rattle.std.proofs.Common.{◌≡◌, ◌≢◌, ◌⊎◌, inl, inr, ⊎_elim, ℕ, ◌+◌, ◌*◌, ◌/◌, ◌%◌, ◌<◌, ◌≤◌, List, refl, ap, sym, ◌∙◌, arith, subst}
+use Rattle.std.proofs.Common.{◌≡◌, ◌≢◌, inl, inr, ⊎_elim, ℕ, ◌+◌, ◌/◌, ◌%◌, ◌<◌, ap, sym, ◌∙◌, arith, subst}
 use Rattle.persist_model.specs.Region.{Words}
 use Rattle.persist_model.specs.Records.{IsAmong}
 use Rattle.lane_traits.specs.Space.{Land, IsOwn}
 use Rattle.region_layout.specs.FiniteMap.{FiniteMap, lookup}
 use Rattle.region_layout.specs.HeapBlocks.{OwnsAlike, land_of, root_of}
-use Rattle.region_layout.specs.HashMap.{Node, Chains, CHAINS, IsChain, IsHashMap, blocks, pairs, chain_number, directory_of, chain_word, first_link}
-use Rattle.persist_hash.proofs.ChainLaws.{chain_once, own_of_blocks, chain_kept}
+use Rattle.region_layout.specs.HashMap.{Chains, IsChain, IsHashMap, blocks, pairs, chain_number, directory_of, chain_word, first_link}
+use Rattle.persist_hash.proofs.ChainLaws.{chain_once, chain_kept}
 use Rattle.persist_hash.proofs.Blocks.{IsPlaced, placed_of, of_placed}
 use Rattle.persist_hash.proofs.Changing.{first_kept}
 use Rattle.persist_hash.proofs.Places.{chain_below, index_below, own_chain}
@@ -17,7 +17,7 @@ one_map land w root m n hm hn = same_entries m n hm.ascending hn.ascending (λ k
     let c = chain_number k in
     let below = chain_below k in
     let same : hm.chains c ≡ hn.chains c = chain_once land w (first_link w root c) (hm.chains c) (hn.chains c)
-        (own_chain land w root hm.chains c hm.is below) (own_chain land w root hn.chains c hn.is below) (hm.is.laid c below) (hn.is.laid c below) in
+    (own_chain land w root hm.chains c hm.is below) (own_chain land w root hn.chains c hn.is below) (hm.is.laid c below) (hn.is.laid c below) in
     hm.lookup_is k ∙ ap (λ ms. lookup k (pairs ms)) same ∙ sym (hn.lookup_is k))
 
 own_there : (heap structure : ℕ) (w u : Words) → OwnsAlike heap structure w u → (b : ℕ) → IsOwn (land_of heap w structure) b → IsOwn (land_of heap u structure) b

@@ -1,19 +1,18 @@
 -- Where a key is in a hash.
-use Rattle.std.proofs.Common.{◌≡◌, ◌≢◌, ◌⊎◌, inl, inr, ⊎_elim, ℕ, ◌+◌, ◌*◌, ◌/◌, ◌%◌, ◌^◌, ◌<◌, ◌≤◌, if◌then◌else◌, ◌==◌, List, [], ◌∷◌, ◌++◌, length, true, false, Option, Some, None, is_some, refl, ap, sym, ◌∙◌, arith, subst}
+use Rattle.std.proofs.Common.{◌≡◌, ◌≢◌, ⊎_elim, ℕ, ◌+◌, ◌/◌, ◌%◌, ◌^◌, ◌<◌, if◌then◌else◌, ◌==◌, List, [], ◌∷◌, ◌++◌, length, false, Option, Some, None, is_some, refl, ap, sym, ◌∙◌, arith, subst}
 use Rattle.std.proofs.lemmas.Bool.Decides.{nat_tests, eqb_tells}
 use Rattle.persist_model.specs.Region.{Words}
-use Rattle.persist_model.specs.Records.{IsAmong}
 use Rattle.lane_traits.specs.Device.{MAX_WORDS}
 use Rattle.lane_traits.specs.Space.{Land, Space, IsOwn, IsDataWord}
 use Rattle.region_layout.specs.FiniteMap.{FiniteMap, lookup}
-use Rattle.region_layout.specs.HashMap.{Node, Chains, CHAINS, IsChain, EachNode, IsHash, blocks, pairs, chain_number, directory_of, directory_word, chain_word, first_link}
-use Rattle.persist_hash.specs.Chains.{link_behind, AreOwnNodes, BeginsChain, HasChain, HasNotKey, IsSought, IsFound, IsHead, IsPlaceOf, first_block, HasHash}
+use Rattle.region_layout.specs.HashMap.{Node, Chains, IsChain, IsHash, blocks, pairs, chain_number, directory_of, chain_word, first_link}
+use Rattle.persist_hash.specs.Chains.{link_behind, AreOwnNodes, BeginsChain, IsFound, IsHead, IsPlaceOf, first_block, HasHash}
 use Rattle.persist_hash.proofs.Lists.{at_most, each_of}
 use Rattle.persist_hash.specs.Calls.{Holds, HasMap, needed}
 use Rattle.persist_hash.proofs.ChainLaws.{chain_once, own_of_blocks, chain_behind, each_right}
 use Rattle.persist_hash.proofs.Entries.{lookup_passed, lookup_head}
 use Rattle.persist_hash.proofs.Searching.{laid_rest}
-use Rattle.persist_hash.proofs.Blocks.{IsPlaced, placed_of}
+use Rattle.persist_hash.proofs.Blocks.{placed_of}
 
 pub chain_below : (key : ℕ) → chain_number key < 64
 chain_below key = omega arith
@@ -60,7 +59,7 @@ begins s root chains c h below some =
       own = own_of_blocks s.land (chains c) (λ b k. p.own_node c b below k);
       few = (
           let few = at_most MAX_WORDS (blocks (chains c)) (p.nodes_once c below)
-              (each_of (λ x. x < MAX_WORDS) (blocks (chains c)) (λ b k. let f = (p.own_node c b below k).0.fits in omega (arith, f))) in
+          (each_of (λ x. x < MAX_WORDS) (blocks (chains c)) (λ b k. let f = (p.own_node c b below k).0.fits in omega (arith, f))) in
           let long = length-blocks (chains c) in
           omega (arith, few, long));
     }
@@ -161,15 +160,15 @@ node_there s root key chains directory link node h place some =
     let c = chain_number key in
     let below = chain_below key in
     let there : directory ≢ 0 = (λ z. some (place.node_is ∙ first_of_parts (chains c) place.front place.rest
-        (no_nodes s.land s.word root chains c h below (sym place.directory_is ∙ z)) place.parts)) in
+    (no_nodes s.land s.word root chains c h below (sym place.directory_is ∙ z)) place.parts)) in
     let begin = begins s root chains c h below (λ z. there (place.directory_is ∙ z)) in
     let at : link ≡ link_behind (chain_word (directory_of s.word root c) c) place.front =
-        place.link_is there ∙ ap (λ x. link_behind (chain_word x c) place.front) place.directory_is in
+    place.link_is there ∙ ap (λ x. link_behind (chain_word x c) place.front) place.directory_is in
     some_node s root key place.front place.rest link node place.head place.node_is some
     (own_front s.land place.front place.rest (subst (AreOwnNodes s.land) place.parts begin.own))
     (subst (λ l. IsChain s.word (s.word l) place.rest) (sym at)
-        (chain_behind s.word (chain_word (directory_of s.word root c) c) place.front place.rest
-        (subst (λ ms. IsChain s.word (s.word (chain_word (directory_of s.word root c) c)) ms) place.parts begin.laid)))
+    (chain_behind s.word (chain_word (directory_of s.word root c) c) place.front place.rest
+    (subst (λ ms. IsChain s.word (s.word (chain_word (directory_of s.word root c) c)) ms) place.parts begin.laid)))
     (λ z. there (place.directory_is ∙ z))
 
 no_node_left : (land : Land) (rest : List Node) → AreOwnNodes land rest → first_block rest ≡ 0 → rest ≡ []
@@ -231,7 +230,7 @@ pub needs_one : (s : Space) (root key : ℕ) (contents : FiniteMap) (holds : Hol
     → IsPlaceOf s root key (holds.chains (chain_number key)) directory link node → node ≡ 0 → directory ≢ 0 → 1 ≡ needed s.word root key contents
 needs_one s root key contents holds directory link node place none there =
     let off : (directory_of s.word root (chain_number key) == 0) ≡ false = (let e = place.directory_is in
-        let ne : directory_of s.word root (chain_number key) ≢ 0 = (λ z. there (e ∙ z)) in grind (arith, nat_tests)) in
+    let ne : directory_of s.word root (chain_number key) ≢ 0 = (λ z. there (e ∙ z)) in grind (arith, nat_tests)) in
     sym (if_none (lookup key contents) 0 (if directory_of s.word root (chain_number key) == 0 then 2 else 1)
     (none_of s root key contents holds directory link node place none)
     ∙ ap (λ t. if t then 2 else 1) off)

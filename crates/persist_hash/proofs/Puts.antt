@@ -1,26 +1,24 @@
 -- A put: the words are the map with the pair then.
-use Rattle.std.proofs.Common.{◌≡◌, ◌≢◌, ◌⊎◌, inl, inr, ⊎_elim, ℕ, ◌+◌, ◌*◌, ◌/◌, ◌%◌, ◌<◌, ◌≤◌, true, false, Bool, if◌then◌else◌, ◌==◌, not, nat_lt, ltb-true, ◌-◌, List, [], ◌∷◌, ◌++◌, length, Option, Some, None, refl, ap, sym, ◌∙◌, arith, subst}
-use Rattle.std.specs.Prelude.{filter}
+use Rattle.std.proofs.Common.{◌≡◌, ◌≢◌, inl, inr, ⊎_elim, ℕ, ◌+◌, ◌/◌, ◌%◌, ◌<◌, ◌≤◌, true, false, Bool, if◌then◌else◌, ◌==◌, nat_lt, ltb-true, ◌-◌, List, [], ◌∷◌, Some, refl, ap, sym, ◌∙◌, arith, subst}
 use Rattle.std.proofs.lemmas.Bool.Decides.{nat_tests, eqb_tells}
 use Rattle.persist_model.specs.Region.{Words}
 use Rattle.persist_model.specs.Records.{IsAmong}
-use Rattle.persist_model.specs.Chain.{HasNoRepeats}
-use Rattle.lane_traits.specs.Space.{Land, Space, AreSpare, IsBlock, IsOwn, with_owner, is_not, put_word, taken, written}
+use Rattle.lane_traits.specs.Space.{Land, Space, AreSpare, IsBlock, IsOwn, put_word, taken}
 use Rattle.lane_traits.proofs.Among.{absent_of}
 use Rattle.lane_traits.proofs.Writes.{put_same, put_other}
 use Rattle.region_layout.specs.FiniteMap.{FiniteMap, lookup, with_pair}
-use Rattle.region_layout.specs.HashMap.{Node, Chains, CHAINS, IsChain, EachNode, IsHash, blocks, keys, pairs, chain_number, directory_of, chain_word}
-use Rattle.persist_hash.specs.Chains.{HasNotKey, IsPlaceOf, put_chain, link_behind}
-use Rattle.persist_hash.specs.Calls.{Holds, needed, TakesBlocks}
+use Rattle.region_layout.specs.HashMap.{Node, Chains, IsChain, IsHash, blocks, keys, pairs, chain_number, directory_of, chain_word}
+use Rattle.persist_hash.specs.Chains.{HasNotKey, IsPlaceOf, put_chain}
+use Rattle.persist_hash.specs.Calls.{Holds, TakesBlocks}
 use Rattle.persist_hash.specs.Adding.{linked, AddsNode, link_to, OpensChain, AddsDirectory}
 use Rattle.persist_hash.proofs.Adding.{among_kept, opens_elsewhere}
 use Rattle.persist_hash.proofs.Lands.{with_block, own_more, own_new, own_either}
-use Rattle.persist_hash.proofs.Lists.{decide, among_left, among_right, among_either, once_left, once_right, once_apart}
-use Rattle.persist_hash.proofs.ChainLaws.{each_joined, each_left, each_right, blocks-append, keys-append, blocks_apart, chain_kept, chain_behind, chain_relinked, link_in}
+use Rattle.persist_hash.proofs.Lists.{decide}
+use Rattle.persist_hash.proofs.ChainLaws.{each_joined, blocks_apart, chain_kept}
 use Rattle.persist_hash.proofs.Blocks.{IsPlaced, placed_of, of_placed}
-use Rattle.persist_hash.proofs.Changing.{ChangesChain, changed, OpensDirectory, opened}
-use Rattle.persist_hash.proofs.Places.{HasNode, node_there, none_there, no_nodes, chain_below, index_below, needs_one, needs_two, needs_none}
-use Rattle.persist_hash.proofs.Entries.{lookup_changed, lookup-with_pair, lookup_replaced, ascending-with_pair, changed_at}
+use Rattle.persist_hash.proofs.Changing.{changed, OpensDirectory, opened}
+use Rattle.persist_hash.proofs.Places.{none_there, chain_below, index_below}
+use Rattle.persist_hash.proofs.Entries.{lookup_changed, lookup-with_pair, ascending-with_pair, changed_at}
 
 -- ---- a node more
 
@@ -110,12 +108,12 @@ entries_put s root key value contents holds u ns is look = record {
 
 linked_words : (land : Land) (w : Words) (root c node key value : ℕ) → IsOwn land (directory_of w root c) → IsBlock land node → (IsOwn land node → ⊥)
     → HasNewNode land w root c node key value
-        (put_word (chain_word (directory_of w root c) c) node (put_word (node + 3) (w (chain_word (directory_of w root c) c)) (put_word (node + 2) value (put_word (node + 1) key w))))
+    (put_word (chain_word (directory_of w root c) c) node (put_word (node + 3) (w (chain_word (directory_of w root c) c)) (put_word (node + 2) value (put_word (node + 1) key w))))
 linked_words land w root c node key value own block fresh = record {
   elsewhere = λ b i has pos small ne.
       let ne_node : b ≢ node = (λ e. fresh (subst (IsOwn land) e has)) in
       let apart : (j : ℕ) → j < 16 → b + i ≢ node + j =
-          (λ j lt. blocks_apart (with_block node land) b node i j (own_more land node b has) (own_new land node block) ne_node (omega (arith, small)) lt) in
+      (λ j lt. blocks_apart (with_block node land) b node i j (own_more land node b has) (own_new land node block) ne_node (omega (arith, small)) lt) in
       put_other slot node (b + i) w3 ne ∙ put_other (node + 3) (w slot) (b + i) w2 (apart 3 (omega arith))
       ∙ put_other (node + 2) value (b + i) w1 (apart 2 (omega arith)) ∙ put_other (node + 1) key (b + i) w (apart 1 (omega arith));
   named = put_same slot node w3;
@@ -157,14 +155,14 @@ holds_added s u root key value contents holds directory link node slot place spa
     let at : slot ≡ chain_word (directory_of s.word root c) c = slot_is ∙ ap (λ x. chain_word x c) place.directory_is in
     let words = linked_words s.land s.word root c new key value (p.own_directory (c / 8) (index_below c (chain_below key)) there) adds.block fresh in
     let is = node_added s.land s.word root holds.chains key value new
-        (linked (chain_word (directory_of s.word root c) c) new key value (taken new s)).word p there adds.block fresh
-        (absent_key s root key holds.chains directory link node holds.is place none) filled words in
+    (linked (chain_word (directory_of s.word root c) c) new key value (taken new s)).word p there adds.block fresh
+    (absent_key s root key holds.chains directory link node holds.is place none) filled words in
     subst (λ (v : Space). Holds v root (with_pair key value contents)) (sym (adds.space ∙ ap (λ x. linked x new key value (taken new s)) at))
     (entries_put s root key value contents holds (linked (chain_word (directory_of s.word root c) c) new key value (taken new s))
-        (record { block = new; key = key; value = value } ∷ holds.chains c)
-        (of_placed (with_block new s.land) (linked (chain_word (directory_of s.word root c) c) new key value (taken new s)).word root
-            (put_chain c (record { block = new; key = key; value = value } ∷ holds.chains c) holds.chains) is)
-        (λ k. refl))
+    (record { block = new; key = key; value = value } ∷ holds.chains c)
+    (of_placed (with_block new s.land) (linked (chain_word (directory_of s.word root c) c) new key value (taken new s)).word root
+    (put_chain c (record { block = new; key = key; value = value } ∷ holds.chains c) holds.chains) is)
+    (λ k. refl))
 
 pub takes_one : (s u : Space) (slot key value : ℕ) → AddsNode slot key value s u → TakesBlocks 1 s u
 takes_one s u slot key value adds = record {
@@ -220,7 +218,7 @@ opens_directory land w root c directory own below block fresh = record {
       ap (opened_words (root + 1 + c / 8) directory w) (sym place) ∙ opened_empty (root + 1 + c / 8) directory i w (λ e. root_apart (1 + i) (omega (arith, lt)) e) lt;
   elsewhere = λ b i has pos small ne. opened_other (root + 1 + c / 8) directory (b + i) w ne
       (λ j lt. blocks_apart (with_block directory land) b directory i (1 + j) (own_more land directory b has) (own_new land directory block)
-          (λ e. fresh (subst (IsOwn land) e has)) (omega (arith, small)) (omega (arith, lt)));
+      (λ e. fresh (subst (IsOwn land) e has)) (omega (arith, small)) (omega (arith, lt)));
 }
   where
     root_apart : (j : ℕ) → j < 16 → directory + j ≢ root + 1 + c / 8
@@ -239,19 +237,19 @@ new_chain s u root key value directory node own block fresh node_block node_fres
   elsewhere = λ b i has pos small ne. ⊎_elim
       (λ at. let e = at.1 in ap u.word (e ∙ place) ∙ h.named ∙ sym (ap w1 e ∙ opened_named (root + 1 + c / 8) directory s.word))
       (λ off. ⊎_elim
-          (λ same. let e : b ≡ directory = same.1 in
-              let shift : b + i ≡ directory + (1 + (i - 1)) = omega (arith, e, pos) in
-              let other : i - 1 ≢ c % 8 = (λ f. ne (slot_is (b + i) (i - 1) shift f)) in
-              let under : i - 1 < 8 = omega (arith, small, pos) in
-              ap u.word shift ∙ h.links (i - 1) under ∙ no_link (i - 1) (c % 8) node other
-              ∙ sym (ap w1 shift ∙ opened_empty (root + 1 + c / 8) directory (i - 1) s.word (λ g. off.1 (shift ∙ g)) under))
-          (λ other. opens_elsewhere root (c / 8) directory (c % 8) node key value (taken node (taken directory s)) u h
-              (own_more (with_block directory s.land) node directory (own_new s.land directory block)) (own_new (with_block directory s.land) node node_block) b i
-              (own_more (with_block directory s.land) node b has) other.1 (λ f. node_fresh (subst (IsOwn (with_block directory s.land)) f has))
-              (omega (arith, small)) (λ f. off.1 (f ∙ sym place))
-              ∙ sym (opened_other (root + 1 + c / 8) directory (b + i) s.word off.1
-              (λ j lt. blocks_apart (with_block directory s.land) b directory i (1 + j) has (own_new s.land directory block) other.1 (omega (arith, small)) (omega (arith, lt)))))
-          (eqb_tells b directory))
+      (λ same. let e : b ≡ directory = same.1 in
+      let shift : b + i ≡ directory + (1 + (i - 1)) = omega (arith, e, pos) in
+      let other : i - 1 ≢ c % 8 = (λ f. ne (slot_is (b + i) (i - 1) shift f)) in
+      let under : i - 1 < 8 = omega (arith, small, pos) in
+      ap u.word shift ∙ h.links (i - 1) under ∙ no_link (i - 1) (c % 8) node other
+      ∙ sym (ap w1 shift ∙ opened_empty (root + 1 + c / 8) directory (i - 1) s.word (λ g. off.1 (shift ∙ g)) under))
+      (λ other. opens_elsewhere root (c / 8) directory (c % 8) node key value (taken node (taken directory s)) u h
+      (own_more (with_block directory s.land) node directory (own_new s.land directory block)) (own_new (with_block directory s.land) node node_block) b i
+      (own_more (with_block directory s.land) node b has) other.1 (λ f. node_fresh (subst (IsOwn (with_block directory s.land)) f has))
+      (omega (arith, small)) (λ f. off.1 (f ∙ sym place))
+      ∙ sym (opened_other (root + 1 + c / 8) directory (b + i) s.word off.1
+      (λ j lt. blocks_apart (with_block directory s.land) b directory i (1 + j) has (own_new s.land directory block) other.1 (omega (arith, small)) (omega (arith, lt)))))
+      (eqb_tells b directory))
       (eqb_tells (b + i) (root + 1 + c / 8));
   named = ap u.word slot_at ∙ h.links (c % 8) (omega arith) ∙ this_link (c % 8) node;
   key_is = h.key_is;
@@ -305,14 +303,14 @@ holds_opened s u root key value contents holds directory link node index place a
     let positive = adds.block.positive in
     let some : directory_of w1 root c ≢ 0 = (λ z. let e = opened_named (root + 1 + c / 8) block s.word in omega (arith, e, z, positive)) in
     let opens : OpensChain root (c / 8) block (c % 8) new key value (taken new (taken block s)) u =
-        subst (λ x. OpensChain root (c / 8) block x new key value (taken new (taken block s)) u) place_is
-        (subst (λ x. OpensChain root x block place new key value (taken new (taken block s)) u) index_is adds.opens) in
+    subst (λ x. OpensChain root (c / 8) block x new key value (taken new (taken block s)) u) place_is
+    (subst (λ x. OpensChain root x block place new key value (taken new (taken block s)) u) index_is adds.opens) in
     let is = node_added (with_block block s.land) w1 root holds.chains key value new u.word p1 some adds.node_block new_fresh
-        (absent_key s root key holds.chains directory link node holds.is at none) filled
-        (new_chain s u root key value block new holds.is.root_own adds.block fresh adds.node_block new_fresh opens) in
+    (absent_key s root key holds.chains directory link node holds.is at none) filled
+    (new_chain s u root key value block new holds.is.root_own adds.block fresh adds.node_block new_fresh opens) in
     entries_put s root key value contents holds u (record { block = new; key = key; value = value } ∷ holds.chains c)
     (of_placed u.land u.word root (put_chain c (record { block = new; key = key; value = value } ∷ holds.chains c) holds.chains)
-        (subst (λ (l : Land). IsPlaced l u.word root (put_chain c (record { block = new; key = key; value = value } ∷ holds.chains c) holds.chains)) (sym opens.land) is))
+    (subst (λ (l : Land). IsPlaced l u.word root (put_chain c (record { block = new; key = key; value = value } ∷ holds.chains c) holds.chains)) (sym opens.land) is))
     (λ k. refl)
 
 pub takes_two : (s u : Space) (root index place key value : ℕ) → AddsDirectory root index place key value s u → TakesBlocks 2 s u

@@ -1,6 +1,6 @@
 -- Reading words as a hash: what was read stays sound, and where it isn't the words are none.
-use Rattle.std.proofs.Common.{◌≡◌, ◌≢◌, ◌⊎◌, inl, inr, ⊎_elim, ℕ, zero, suc, ◌+◌, ◌*◌, ◌/◌, ◌%◌, ◌<◌, ◌≤◌, Bool, true, false, ◌||◌, if◌then◌else◌, ◌==◌, List, [], ◌∷◌, ◌++◌, length, get_or, slice_index, slice_index_or, Option, Some, None, refl, ap, sym, ◌∙◌, arith, subst, add-one}
-use Rattle.std.proofs.lemmas.Bool.Decides.{nat_tests, eqb_tells}
+use Rattle.std.proofs.Common.{◌≡◌, ◌≢◌, ◌⊎◌, inl, inr, ⊎_elim, ℕ, ◌+◌, ◌*◌, ◌<◌, ◌≤◌, Bool, true, false, ◌||◌, if◌then◌else◌, ◌==◌, List, [], ◌∷◌, ◌++◌, length, slice_index, slice_index_or, Some, refl, ap, sym, ◌∙◌, arith, subst, add-one}
+use Rattle.std.proofs.lemmas.Bool.Decides.{eqb_tells}
 use Rattle.persist_model.specs.Region.{Words}
 use Rattle.persist_model.specs.Records.{IsAmong}
 use Rattle.persist_model.specs.Chain.{HasNoRepeats}
@@ -8,18 +8,18 @@ use Rattle.lane_traits.specs.Device.{MAX_WORDS}
 use Rattle.lane_traits.specs.Space.{Land, IsOwn}
 use Rattle.lane_traits.specs.Draft.{is_among}
 use Rattle.lane_traits.specs.DraftLaws.{of_among}
-use Rattle.lane_traits.proofs.Among.{among_of, among_last, absent_of, of_absent, once_more, is_among-last}
-use Rattle.persist_hash.proofs.Joined.{is_among-append, or_assoc, or_false}
+use Rattle.lane_traits.proofs.Among.{among_of, among_last, of_absent, once_more, is_among-last}
+use Rattle.persist_hash.proofs.Joined.{is_among-append, or_assoc}
 use Rattle.region_layout.specs.FiniteMap.{FiniteMap, lookup, with_pair, IsAscending}
-use Rattle.region_layout.specs.HashMap.{Node, Chains, CHAINS, IsChain, EachNode, IsHash, IsHashMap, blocks, keys, pairs, directories, nodes, first_link, directory_of, chain_number}
-use Rattle.persist_hash.specs.Chains.{AreOwnNodes, chain_from}
+use Rattle.region_layout.specs.HashMap.{Node, Chains, CHAINS, IsChain, EachNode, IsHash, blocks, keys, pairs, directories, nodes, first_link, chain_number}
+use Rattle.persist_hash.specs.Chains.{AreOwnNodes}
 use Rattle.persist_hash.specs.Walk.{nodes_up_to}
-use Rattle.persist_hash.specs.Reading.{IsHeap, land_in, HasHashMap, IsNoHash, AreMarks, with_block, with_link, is_root, in_directories, chains_in, in_chains, in_front, HasDirectories, HasChains, IsSegment, HasFront, IsReading}
-use Rattle.persist_hash.proofs.Lists.{among_left, among_right, among_either, once_right, at_most, each_of}
+use Rattle.persist_hash.specs.Reading.{IsHeap, land_in, HasHashMap, IsNoHash, AreMarks, with_block, with_link, is_root, in_directories, chains_in, in_chains, in_front, HasDirectories, HasChains, IsSegment, HasFront}
+use Rattle.persist_hash.proofs.Lists.{among_right, at_most, each_of}
 use Rattle.persist_hash.proofs.ChainLaws.{each_joined, blocks-append, keys-append, own_of_blocks, chain_once, chain_from_is}
 use Rattle.persist_hash.proofs.Blocks.{IsPlaced, placed_of, of_placed, IsDirectoryOf, IsNodeOf, of_directories, of_nodes, in_nodes}
 use Rattle.persist_hash.proofs.Blocks.{in_directories as listed_directory}
-use Rattle.persist_hash.proofs.Places.{index_below, length-blocks, chain_below}
+use Rattle.persist_hash.proofs.Places.{length-blocks, chain_below}
 use Rattle.persist_hash.proofs.Entries.{lookup-with_pair, ascending-with_pair}
 use Rattle.persist_hash.proofs.Walks.{all_lookups}
 use Rattle.persist_hash.proofs.MarkLaws.{number_within}
@@ -85,20 +85,20 @@ directories_more land w root n link h is own fresh = record {
   root_own = h.root_own;
   own = λ d lt some. ⊎_elim (λ low. h.own d low some)
       (λ e. let at : w (root + 1 + d) ≡ link = ap (λ k. w (root + 1 + k)) e ∙ sym is in
-          subst (IsOwn land) (sym at) (own (λ z. some (at ∙ z)))) (below_more d n lt);
+      subst (IsOwn land) (sym at) (own (λ z. some (at ∙ z)))) (below_more d n lt);
   no_root = λ d lt same. ⊎_elim (λ low. h.no_root d low same)
       (λ e. let at : link ≡ root = is ∙ ap (λ k. w (root + 1 + k)) (sym e) ∙ same in
-          let positive = h.root_own.0.positive in
-          apart_of link root (neither (is_among (directories n w root) link) (link == root) (fresh (λ z. omega (arith, at, z, positive)))).1 at) (below_more d n lt);
+      let positive = h.root_own.0.positive in
+      apart_of link root (neither (is_among (directories n w root) link) (link == root) (fresh (λ z. omega (arith, at, z, positive)))).1 at) (below_more d n lt);
   once = λ d e ld le ne some same. ⊎_elim
       (λ low_d. ⊎_elim
-          (λ low_e. h.once d e low_d low_e ne some same)
-          (λ last. new_apart d low_d (λ z. some (same ∙ ap (λ k. w (root + 1 + k)) last ∙ sym is ∙ z)) (same ∙ ap (λ k. w (root + 1 + k)) last ∙ sym is))
-          (below_more e n le))
+      (λ low_e. h.once d e low_d low_e ne some same)
+      (λ last. new_apart d low_d (λ z. some (same ∙ ap (λ k. w (root + 1 + k)) last ∙ sym is ∙ z)) (same ∙ ap (λ k. w (root + 1 + k)) last ∙ sym is))
+      (below_more e n le))
       (λ last_d. ⊎_elim
-          (λ low_e. new_apart e low_e (λ z. some (ap (λ k. w (root + 1 + k)) last_d ∙ sym is ∙ z)) (sym same ∙ ap (λ k. w (root + 1 + k)) last_d ∙ sym is))
-          (λ last_e. ne (last_d ∙ sym last_e))
-          (below_more e n le))
+      (λ low_e. new_apart e low_e (λ z. some (ap (λ k. w (root + 1 + k)) last_d ∙ sym is ∙ z)) (sym same ∙ ap (λ k. w (root + 1 + k)) last_d ∙ sym is))
+      (λ last_e. ne (last_d ∙ sym last_e))
+      (below_more e n le))
       (below_more d n ld);
 }
   where
@@ -115,8 +115,8 @@ no_hash_by_directory land w root n link below is some refused = λ chains h.
     let own = subst (IsOwn land) (sym is) (p.own_directory n below there) in
     ⊎_elim
     (λ listed. let at = of_directories n w root link (among_of (directories n w root) link listed) in
-        let lt = at.below in
-        p.directories_once n at.index below (omega (arith, lt, below)) (λ e. omega (arith, e, lt)) there (sym is ∙ sym at.named))
+    let lt = at.below in
+    p.directories_once n at.index below (omega (arith, lt, below)) (λ e. omega (arith, e, lt)) there (sym is ∙ sym at.named))
     (λ rooted. p.root_no_directory n below (sym is ∙ equal_of link root rooted))
     (either (is_among (directories n w root) link) (link == root) (refused own))
 
@@ -235,7 +235,7 @@ goes_on : (land : Land) (w : Words) (root c node : ℕ) (front : List Node) (cha
     → node ≢ 0 → GoesOn w chains c front node
 goes_on land w root c node front chains p below h some =
     let found = rest_of land w (first_link w root c) node front (chains c) h.segment (own_of_blocks land front h.own)
-        (own_of_blocks land (chains c) (λ b k. p.own_node c b below k)) (p.laid c below) in
+    (own_of_blocks land (chains c) (λ b k. p.own_node c b below k)) (p.laid c below) in
     split found.0 found.1 found.2
   where
     split : (rest : List Node) → chains c ≡ front ++ rest → IsChain w node rest → GoesOn w chains c front node
@@ -260,23 +260,23 @@ no_hash_by_node land w root c node front below read h some refused = λ chains h
     let p = placed_of land w root chains hash in
     let on = goes_on land w root c node front chains p below h some in
     let here : IsAmong (blocks (chains c)) node = subst (λ xs. IsAmong xs node) (sym (ap blocks on.parts ∙ blocks-append front (on.first ∷ on.more)))
-        (among_right (blocks front) (on.first.block ∷ blocks on.more) node (inl (sym on.block))) in
+    (among_right (blocks front) (on.first.block ∷ blocks on.more) node (inl (sym on.block))) in
     let own = p.own_node c node below here in
     ⊎_elim
     (λ listed.
-        let once = subst (λ xs. HasNoRepeats xs) (ap blocks on.parts ∙ blocks-append front (on.first ∷ on.more)) (p.nodes_once c below) in
-        once_apart_at (blocks front) (on.first.block ∷ blocks on.more) once node (among_of (blocks front) node listed) (inl (sym on.block)))
+    let once = subst (λ xs. HasNoRepeats xs) (ap blocks on.parts ∙ blocks-append front (on.first ∷ on.more)) (p.nodes_once c below) in
+    once_apart_at (blocks front) (on.first.block ∷ blocks on.more) once node (among_of (blocks front) node listed) (inl (sym on.block)))
     (λ before. ⊎_elim
-        (λ listed. let at = of_nodes c (chains_in w root) node (among_of (blocks (nodes c (chains_in w root))) node listed) in
-            let lt = at.below in
-            let same = chains_same land w root c at.chain chains p read at.below (omega (arith, below)) in
-            p.nodes_apart c at.chain below (omega (arith, lt, below)) (λ e. omega (arith, e, lt)) node here (subst (λ ms. IsAmong (blocks ms) node) same at.among))
-        (λ early. ⊎_elim
-            (λ listed. let at = of_directories 8 w root node (among_of (directories 8 w root) node listed) in
-                p.directory_no_node at.index c at.below below (subst (IsAmong (blocks (chains c))) (sym at.named) here))
-            (λ rooted. p.root_no_node c below (subst (IsAmong (blocks (chains c))) (equal_of node root rooted) here))
-            (either (is_among (directories 8 w root) node) (node == root) early))
-        (either (is_among (blocks (nodes c (chains_in w root))) node) (in_directories w root 8 node) before))
+    (λ listed. let at = of_nodes c (chains_in w root) node (among_of (blocks (nodes c (chains_in w root))) node listed) in
+    let lt = at.below in
+    let same = chains_same land w root c at.chain chains p read at.below (omega (arith, below)) in
+    p.nodes_apart c at.chain below (omega (arith, lt, below)) (λ e. omega (arith, e, lt)) node here (subst (λ ms. IsAmong (blocks ms) node) same at.among))
+    (λ early. ⊎_elim
+    (λ listed. let at = of_directories 8 w root node (among_of (directories 8 w root) node listed) in
+    p.directory_no_node at.index c at.below below (subst (IsAmong (blocks (chains c))) (sym at.named) here))
+    (λ rooted. p.root_no_node c below (subst (IsAmong (blocks (chains c))) (equal_of node root rooted) here))
+    (either (is_among (directories 8 w root) node) (node == root) early))
+    (either (is_among (blocks (nodes c (chains_in w root))) node) (in_directories w root 8 node) before))
     (either (is_among (blocks front) node) (in_chains w root c node) (refused own))
   where
     once_apart_at : (xs ys : List ℕ) → HasNoRepeats (xs ++ ys) → (b : ℕ) → IsAmong xs b → IsAmong ys b → ⊥
@@ -299,7 +299,7 @@ no_hash_by_fields land w root c node front below h some bad = λ chains hash.
     let p = placed_of land w root chains hash in
     let on = goes_on land w root c node front chains p below h some in
     let chain_is : chain_number (w (node + 1)) ≡ c = ap chain_number (sym on.key)
-        ∙ each_at (λ m. chain_number m.key ≡ c) front on.more on.first (subst (EachNode (λ m. chain_number m.key ≡ c)) on.parts (p.in_chain c below)) in
+    ∙ each_at (λ m. chain_number m.key ≡ c) front on.more on.first (subst (EachNode (λ m. chain_number m.key ≡ c)) on.parts (p.in_chain c below)) in
     let value = each_at (λ m. 1 ≤ m.value) front on.more on.first (subst (EachNode (λ m. 1 ≤ m.value)) on.parts (p.filled c below)) in
     let once = subst (λ xs. HasNoRepeats xs) (ap keys on.parts ∙ keys-append front (on.first ∷ on.more)) (p.keys_once c below) in
     once_at (keys front) (keys on.more) on.first.key once
@@ -334,12 +334,12 @@ chains_more land w root c node front read h none = record {
   once = up_to (λ d ms. HasNoRepeats (blocks ms)) w root c front is h.once read.once;
   apart = λ d e b ld le ne. ⊎_elim
       (λ low_d. ⊎_elim (λ low_e. read.apart d e b low_d low_e ne)
-          (λ last k m. parts.0 d low_d b (subst (λ ms. IsAmong (blocks ms) b) (ap (chains_in w root) last ∙ is) m) k)
-          (below_more e c le))
+      (λ last k m. parts.0 d low_d b (subst (λ ms. IsAmong (blocks ms) b) (ap (chains_in w root) last ∙ is) m) k)
+      (below_more e c le))
       (λ last_d. ⊎_elim
-          (λ low_e k m. parts.0 e low_e b (subst (λ ms. IsAmong (blocks ms) b) (ap (chains_in w root) last_d ∙ is) k) m)
-          (λ last_e. absurd (ne (last_d ∙ sym last_e)))
-          (below_more e c le))
+      (λ low_e k m. parts.0 e low_e b (subst (λ ms. IsAmong (blocks ms) b) (ap (chains_in w root) last_d ∙ is) k) m)
+      (λ last_e. absurd (ne (last_d ∙ sym last_e)))
+      (below_more e c le))
       (below_more d c ld);
   in_chain = up_to (λ d ms. EachNode (λ m. chain_number m.key ≡ d) ms) w root c front is h.in_chain read.in_chain;
   keys_once = up_to (λ d ms. HasNoRepeats (keys ms)) w root c front is h.keys_once read.keys_once;
@@ -365,7 +365,7 @@ chains_more land w root c node front read h none = record {
         let p = (h.own (w (root + 1 + d)) k).0.positive in
         absent_is (directories 8 w root) (w (root + 1 + d))
         (neither (is_among (directories 8 w root) (w (root + 1 + d))) (w (root + 1 + d) == root)
-            (neither (is_among (blocks (nodes c (chains_in w root))) (w (root + 1 + d))) (in_directories w root 8 (w (root + 1 + d))) (h.apart (w (root + 1 + d)) k)).1).0
+        (neither (is_among (blocks (nodes c (chains_in w root))) (w (root + 1 + d))) (in_directories w root 8 (w (root + 1 + d))) (h.apart (w (root + 1 + d)) k)).1).0
         (listed_directory 8 d w root ld (λ z. omega (arith, p, z)))
 
 pub marks_of_chain : (land : Land) (w : Words) (root c node : ℕ) (front : List Node) → HasFront land w root c front node → node ≡ 0 → (x : ℕ)
@@ -374,9 +374,9 @@ unfolding nodes
 marks_of_chain land w root c node front h none x =
     sym (or_assoc (is_among (blocks front) x) (is_among (blocks (nodes c (chains_in w root))) x) (in_directories w root 8 x))
     ∙ ap (λ t. t || in_directories w root 8 x) (sym (
-        ap (λ xs. is_among xs x) (blocks-append (chains_in w root c) (nodes c (chains_in w root)))
-        ∙ ap (λ ms. is_among (blocks ms ++ blocks (nodes c (chains_in w root))) x) (chain_read land w root c node front h none)
-        ∙ is_among-append (blocks front) (blocks (nodes c (chains_in w root))) x))
+    ap (λ xs. is_among xs x) (blocks-append (chains_in w root c) (nodes c (chains_in w root)))
+    ∙ ap (λ ms. is_among (blocks ms ++ blocks (nodes c (chains_in w root))) x) (chain_read land w root c node front h none)
+    ∙ is_among-append (blocks front) (blocks (nodes c (chains_in w root))) x))
     ∙ ap (λ k. in_chains w root k x) (sym (add-one c))
 
 -- ---- all chains are read
@@ -435,13 +435,13 @@ map_of_chains words heap count structure root marks h read marks_are long all =
     place b k lt is own =
         let w = slice_index words in
         let on : in_chains w root 64 b ≡ true = ap (in_chains w root 64) is ∙ sym (marks_are k (omega (arith, lt, long)))
-            ∙ all k lt (ap w (sym is) ∙ own) in
+        ∙ all k lt (ap w (sym is) ∙ own) in
         ⊎_elim
         (λ listed. inr (inr (of_nodes 64 (chains_in w root) b (among_of (blocks (nodes 64 (chains_in w root))) b listed))))
         (λ early. ⊎_elim
-            (λ listed. inr (inl (of_directories 8 w root b (among_of (directories 8 w root) b listed))))
-            (λ rooted. inl (equal_of b root rooted))
-            (either (is_among (directories 8 w root) b) (b == root) early))
+        (λ listed. inr (inl (of_directories 8 w root b (among_of (directories 8 w root) b listed))))
+        (λ rooted. inl (equal_of b root rooted))
+        (either (is_among (directories 8 w root) b) (b == root) early))
         (either (is_among (blocks (nodes 64 (chains_in w root))) b) (in_directories w root 8 b) on)
 
 pub no_hash_by_block : (words : List ℕ) (heap count structure root k : ℕ) (marks : List Bool) → IsHeap words heap count
@@ -463,10 +463,10 @@ no_hash_by_block words heap count structure root k marks h read marks_are long l
     ⊎_elim
     (λ rooted. apart_of b root early.1 rooted)
     (λ there. ⊎_elim
-        (λ d. absent_is (directories 8 w root) b early.0
-            (subst (IsAmong (directories 8 w root)) d.named (listed_directory 8 d.index w root d.below (λ z. d.positive (sym d.named ∙ z)))))
-        (λ n. absent_is (blocks (nodes 64 (chains_in w root))) b parts.0
-            (in_nodes 64 n.chain (chains_in w root) b n.below
-                (subst (λ ms. IsAmong (blocks ms) b) (sym (chains_same land w root 64 n.chain chains p read n.below (omega arith))) n.among)))
-        there)
+    (λ d. absent_is (directories 8 w root) b early.0
+    (subst (IsAmong (directories 8 w root)) d.named (listed_directory 8 d.index w root d.below (λ z. d.positive (sym d.named ∙ z)))))
+    (λ n. absent_is (blocks (nodes 64 (chains_in w root))) b parts.0
+    (in_nodes 64 n.chain (chains_in w root) b n.below
+    (subst (λ ms. IsAmong (blocks ms) b) (sym (chains_same land w root 64 n.chain chains p read n.below (omega arith))) n.among)))
+    there)
     (p.all b is_own)

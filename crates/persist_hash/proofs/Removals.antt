@@ -1,23 +1,23 @@
 -- A chain in which one node is changed or taken out.
-use Rattle.std.proofs.Common.{◌≡◌, ◌≢◌, ◌⊎◌, inl, inr, ⊎_elim, ℕ, ◌+◌, ◌*◌, ◌/◌, ◌%◌, ◌<◌, ◌≤◌, true, false, Bool, if◌then◌else◌, ◌==◌, List, [], ◌∷◌, ◌++◌, length, Option, Some, None, refl, ap, sym, ◌∙◌, arith, subst}
-use Rattle.std.proofs.lemmas.Bool.Decides.{nat_tests, eqb_tells}
+use Rattle.std.proofs.Common.{◌≡◌, ◌≢◌, ◌⊎◌, inl, inr, ⊎_elim, ℕ, ◌+◌, ◌/◌, ◌%◌, ◌<◌, ◌≤◌, List, [], ◌∷◌, ◌++◌, Some, None, refl, ap, sym, ◌∙◌, arith, subst}
+use Rattle.std.proofs.lemmas.Bool.Decides.{eqb_tells}
 use Rattle.persist_model.specs.Region.{Words}
 use Rattle.persist_model.specs.Records.{IsAmong}
 use Rattle.persist_model.specs.Chain.{HasNoRepeats, IsAbsent}
-use Rattle.lane_traits.specs.Space.{Land, Space, IsBlock, IsOwn, IsDataWord, with_owner, put_word, given, written}
+use Rattle.lane_traits.specs.Space.{Land, Space, IsOwn, IsDataWord, with_owner, put_word, given, written}
 use Rattle.lane_traits.proofs.Writes.{put_same, put_other}
 use Rattle.region_layout.specs.FiniteMap.{FiniteMap, lookup, with_pair, without_key}
-use Rattle.region_layout.specs.HashMap.{Node, Chains, CHAINS, IsChain, EachNode, IsHash, blocks, keys, pairs, chain_number, directory_of, chain_word, first_link}
+use Rattle.region_layout.specs.HashMap.{Node, Chains, IsChain, EachNode, IsHash, blocks, keys, pairs, chain_number, directory_of, chain_word}
 use Rattle.persist_hash.specs.Chains.{HasNotKey, IsPlaceOf, put_chain, link_behind}
 use Rattle.persist_hash.specs.Calls.{Holds, GivesBlock}
-use Rattle.persist_hash.proofs.Lists.{decide, among_left, among_right, among_either, among_more, among_here, among_fewer, once_left, once_right, once_apart, once_fewer}
+use Rattle.persist_hash.proofs.Lists.{decide, among_left, among_right, among_more, among_here, among_fewer, once_left, once_right, once_apart, once_fewer}
 use Rattle.persist_hash.proofs.ChainLaws.{each_joined, each_left, each_right, blocks-append, keys-append, blocks_apart, chain_kept, chain_behind, chain_relinked, link_in}
 use Rattle.persist_hash.proofs.Blocks.{IsPlaced, placed_of, of_placed}
-use Rattle.persist_hash.proofs.Changing.{ChangesChain, changed}
+use Rattle.persist_hash.proofs.Changing.{changed}
 use Rattle.persist_hash.proofs.Places.{HasNode, node_there, chain_below, index_below, first_is, slot_held}
 use Rattle.persist_hash.proofs.Searching.{data_word}
 use Rattle.persist_hash.proofs.Puts.{entries_put}
-use Rattle.persist_hash.proofs.Entries.{lookup_changed, lookup-with_pair, lookup-without_key, lookup_replaced, lookup_removed, ascending-with_pair, ascending-without_key, changed_at}
+use Rattle.persist_hash.proofs.Entries.{lookup_changed, lookup-without_key, lookup_replaced, lookup_removed, ascending-without_key, changed_at}
 
 -- a node of a chain, with what stands before it and behind it
 pub record AreParts (land : Land) (w : Words) (root : ℕ) (chains : Chains) (c : ℕ) (front more : List Node) (n : Node) : Type 0 where
@@ -65,9 +65,9 @@ link_apart : (land : Land) (w : Words) (root : ℕ) (chains : Chains) (c : ℕ) 
 link_apart land w root chains c front more n h b i k small e = ⊎_elim
     (λ first. slot_apart land w root chains c front more n h b i (among_right (blocks front) (n.block ∷ blocks more) b k) small (sym first ∙ e))
     (λ at. blocks_apart land at.0 b 3 i (own_part land w root chains c front more n h at.0 (among_left (blocks front) (n.block ∷ blocks more) at.0 at.1))
-        (own_part land w root chains c front more n h b (among_right (blocks front) (n.block ∷ blocks more) b k))
-        (λ f. once_apart (blocks front) (n.block ∷ blocks more) (once_parts land w root chains c front more n h) b (subst (IsAmong (blocks front)) f at.1) k)
-        (omega arith) small (sym at.2 ∙ e))
+    (own_part land w root chains c front more n h b (among_right (blocks front) (n.block ∷ blocks more) b k))
+    (λ f. once_apart (blocks front) (n.block ∷ blocks more) (once_parts land w root chains c front more n h) b (subst (IsAmong (blocks front)) f at.1) k)
+    (omega arith) small (sym at.2 ∙ e))
     (link_where (slot_of w root c) front)
 
 link_no_field : (land : Land) (w : Words) (root : ℕ) (chains : Chains) (c : ℕ) (front more : List Node) (n : Node) (h : AreParts land w root chains c front more n)
@@ -77,11 +77,11 @@ link_no_field land w root chains c front more n h b i k small e =
     ⊎_elim
     (λ first. slot_apart land w root chains c front more n h b i in_front (omega (arith, small)) (sym (e ∙ first)))
     (λ at. ⊎_elim
-        (λ same. let f = same.1 in let g = e ∙ at.2 in omega (arith, f, g, small))
-        (λ other. blocks_apart land b at.0 i 3 (own_part land w root chains c front more n h b in_front)
-            (own_part land w root chains c front more n h at.0 (among_left (blocks front) (n.block ∷ blocks more) at.0 at.1))
-            other.1 (omega (arith, small)) (omega arith) (e ∙ at.2))
-        (eqb_tells b at.0))
+    (λ same. let f = same.1 in let g = e ∙ at.2 in omega (arith, f, g, small))
+    (λ other. blocks_apart land b at.0 i 3 (own_part land w root chains c front more n h b in_front)
+    (own_part land w root chains c front more n h at.0 (among_left (blocks front) (n.block ∷ blocks more) at.0 at.1))
+    other.1 (omega (arith, small)) (omega arith) (e ∙ at.2))
+    (eqb_tells b at.0))
     (link_where (slot_of w root c) front)
 
 link_outside : (land : Land) (w : Words) (root : ℕ) (chains : Chains) (c : ℕ) (front more : List Node) (n : Node) (h : AreParts land w root chains c front more n)
@@ -115,15 +115,14 @@ replaced land w root chains c front more n value h filled = changed land w root 
       (λ b k. slot_apart land w root chains c front more n h b 3 (among_left (blocks front) (n.block ∷ blocks more) b k) (omega arith))
       (λ b i k pos small. front_kept b i k (omega (arith, small)))
       (λ b k ne. front_kept b 3 k (omega arith))
-      (λ ne. put_other (n.block + 2) value at w (slot_apart land w root chains c front more n h n.block 2 (among_here (blocks front) (blocks more) n.block) (omega arith)))
-      (
+      (λ ne. put_other (n.block + 2) value at w (slot_apart land w root chains c front more n h n.block 2 (among_here (blocks front) (blocks more) n.block) (omega arith))) (
         put_other (n.block + 2) value (link_behind at front) w (link_apart land w root chains c front more n h n.block 2 (inl refl) (omega arith)) ∙ behind.0,
         put_other (n.block + 2) value (n.block + 1) w (λ e. omega (arith, e)) ∙ behind.1,
         put_same (n.block + 2) value w,
         subst (λ l. IsChain u l more) (sym (put_other (n.block + 2) value (n.block + 3) w (λ e. omega (arith, e))))
             (chain_kept w u (w (n.block + 3)) more (λ b i k pos small. put_other (n.block + 2) value (b + i) w
-                (blocks_apart land b n.block i 2 (own_part land w root chains c front more n h b (among_right (blocks front) (n.block ∷ blocks more) b (inr k))) own_n
-                (λ e. more_apart (subst (IsAmong (blocks more)) e k)) (omega (arith, small)) (omega arith))) behind.3),
+            (blocks_apart land b n.block i 2 (own_part land w root chains c front more n h b (among_right (blocks front) (n.block ∷ blocks more) b (inr k))) own_n
+            (λ e. more_apart (subst (IsAmong (blocks more)) e k)) (omega (arith, small)) (omega arith))) behind.3),
       );
   kept = λ b own out. own;
   own = λ b k. h.placed.own_node c b h.below (subst (λ xs. IsAmong xs b) same k);
@@ -171,7 +170,7 @@ replaced land w root chains c front more n value h filled = changed land w root 
         (blocks_apart land b n.block i 2 (own_part land w root chains c front more n h b (among_left (blocks front) (n.block ∷ blocks more) b k))
         (own_part land w root chains c front more n h n.block (among_here (blocks front) (blocks more) n.block))
         (λ e. (once_fewer (blocks front) (blocks more) n.block (once_parts land w root chains c front more n h)).1
-            (among_left (blocks front) (blocks more) n.block (subst (IsAmong (blocks front)) e k))) small (omega arith))
+        (among_left (blocks front) (blocks more) n.block (subst (IsAmong (blocks front)) e k))) small (omega arith))
 
     same : blocks (front ++ with_value value n ∷ more) ≡ blocks (chains c)
     same = blocks-append front (with_value value n ∷ more) ∙ sym (in_chain_of land w root chains c front more n h)
@@ -180,7 +179,6 @@ replaced land w root chains c front more n value h filled = changed land w root 
     same_keys = keys-append front (with_value value n ∷ more) ∙ sym (ap keys h.parts ∙ keys-append front (n ∷ more))
 
 -- ---- a node less
-
 
 own_fewer : (land : Land) (n b : ℕ) → IsOwn land b → b ≢ n → IsOwn (with_owner n 0 land) b
 own_fewer land n b own ne = (
@@ -210,8 +208,8 @@ removed land w root chains c front more n h = changed land w root chains c (with
       (λ b k ne. put_other link (w (n.block + 3)) (b + 3) w ne)
       (λ ne. put_other link (w (n.block + 3)) at w ne)
       (subst (λ l. IsChain u l more) (sym (put_same link (w (n.block + 3)) w))
-          (chain_kept w u (w (n.block + 3)) more
-          (λ b i k pos small. put_other link (w (n.block + 3)) (b + i) w (λ e. link_apart land w root chains c front more n h b i (inr k) (omega (arith, small)) (sym e))) behind.3));
+      (chain_kept w u (w (n.block + 3)) more
+      (λ b i k pos small. put_other link (w (n.block + 3)) (b + i) w (λ e. link_apart land w root chains c front more n h b i (inr k) (omega (arith, small)) (sym e))) behind.3));
   kept = λ b own out. own_fewer land n.block b own (λ e. out (subst (IsAmong (blocks (chains c))) (sym e) here));
   own = λ b k. own_fewer land n.block b (own_part land w root chains c front more n h b (among_more (blocks front) (blocks more) n.block b (joined b k)))
       (λ e. fewer.1 (subst (IsAmong (blocks front ++ blocks more)) e (joined b k)));
@@ -221,7 +219,7 @@ removed land w root chains c front more n h = changed land w root chains c (with
       let was = own_before land n.block b own in
       ⊎_elim
       (λ k. inr (subst (λ xs. IsAmong xs b) (sym (blocks-append front more))
-          (among_fewer (blocks front) (blocks more) n.block b (subst (λ xs. IsAmong xs b) (in_chain_of land w root chains c front more n h) k) was.1)))
+      (among_fewer (blocks front) (blocks more) n.block b (subst (λ xs. IsAmong xs b) (in_chain_of land w root chains c front more n h) k) was.1)))
       (λ out. inl (was.0, out))
       (decide (blocks (chains c)) b);
   in_chain = (let each = subst (EachNode (λ m. chain_number m.key ≡ c)) h.parts (h.placed.in_chain c h.below) in
@@ -288,10 +286,10 @@ holds_replaced s root key value contents holds directory link node place some fi
     let is = replaced s.land s.word root holds.chains c place.front at.more n value parts filled in
     subst (λ b. Holds (written (b + 2) value s) root (with_pair key value contents)) (sym at.block)
     (entries_put s root key value contents holds (written (n.block + 2) value s) (place.front ++ with_value value n ∷ at.more)
-        (of_placed s.land (put_word (n.block + 2) value s.word) root (put_chain c (place.front ++ with_value value n ∷ at.more) holds.chains) is)
-        (λ k. lookup_replaced k place.front at.more n (with_value value n) (passed_first key place.front n at.key_is place.passed) refl
-            ∙ ap (λ x. changed_at x (Some value) k (lookup k (pairs (place.front ++ n ∷ at.more)))) at.key_is
-            ∙ ap (λ ms. changed_at key (Some value) k (lookup k (pairs ms))) (sym parts.parts)))
+    (of_placed s.land (put_word (n.block + 2) value s.word) root (put_chain c (place.front ++ with_value value n ∷ at.more) holds.chains) is)
+    (λ k. lookup_replaced k place.front at.more n (with_value value n) (passed_first key place.front n at.key_is place.passed) refl
+    ∙ ap (λ x. changed_at x (Some value) k (lookup k (pairs (place.front ++ n ∷ at.more)))) at.key_is
+    ∙ ap (λ ms. changed_at key (Some value) k (lookup k (pairs ms))) (sym parts.parts)))
 
 absent_keys : (key : ℕ) (ns : List Node) → IsAbsent key (keys ns) → HasNotKey key ns
 absent_keys key [] h = tt
@@ -313,21 +311,21 @@ holds_removed s root key contents holds directory link node place some =
     let is = removed s.land s.word root holds.chains c place.front at.more n parts in
     let there : directory ≢ 0 = (λ z. at.directory (sym place.directory_is ∙ z)) in
     let link_at : link ≡ link_behind (slot_of s.word root c) place.front =
-        place.link_is there ∙ ap (λ x. link_behind (chain_word x c) place.front) place.directory_is in
+    place.link_is there ∙ ap (λ x. link_behind (chain_word x c) place.front) place.directory_is in
     let u : Space = given n.block (written (link_behind (slot_of s.word root c) place.front) (s.word (n.block + 3)) s) in
     subst (λ b. Holds (given b (written link (s.word (b + 3)) s)) root (without_key key contents)) (sym at.block)
     (subst (λ l. Holds (given n.block (written l (s.word (n.block + 3)) s)) root (without_key key contents)) (sym link_at)
-        (record {
-          chains = put_chain c (place.front ++ at.more) holds.chains;
-          is = of_placed u.land u.word root (put_chain c (place.front ++ at.more) holds.chains) is;
-          ascending = ascending-without_key key contents holds.ascending;
-          lookup_is = lookup_changed key None contents (without_key key contents) (place.front ++ at.more) holds.chains holds.lookup_is
-              (λ k. lookup-without_key k key contents holds.ascending)
-              (λ k. lookup_removed k place.front at.more n (passed_first key place.front n at.key_is place.passed)
-                  (not_behind s.land s.word root holds.chains c place.front at.more n parts)
-                  ∙ ap (λ x. changed_at x None k (lookup k (pairs (place.front ++ n ∷ at.more)))) at.key_is
-                  ∙ ap (λ ms. changed_at key None k (lookup k (pairs ms))) (sym parts.parts));
-        }))
+    (record {
+      chains = put_chain c (place.front ++ at.more) holds.chains;
+      is = of_placed u.land u.word root (put_chain c (place.front ++ at.more) holds.chains) is;
+      ascending = ascending-without_key key contents holds.ascending;
+      lookup_is = lookup_changed key None contents (without_key key contents) (place.front ++ at.more) holds.chains holds.lookup_is
+          (λ k. lookup-without_key k key contents holds.ascending)
+          (λ k. lookup_removed k place.front at.more n (passed_first key place.front n at.key_is place.passed)
+          (not_behind s.land s.word root holds.chains c place.front at.more n parts)
+          ∙ ap (λ x. changed_at x None k (lookup k (pairs (place.front ++ n ∷ at.more)))) at.key_is
+          ∙ ap (λ ms. changed_at key None k (lookup k (pairs ms))) (sym parts.parts));
+    }))
 
 -- the link to a node is a data word
 pub link_held : (s : Space) (root key : ℕ) (chains : Chains) (directory link node : ℕ) → IsHash s.land s.word root chains
@@ -338,14 +336,14 @@ link_held s root key chains directory link node h place some =
     let parts = parts_at s root key chains directory link node h place at in
     let there : directory ≢ 0 = (λ z. at.directory (sym place.directory_is ∙ z)) in
     let link_at : link ≡ link_behind (slot_of s.word root c) place.front =
-        place.link_is there ∙ ap (λ x. link_behind (chain_word x c) place.front) place.directory_is in
+    place.link_is there ∙ ap (λ x. link_behind (chain_word x c) place.front) place.directory_is in
     subst (IsDataWord s.land) (sym link_at) (⊎_elim
-        (λ first. subst (IsDataWord s.land) (sym first)
-            (slot_held s.land (directory_of s.word root c) c (parts.placed.own_directory (c / 8) (index_below c (chain_below key)) at.directory)))
-        (λ behind. subst (IsDataWord s.land) (sym behind.2)
-            (data_word s.land behind.0 3 (own_part s.land s.word root chains c place.front at.more at.first parts behind.0
-                (among_left (blocks place.front) (at.first.block ∷ blocks at.more) behind.0 behind.1)) (omega arith) (omega arith)))
-        (link_where (slot_of s.word root c) place.front))
+    (λ first. subst (IsDataWord s.land) (sym first)
+    (slot_held s.land (directory_of s.word root c) c (parts.placed.own_directory (c / 8) (index_below c (chain_below key)) at.directory)))
+    (λ behind. subst (IsDataWord s.land) (sym behind.2)
+    (data_word s.land behind.0 3 (own_part s.land s.word root chains c place.front at.more at.first parts behind.0
+    (among_left (blocks place.front) (at.first.block ∷ blocks at.more) behind.0 behind.1)) (omega arith) (omega arith)))
+    (link_where (slot_of s.word root c) place.front))
 
 pub gives_one : (s u : Space) (node link x : ℕ) → IsOwn s.land node → u ≡ given node (written link x s) → GivesBlock s u
 gives_one s u node link x own is = record {

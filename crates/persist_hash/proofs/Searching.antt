@@ -1,11 +1,10 @@
 -- A search in a chain.
-use Rattle.std.proofs.Common.{◌≡◌, ◌≢◌, ◌⊎◌, inl, inr, ⊎_elim, ℕ, ◌+◌, ◌^◌, ◌<◌, ◌≤◌, List, [], ◌∷◌, ◌++◌, length, refl, ap, sym, ◌∙◌, arith, subst}
+use Rattle.std.proofs.Common.{◌≡◌, ◌≢◌, ◌⊎◌, inl, inr, ℕ, ◌+◌, ◌^◌, ◌<◌, ◌≤◌, List, [], ◌∷◌, ◌++◌, length, refl, ap, sym, ◌∙◌, arith, subst}
 use Rattle.persist_model.specs.Region.{Words}
-use Rattle.lane_traits.specs.Device.{MAX_WORDS}
 use Rattle.lane_traits.specs.Space.{Land, Space, IsOwn, IsDataWord}
-use Rattle.region_layout.specs.HashMap.{Node, IsChain, EachNode}
-use Rattle.persist_hash.specs.Chains.{link_behind, AreOwnNodes, HasChain, BeginsChain, HasNotKey, IsSought, IsFound, IsHead, nodes_left}
-use Rattle.persist_hash.proofs.ChainLaws.{each_joined, each_left, each_right, nodes-assoc, chain_behind, nodes_left-is}
+use Rattle.region_layout.specs.HashMap.{Node, IsChain}
+use Rattle.persist_hash.specs.Chains.{link_behind, AreOwnNodes, HasChain, BeginsChain, IsSought, IsFound, IsHead, nodes_left}
+use Rattle.persist_hash.proofs.ChainLaws.{each_joined, each_right, nodes-assoc, chain_behind, nodes_left-is}
 
 pub data_word : (land : Land) (b i : ℕ) → IsOwn land b → 0 < i → i < 16 → IsDataWord land (b + i)
 data_word land b i own above below = record { block = b; index = i; own = own; place = refl; above = above; below = below }
@@ -81,7 +80,7 @@ sought_next s at key link node next sought positive other next_is =
     let at_node = sought_node s at key link node sought positive in
     let first = at_node.first in
     let joined : (sought.front ++ first ∷ []) ++ at_node.more ≡ sought.front ++ sought.rest =
-        nodes-assoc sought.front (first ∷ []) at_node.more ∙ ap (λ xs. sought.front ++ xs) (sym at_node.is) in
+    nodes-assoc sought.front (first ∷ []) at_node.more ∙ ap (λ xs. sought.front ++ xs) (sym at_node.is) in
     record {
       front = sought.front ++ first ∷ [];
       rest = at_node.more;

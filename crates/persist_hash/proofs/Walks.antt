@@ -1,27 +1,22 @@
 -- A walk: the pairs of all nodes, sorted, are the entries.
-use Rattle.std.proofs.Common.{◌≡◌, ◌≢◌, ◌⊎◌, inl, inr, ⊎_elim, ℕ, zero, suc, ◌+◌, ◌^◌, ◌<◌, ◌≤◌, Bool, true, false, if◌then◌else◌, ◌==◌, List, [], ◌∷◌, ◌++◌, length, get_or, map, Option, Some, None, refl, ap, sym, ◌∙◌, arith, subst, add-one}
+use Rattle.std.proofs.Common.{◌≡◌, ◌≢◌, ◌⊎◌, inl, inr, ⊎_elim, ℕ, zero, suc, ◌+◌, ◌<◌, ◌≤◌, Bool, true, false, if◌then◌else◌, ◌==◌, List, [], ◌∷◌, ◌++◌, length, get_or, Option, Some, None, refl, ap, sym, ◌∙◌, arith, subst, add-one}
 use Rattle.std.specs.List.{Contains, IsDistinct, AllByRecursion}
 use Rattle.std.specs.List.Sorted.{IsPermutation, IsNonDecreasingBy}
 use Rattle.std.proofs.lemmas.Bool.Decides.{nat_tests, eqb_tells}
 use Rattle.std.proofs.lemmas.Bool.{cases_lt}
 use Rattle.std.proofs.lemmas.List.Sorted.{Contains-permutation, IsPermutation-sym}
 use Rattle.std.proofs.lemmas.Map.Keys.{IsDistinct-IsPermutation}
-use Rattle.persist_model.specs.Region.{Words}
 use Rattle.persist_model.specs.Records.{IsAmong}
 use Rattle.persist_model.specs.Chain.{HasNoRepeats, IsAbsent}
-use Rattle.lane_traits.specs.Device.{MAX_WORDS}
-use Rattle.lane_traits.specs.Space.{Land, Space, IsOwn}
+use Rattle.lane_traits.specs.Space.{Space}
 use Rattle.lane_traits.specs.declared.words.Pair.{Pair}
-use Rattle.lane_traits.proofs.Among.{of_absent}
 use Rattle.region_layout.specs.FiniteMap.{FiniteMap, lookup, AreAfter, IsAscending}
-use Rattle.region_layout.specs.HashMap.{Node, Chains, CHAINS, IsChain, EachNode, IsHash, keys, pairs, chain_number, directory_of, first_link, blocks}
-use Rattle.persist_hash.specs.Chains.{AreOwnNodes, HasHash, nodes_left}
+use Rattle.region_layout.specs.HashMap.{Node, Chains, EachNode, keys, pairs, chain_number}
 use Rattle.persist_hash.specs.Calls.{Holds}
-use Rattle.persist_hash.specs.Walk.{entry_of, entries_of, node_pair, node_pairs, nodes_up_to, IsWalked}
-use Rattle.persist_hash.proofs.Lists.{among_left, among_right, among_either, once_joined, at_most, each_of}
-use Rattle.persist_hash.proofs.ChainLaws.{chain_once, own_of_blocks, nodes_left-is, nodes-assoc, each_right, keys-append}
-use Rattle.persist_hash.proofs.Blocks.{IsPlaced, placed_of}
-use Rattle.persist_hash.proofs.Places.{chain_below, own_chain, length-blocks}
+use Rattle.persist_hash.specs.Walk.{entries_of, node_pair, node_pairs, nodes_up_to}
+use Rattle.persist_hash.proofs.Lists.{among_either, once_joined}
+use Rattle.persist_hash.proofs.ChainLaws.{keys-append}
+use Rattle.persist_hash.proofs.Places.{chain_below}
 
 -- ---- one list for each map
 
@@ -55,10 +50,10 @@ same_entries (p ∷ ps) (q ∷ qs) ha hb same = step (trichotomy p.0 q.0) (λ re
         let second : p.1 ≡ q.1 = cc in
         let both : p ≡ q = λ i. (e i, second i) in
         ap (λ (x : ℕ × ℕ). x ∷ ps) both ∙ ap (λ xs. q ∷ xs) (again (λ k. ⊎_elim
-            (λ here. let at : k ≡ p.0 = here.1 in
-                after_none k ps (subst (λ x. AreAfter x ps) (sym at) ha.0) ∙ sym (after_none k qs (subst (λ x. AreAfter x qs) (sym (at ∙ e)) hb.0)))
-            (λ there. past k there.0 (let ne = there.1 in λ f. ne (f ∙ sym e)))
-            (eqb_tells k p.0)))
+        (λ here. let at : k ≡ p.0 = here.1 in
+        after_none k ps (subst (λ x. AreAfter x ps) (sym at) ha.0) ∙ sym (after_none k qs (subst (λ x. AreAfter x qs) (sym (at ∙ e)) hb.0)))
+        (λ there. past k there.0 (let ne = there.1 in λ f. ne (f ∙ sym e)))
+        (eqb_tells k p.0)))
       where
         past : (k : ℕ) → (k == p.0) ≡ false → k ≢ q.0 → lookup k ps ≡ lookup k qs
         past k off ne =
@@ -76,10 +71,10 @@ among_of_lookup : (k v : ℕ) (m : FiniteMap) → lookup k m ≡ Some v → IsAm
 among_of_lookup k v [] e = absurd (let q = e in cc)
 among_of_lookup k v (p ∷ ps) e = ⊎_elim
     (λ here.
-        let at : Some p.1 ≡ Some v = sym (ap (λ t. if t then Some p.1 else lookup k ps) here.0) ∙ e in
-        let second : p.1 ≡ v = cc in
-        let first : k ≡ p.0 = here.1 in
-        inl (λ i. (first i, sym second i)))
+    let at : Some p.1 ≡ Some v = sym (ap (λ t. if t then Some p.1 else lookup k ps) here.0) ∙ e in
+    let second : p.1 ≡ v = cc in
+    let first : k ≡ p.0 = here.1 in
+    inl (λ i. (first i, sym second i)))
     (λ there. inr (among_of_lookup k v ps (sym (ap (λ t. if t then Some p.1 else lookup k ps) there.0) ∙ e)))
     (eqb_tells k p.0)
 
@@ -232,9 +227,9 @@ all_lookups (suc n) chains k le h =
     record {
       within = λ lt. ap (lookup k) split ∙ ⊎_elim
           (λ here. let e : chain_number k ≡ n = here.1 in
-              lookup_back k (pairs (nodes_up_to n chains)) (pairs (chains n)) (again.outside (omega (arith, e))) ∙ ap (λ c. lookup k (pairs (chains c))) (sym e))
+          lookup_back k (pairs (nodes_up_to n chains)) (pairs (chains n)) (again.outside (omega (arith, e))) ∙ ap (λ c. lookup k (pairs (chains c))) (sym e))
           (λ there. let ne = there.1 in
-              lookup_front k (pairs (nodes_up_to n chains)) (pairs (chains n)) (other_chain k n (chains n) (h n (omega (arith, le))) ne) ∙ again.within (omega (arith, lt, ne)))
+          lookup_front k (pairs (nodes_up_to n chains)) (pairs (chains n)) (other_chain k n (chains n) (h n (omega (arith, le))) ne) ∙ again.within (omega (arith, lt, ne)))
           (eqb_tells (chain_number k) n);
       outside = λ ge. ap (lookup k) split
           ∙ lookup_back k (pairs (nodes_up_to n chains)) (pairs (chains n)) (again.outside (omega (arith, ge)))
@@ -279,4 +274,4 @@ walked_all s root contents holds found sorted is p rising =
     (subst (λ xs. IsDistinct same_key xs) (sym is) (distinct_pairs (nodes_up_to 64 holds.chains) (keys_apart 64 holds.chains (omega arith) up holds.is.keys_once)))
     holds.ascending
     (λ k. holds.lookup_is k ∙ sym (ap (λ xs. lookup k (entries_of xs)) is ∙ ap (lookup k) (entries_pairs (nodes_up_to 64 holds.chains))
-        ∙ (all_lookups 64 holds.chains k (omega arith) up).within (chain_below k)))
+    ∙ (all_lookups 64 holds.chains k (omega arith) up).within (chain_below k)))

@@ -1,5 +1,5 @@
 -- A new node in a chain, and a new directory block.
-use Rattle.std.specs.Prelude.{◌≡◌, ◌≢◌, ℕ, ◌+◌, ◌<◌, ◌≤◌, if◌then◌else◌, ◌==◌}
+use Rattle.std.specs.Prelude.{◌≡◌, ◌≢◌, ℕ, ◌+◌, ◌<◌, if◌then◌else◌, ◌==◌}
 use Rattle.persist_model.specs.Records.{IsAmong}
 use Rattle.lane_traits.specs.Space.{Space, IsBlock, IsOwn, taken, written}
 

@@ -1,7 +1,6 @@
 -- A chain of nodes as a search sees it.
-use Rattle.std.specs.Prelude.{◌≡◌, ◌≢◌, ◌⊎◌, ℕ, zero, suc, ◌+◌, ◌<◌, ◌≤◌, List, [], ◌∷◌, ◌++◌, length, if◌then◌else◌, ◌==◌}
+use Rattle.std.specs.Prelude.{◌≡◌, ◌≢◌, ℕ, zero, suc, ◌+◌, ◌≤◌, List, [], ◌∷◌, ◌++◌, length, if◌then◌else◌, ◌==◌}
 use Rattle.persist_model.specs.Region.{Words}
-use Rattle.persist_model.specs.Records.{IsAmong}
 use Rattle.lane_traits.specs.Device.{MAX_WORDS}
 use Rattle.lane_traits.specs.Space.{Land, Space, IsOwn, IsDataWord}
 use Rattle.region_layout.specs.HashMap.{Node, Chains, IsChain, EachNode, IsHash, chain_number, chain_word, directory_of}

@@ -1,5 +1,5 @@
 -- What is known of words while they are read as a hash.
-use Rattle.std.specs.Prelude.{◌≡◌, ◌≢◌, ◌⊎◌, ℕ, zero, suc, ◌+◌, ◌*◌, ◌/◌, ◌%◌, ◌<◌, ◌≤◌, Bool, true, false, ◌||◌, List, [], ◌∷◌, ◌++◌, length, slice_index, slice_index_or, if◌then◌else◌, ◌==◌}
+use Rattle.std.specs.Prelude.{◌≡◌, ◌≢◌, ℕ, ◌+◌, ◌*◌, ◌<◌, ◌≤◌, Bool, false, ◌||◌, List, [], ◌∷◌, length, slice_index, slice_index_or, if◌then◌else◌, ◌==◌}
 use Rattle.persist_model.specs.Region.{Words}
 use Rattle.persist_model.specs.Records.{IsAmong}
 use Rattle.persist_model.specs.Chain.{HasNoRepeats}
@@ -7,8 +7,8 @@ use Rattle.lane_traits.specs.Device.{MAX_WORDS}
 use Rattle.lane_traits.specs.Space.{Land, IsOwn}
 use Rattle.lane_traits.specs.Draft.{is_among}
 use Rattle.region_layout.specs.FiniteMap.{FiniteMap}
-use Rattle.region_layout.specs.HeapBlocks.{land_of, root_of}
-use Rattle.region_layout.specs.HashMap.{Node, Chains, CHAINS, IsChain, EachNode, IsHash, IsHashMap, blocks, keys, directories, nodes, first_link, chain_number}
+use Rattle.region_layout.specs.HeapBlocks.{land_of}
+use Rattle.region_layout.specs.HashMap.{Node, Chains, IsChain, EachNode, IsHash, IsHashMap, blocks, keys, directories, nodes, first_link, chain_number}
 use Rattle.persist_hash.specs.Chains.{chain_from}
 
 -- the words of a heap, and how many blocks it has

@@ -8,11 +8,7 @@ use crate::fields::{field, set};
 use lane_traits::{Words, WordsRefusal};
 
 // The value of a node is then this one. The answer is the value before.
-pub(crate) fn replace<W: Words>(
-    words: &mut W,
-    node: u32,
-    value: u64,
-) -> Result<u64, WordsRefusal>
+pub(crate) fn replace<W: Words>(words: &mut W, node: u32, value: u64) -> Result<u64, WordsRefusal>
     requires { IsOwn (W.space words.old).land node }
     ensures before { IfOk result (λ before. before ≡ (W.space words.old).word (node + 2)) }
     ensures made { OnOk result (W.space words.new ≡ written (node + 2) value (W.space words.old)) }

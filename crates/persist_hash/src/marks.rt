@@ -43,12 +43,7 @@ pub(crate) fn unclaimed(alloc: Global, count: u32) -> Result<Vec<bool>, AllocErr
 }
 
 // Claims a block of the structure that isn't claimed yet.
-pub(crate) fn claim<L: Look>(
-    words: &L,
-    blocks: &Blocks,
-    marks: &mut [bool],
-    at: u64,
-) -> bool
+pub(crate) fn claim<L: Look>(words: &L, blocks: &Blocks, marks: &mut [bool], at: u64) -> bool
     requires heap { IsHeap (L.words words.now) blocks.now.heap blocks.now.count }
     requires long { length marks.old ≡ blocks.now.count }
     ensures own { IsTrue result → IsOwn (land_in (L.words words.now) blocks.now.heap blocks.now.structure) at }
@@ -72,12 +67,7 @@ pub(crate) fn claim<L: Look>(
 }
 
 // Claims what a link leads to, if it isn't 0.
-pub(crate) fn claim_link<L: Look>(
-    words: &L,
-    blocks: &Blocks,
-    marks: &mut [bool],
-    link: u64,
-) -> bool
+pub(crate) fn claim_link<L: Look>(words: &L, blocks: &Blocks, marks: &mut [bool], link: u64) -> bool
     requires heap { IsHeap (L.words words.now) blocks.now.heap blocks.now.count }
     requires long { length marks.old ≡ blocks.now.count }
     ensures own { IsTrue result → link ≢ 0 → IsOwn (land_in (L.words words.now) blocks.now.heap blocks.now.structure) link }

@@ -165,12 +165,7 @@ fn is_map_by<L: Look>(
 }
 
 // Whether the words of the structure are a map.
-fn is_map<L: Look>(
-    alloc: Global,
-    words: &L,
-    blocks: &Blocks,
-    root: u32,
-) -> Result<bool, AllocError>
+fn is_map<L: Look>(alloc: Global, words: &L, blocks: &Blocks, root: u32) -> Result<bool, AllocError>
     requires heap { IsHeap (L.words words.now) blocks.now.heap blocks.now.count }
     ensures sound { IfOk result (λ sound. IsTrue sound
         → HasHashMap (land_in (L.words words.now) blocks.now.heap blocks.now.structure) (slice_index (L.words words.now)) root) }

@@ -16,15 +16,15 @@ pub struct Blank {
 
 impl Reads for Blank {
     ghost space = { λ blank. record {
-        land = record {
-            heap = 16;
-            structure = 0;
-            owner = λ b. if nat_lt b (16 + 16 * blank.blocks) then 1 else 0;
-            start = record { word = λ a. 0; owner = λ b. if nat_lt b (16 + 16 * blank.blocks) then 1 else 0 };
-        };
-        word = λ a. 0;
-        spare = [];
-        writes = 0;
+      land = record {
+        heap = 16;
+        structure = 0;
+        owner = λ b. if nat_lt b (16 + 16 * blank.blocks) then 1 else 0;
+        start = record { word = λ a. 0; owner = λ b. if nat_lt b (16 + 16 * blank.blocks) then 1 else 0 };
+      };
+      word = λ a. 0;
+      spare = [];
+      writes = 0;
     } };
 
     ghost readable = { λ blank a. true };

@@ -27,7 +27,11 @@ impl Look for Row {
 
 // The words of a region with one hash, of which some are then changed: the root block stands at 96, a directory block at
 // 112, and in it chain 39 with key 1 at 128 and key 56 at 144.
-fn verdict(rt: &impl Abort, alloc: Global, changes: &[(usize, u64)]) -> Result<Result<(), Broken>, Fail> {
+fn verdict(
+    rt: &impl Abort,
+    alloc: Global,
+    changes: &[(usize, u64)],
+) -> Result<Result<(), Broken>, Fail> {
     let layout = Layout {
         policy: Policy::Force,
         cells: 1,
@@ -63,8 +67,14 @@ fn verdict(rt: &impl Abort, alloc: Global, changes: &[(usize, u64)]) -> Result<R
 #[test]
 fn each_kind_of_broken_map(rt: HostRuntime) -> Result<(), Fail> {
     assert_eq!(rt; verdict(&rt, rt.alloc(), &[])?, Ok(()));
-    assert_eq!(rt; verdict(&rt, rt.alloc(), &[(101, 0), (112, 0), (128, 0), (144, 0)])?, Ok(()));
-    assert_eq!(rt; verdict(&rt, rt.alloc(), &[(120, 0), (128, 0), (144, 0)])?, Ok(()));
+    assert_eq!(rt;
+        verdict(&rt, rt.alloc(), &[(101, 0), (112, 0), (128, 0), (144, 0)])?,
+        Ok(())
+    );
+    assert_eq!(rt;
+        verdict(&rt, rt.alloc(), &[(120, 0), (128, 0), (144, 0)])?,
+        Ok(())
+    );
     let broken: [(&str, &[(usize, u64)]); 20] = [
         ("the root is another's", &[(96, 2)]),
         ("a directory block is another's", &[(112, 2)]),
@@ -88,7 +98,11 @@ fn each_kind_of_broken_map(rt: HostRuntime) -> Result<(), Fail> {
         ("a block that isn't reached", &[(160, 1)]),
     ];
     for (what, changes) in broken {
-        assert_eq!(rt; verdict(&rt, rt.alloc(), changes)?, Err(Broken::At(96)), "{what}");
+        assert_eq!(rt;
+            verdict(&rt, rt.alloc(), changes)?,
+            Err(Broken::At(96)),
+            "{what}"
+        );
     }
     Ok(())
 }

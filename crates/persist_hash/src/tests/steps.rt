@@ -87,7 +87,13 @@ fn chains_of_several_keys(rt: HostRuntime) -> Result<(), Fail> {
     let want = [(0, 5), (1, 10), (TOP, TOP)];
     assert_eq!(rt; pairs.len(), want.len());
     for (pair, (key, value)) in pairs.as_slice().iter().zip(&want) {
-        assert_eq!(rt; *pair, Pair { key: *key, value: *value });
+        assert_eq!(rt;
+            *pair,
+            Pair {
+                key: *key,
+                value: *value
+            }
+        );
     }
     let drafted = words.finish();
     assert_eq!(rt; drafted.gives.len(), 3);

@@ -1,4 +1,4 @@
-use Rattle.std.proofs.Common.{◌≡◌, Err, sym, ◌∙◌}
+use Rattle.std.proofs.Common.{◌≡◌, Err}
 use Rattle.std.proofs.lemmas.Result.{err_from_is_err_and}
 use Rattle.lane_traits.specs.declared.words.WordsRefusal.TheVariants.{HeapFull}
 use Rattle.persist_hash.proofs.Adding.{few_left, one_taken}

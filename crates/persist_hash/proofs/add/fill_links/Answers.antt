@@ -1,4 +1,3 @@
-use Rattle.lane_traits.specs.Space.{Space}
 use Rattle.persist_hash.proofs.Adding.{fills_none, fills_more}
 use Rattle.persist_hash.proofs.add.fill_links.Goals as goal
 

@@ -1,4 +1,3 @@
-use Rattle.std.proofs.Common.{◌≡◌}
 use Rattle.persist_hash.specs.Adding.{FillsLinks}
 use Rattle.persist_hash.proofs.add.fill_links.Given as goal
 

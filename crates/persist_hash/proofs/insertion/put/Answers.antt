@@ -1,11 +1,10 @@
-use Rattle.std.proofs.Common.{◌≡◌, ◌≢◌, ◌+◌, ◌%◌, ◌/◌, ◌<◌, ◌≤◌, ℕ, Err, Some, [], length, refl, sym, ◌∙◌, ap, subst, arith}
+use Rattle.std.proofs.Common.{◌≡◌, ◌+◌, ◌%◌, ◌/◌, ◌<◌, Err, Some, length, sym, ◌∙◌, ap, subst, arith}
 use Rattle.std.proofs.lemmas.Result.{err_from_is_err_and}
 use Rattle.lane_traits.specs.Space.{Space, IsOwn, IsDataWord, written}
 use Rattle.lane_traits.specs.declared.words.WordsRefusal.TheVariants.{HeapFull}
 use Rattle.region_layout.specs.FiniteMap.{with_pair}
 use Rattle.region_layout.specs.HashMap.{chain_number, chain_word}
-use Rattle.persist_hash.specs.Chains.{HasHash}
-use Rattle.persist_hash.specs.Calls.{Holds, TakesBlocks, needed}
+use Rattle.persist_hash.specs.Calls.{Holds, TakesBlocks}
 use Rattle.persist_hash.specs.Adding.{AddsNode, AddsDirectory}
 use Rattle.persist_hash.proofs.Places.{has_hash, none_of, some_of, place_own, needs_none, needs_one, needs_two, directory_own, slot_held, chain_below}
 use Rattle.persist_hash.proofs.Adding.{one_can, two_can, takes_none, others_written, others_added, others_opened}
@@ -28,7 +27,7 @@ replace-requires g c =
 pub returns-in_err-before-clause-none : goal.returns-in_err-before-clause-none
 returns-in_err-before-clause-none g c = λ contents holds empty some.
     let none = needs_none (g.W.Reads.space c.args.words.now) c.args.root c.args.key contents holds _ _ _
-        (c.place_of-place.ensures.place holds.chains holds.is) c.if-place-ne0.true in
+    (c.place_of-place.ensures.place holds.chains holds.is) c.if-place-ne0.true in
     absurd (omega (arith, none, some))
 
 pub returns-then-place-ne0-clause-before : goal.returns-then-place-ne0-clause-before
@@ -55,13 +54,13 @@ returns-then-place-ne0-clause-takes g c = λ contents holds.
 pub returns-then-place-ne0-clause-enough : goal.returns-then-place-ne0-clause-enough
 returns-then-place-ne0-clause-enough g c = λ contents holds.
     let none = needs_none (g.W.Reads.space c.args.words.now) c.args.root c.args.key contents holds _ _ _
-        (c.place_of-place.ensures.place holds.chains holds.is) c.if-place-ne0.true in
+    (c.place_of-place.ensures.place holds.chains holds.is) c.if-place-ne0.true in
     omega (arith, none)
 
 pub returns-then-place-ne0-clause-none : goal.returns-then-place-ne0-clause-none
 returns-then-place-ne0-clause-none g c = λ contents holds empty some.
     let none = needs_none (g.W.Reads.space c.args.words.now) c.args.root c.args.key contents holds _ _ _
-        (c.place_of-place.ensures.place holds.chains holds.is) c.if-place-ne0.true in
+    (c.place_of-place.ensures.place holds.chains holds.is) c.if-place-ne0.true in
     absurd (omega (arith, none, some))
 
 -- ---- its chain has no directory block
@@ -76,7 +75,7 @@ returns-in_err-add_directory-clause-full g c = λ h contents holds.
     let few = c.add_directory.ensures.full refused in
     let less = subst (λ (u : Space). length u.spare < 2) c.place_of-place.ensures.same few in
     let two = needs_two (g.W.Reads.space c.args.words.now) c.args.root c.args.key contents holds _ _ _
-        (c.place_of-place.ensures.place holds.chains holds.is) c.if-place-ne0.false c.if-place-eq0.true in
+    (c.place_of-place.ensures.place holds.chains holds.is) c.if-place-ne0.false c.if-place-eq0.true in
     omega (arith, less, two)
 
 pub returns-then-place-eq0-clause-before : goal.returns-then-place-eq0-clause-before
@@ -150,7 +149,7 @@ returns-in_err-add-clause-full g c = λ h contents holds.
     let empty = ap (λ (u : Space). u.spare) (sym c.place_of-place.ensures.same) ∙ c.add.ensures.full.0 refused in
     let long = ap length empty in
     let one = needs_one (g.W.Reads.space c.args.words.now) c.args.root c.args.key contents holds _ _ _
-        (c.place_of-place.ensures.place holds.chains holds.is) c.if-place-ne0.false c.if-place-eq0.false in
+    (c.place_of-place.ensures.place holds.chains holds.is) c.if-place-ne0.false c.if-place-eq0.false in
     omega (arith, long, one)
 
 pub returns-clause-before : goal.returns-clause-before

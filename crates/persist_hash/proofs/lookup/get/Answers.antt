@@ -1,7 +1,5 @@
-use Rattle.std.proofs.Common.{◌≡◌, ◌≢◌, ◌+◌, sym, ◌∙◌, ap, subst, Some}
+use Rattle.std.proofs.Common.{◌+◌, sym, ◌∙◌, ap, subst, Some}
 use Rattle.lane_traits.specs.Space.{Space, IsOwn}
-use Rattle.region_layout.specs.HashMap.{chain_number}
-use Rattle.persist_hash.specs.Chains.{HasHash}
 use Rattle.persist_hash.proofs.Places.{has_hash, none_of, some_of, place_own}
 use Rattle.persist_hash.proofs.lookup.get.Goals as goal
 

@@ -1,7 +1,3 @@
-use Rattle.std.proofs.Common.{◌≡◌, ◌≢◌, ◌+◌, sym, ◌∙◌, ap, subst, Some}
-use Rattle.lane_traits.specs.Space.{Space, IsOwn}
-use Rattle.region_layout.specs.HashMap.{chain_number}
-use Rattle.persist_hash.specs.Chains.{HasHash}
 use Rattle.persist_hash.proofs.Places.{has_hash, needs_none, needs_one, needs_two}
 use Rattle.persist_hash.proofs.lookup.needs.Goals as goal
 

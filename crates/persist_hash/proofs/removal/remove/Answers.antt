@@ -1,7 +1,7 @@
-use Rattle.std.proofs.Common.{◌≡◌, ◌≢◌, ◌+◌, Some, refl, sym, ◌∙◌, ap, subst, arith}
-use Rattle.lane_traits.specs.Space.{Space, IsOwn, IsDataWord, written, given}
-use Rattle.region_layout.specs.FiniteMap.{FiniteMap, lookup, without_key}
-use Rattle.persist_hash.specs.Calls.{Holds, GivesBlock}
+use Rattle.std.proofs.Common.{◌+◌, Some, sym, ◌∙◌, ap, subst}
+use Rattle.lane_traits.specs.Space.{Space, IsOwn, IsDataWord}
+use Rattle.region_layout.specs.FiniteMap.{FiniteMap, without_key}
+use Rattle.persist_hash.specs.Calls.{Holds}
 use Rattle.persist_hash.proofs.Places.{has_hash, none_of, some_of, place_own}
 use Rattle.persist_hash.proofs.Entries.{without_absent}
 use Rattle.persist_hash.proofs.Adding.{others_same, others_unlinked}
@@ -19,7 +19,7 @@ returns-then-place-eq0-clause-before g c = λ contents holds.
 pub returns-then-place-eq0-clause-contents : goal.returns-then-place-eq0-clause-contents
 returns-then-place-eq0-clause-contents g c = λ contents holds.
     let none = none_of (g.W.Reads.space c.args.words.now) c.args.root c.args.key contents holds _ _ _
-        (c.place_of-place.ensures.place holds.chains holds.is) c.if-place-eq0.true in
+    (c.place_of-place.ensures.place holds.chains holds.is) c.if-place-eq0.true in
     subst (λ (u : Space). Holds u c.args.root (without_key c.args.key contents)) (sym c.place_of-place.ensures.same)
     (subst (λ (m : FiniteMap). Holds (g.W.Reads.space c.args.words.now) c.args.root m) (sym (without_absent c.args.key contents (sym none))) holds)
 

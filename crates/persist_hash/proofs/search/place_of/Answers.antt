@@ -1,5 +1,5 @@
-use Rattle.std.proofs.Common.{◌≡◌, ◌≢◌, ◌<◌, ◌+◌, ◌%◌, ℕ, sym, ◌∙◌, ap, subst, arith, refl}
-use Rattle.lane_traits.specs.Space.{Space, IsOwn, IsDataWord}
+use Rattle.std.proofs.Common.{◌+◌, ◌%◌, sym, ◌∙◌, subst, arith, refl}
+use Rattle.lane_traits.specs.Space.{Space}
 use Rattle.region_layout.specs.HashMap.{directory_of, chain_word}
 use Rattle.persist_hash.specs.Chains.{HasChain, IsFound}
 use Rattle.persist_hash.proofs.Places.{directory_held, directory_fits, directory_own, begins, place_none, place_found}
@@ -24,7 +24,7 @@ overflow_add-directory g c =
     let s = g.W.Reads.space c.args.words.now in
     let e = c.link_at-directory.ensures.value in
     let f = (directory_own s.land s.word c.args.root c.requires.chains c.chain_of-chain.result c.requires.is c.chain_of-chain.ensures.below
-        (λ z. c.if-directory-eq0.false (e ∙ z))).0.fits in
+    (λ z. c.if-directory-eq0.false (e ∙ z))).0.fits in
     omega (arith, e, f)
 
 pub overflow_add-directory-2 : goal.overflow_add-directory-2
@@ -32,7 +32,7 @@ overflow_add-directory-2 g c =
     let s = g.W.Reads.space c.args.words.now in
     let e = c.link_at-directory.ensures.value in
     let f = (directory_own s.land s.word c.args.root c.requires.chains c.chain_of-chain.result c.requires.is c.chain_of-chain.ensures.below
-        (λ z. c.if-directory-eq0.false (e ∙ z))).0.fits in
+    (λ z. c.if-directory-eq0.false (e ∙ z))).0.fits in
     omega (arith, e, f)
 
 pub seek-found-requires : goal.seek-found-requires
@@ -41,7 +41,7 @@ seek-found-requires g c =
     let e = c.link_at-directory.ensures.value in
     let begin = begins s c.args.root c.requires.chains c.chain_of-chain.result c.requires.is c.chain_of-chain.ensures.below (λ z. c.if-directory-eq0.false (e ∙ z)) in
     let chain : HasChain s (chain_word (directory_of s.word c.args.root c.chain_of-chain.result) c.chain_of-chain.result) =
-        record { nodes = c.requires.chains c.chain_of-chain.result; begins = begin } in
+    record { nodes = c.requires.chains c.chain_of-chain.result; begins = begin } in
     subst (λ (u : Space). HasChain u (c.link_at-directory.result + 1 + c.chain_of-chain.result % 8)) (sym c.link_at-directory.ensures.same)
     (subst (λ x. HasChain s (x + 1 + c.chain_of-chain.result % 8)) (sym e) chain)
 

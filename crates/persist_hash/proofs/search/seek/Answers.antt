@@ -1,4 +1,4 @@
-use Rattle.std.proofs.Common.{◌≡◌, ◌≢◌, ◌⊎◌, ◌<◌, ◌+◌, ◌^◌, ℕ, sym, ◌∙◌, ap, subst, arith, refl}
+use Rattle.std.proofs.Common.{◌≡◌, ◌≢◌, ◌⊎◌, ◌<◌, ◌+◌, ◌^◌, sym, ◌∙◌, ap, subst, arith}
 use Rattle.lane_traits.specs.Space.{Space, IsOwn, IsDataWord}
 use Rattle.persist_hash.specs.Chains.{nodes_left}
 use Rattle.persist_hash.proofs.Searching.{data_word, sought_first, first_fits, sought_own, sought_next, next_fits, fewer_left, found_at}
@@ -20,7 +20,7 @@ passes-requires g c = λ some. subst (λ (u : Space). IsOwn u.land c.loop-link.n
 pub overflow_add-link : goal.overflow_add-link
 overflow_add-link g c =
     let own = sought_own (g.W.Reads.space c.args.words.now) c.args.first c.args.key c.loop-link.link c.loop-link.node c.loop-link.invariant.sought
-        (c.passes.ensures.on c.loop-link-test.true).0 in
+    (c.passes.ensures.on c.loop-link-test.true).0 in
     let f = own.0.fits in omega (arith, f)
 
 pub link_at-node-requires-in-loop-link-clause-held : goal.link_at-node-requires-in-loop-link-clause-held

@@ -1,7 +1,7 @@
-use Rattle.std.proofs.Common.{◌≡◌, ◌≢◌, ℕ, true, false, slice_index, sym, ◌∙◌, ap, subst, arith, ◌==◌}
+use Rattle.std.proofs.Common.{◌≡◌, true, false, sym, ◌∙◌, ap, subst, arith, ◌==◌}
 use Rattle.lane_traits.specs.Space.{IsOwn}
 use Rattle.persist_hash.proofs.Joined.{or_false}
-use Rattle.persist_hash.specs.Reading.{land_in, AreMarks, with_block, is_root, in_directories, in_chains}
+use Rattle.persist_hash.specs.Reading.{land_in, with_block, is_root}
 use Rattle.persist_hash.proofs.MarkLaws.{marks_same}
 use Rattle.persist_hash.proofs.Readings.{map_of_chains, no_hash_by_block}
 use Rattle.persist_hash.proofs.soundness.is_map_by.Goals as goal

@@ -1,8 +1,7 @@
-use Rattle.std.proofs.Common.{◌≡◌, ◌≢◌, ◌+◌, ◌<◌, ◌≤◌, ℕ, List, [], ◌∷◌, ◌++◌, length, Bool, slice_index, refl, sym, ◌∙◌, ap, subst, arith}
+use Rattle.std.proofs.Common.{◌≡◌, ◌+◌, ◌≤◌, ℕ, List, [], ◌∷◌, ◌++◌, length, slice_index, sym, ◌∙◌, ap, subst, arith}
 use Rattle.persist_model.specs.Records.{IsAmong}
-use Rattle.lane_traits.specs.Device.{MAX_WORDS}
-use Rattle.region_layout.specs.HashMap.{Node, keys, chain_number}
-use Rattle.persist_hash.specs.Reading.{land_in, AreMarks, with_block, in_chains, in_front, HasFront}
+use Rattle.region_layout.specs.HashMap.{keys, chain_number}
+use Rattle.persist_hash.specs.Reading.{land_in, with_block, in_chains, in_front}
 use Rattle.persist_hash.proofs.ChainLaws.{keys-append}
 use Rattle.persist_hash.proofs.MarkLaws.{marks_same}
 use Rattle.persist_hash.proofs.Readings.{front_first, front_more, node_read, marks_more, few_in_front, no_hash_by_node, no_hash_by_fields, chains_more, marks_of_chain, length-keys}
@@ -28,8 +27,8 @@ returns-then-not-fits-clause-broken g c = λ e.
     let node = c.loop-node.node in
     no_hash_by_fields (land_in (g.L.Look.words c.args.words.now) c.args.blocks.now.heap c.args.blocks.now.structure) (slice_index (g.L.Look.words c.args.words.now)) c.args.root c.args.chain node reading.front c.requires.chain reading.has c.loop-node-test.true
     (λ chain value. subst (λ (xs : List ℕ). IsAmong xs ((slice_index (g.L.Look.words c.args.words.now)) (node + 1))) (c.deref.ensures.value ∙ reading.keys_are)
-        (subst (IsAmong c.deref.result.now) c.word-key.ensures
-        (c.fits.ensures.bad c.if-not-fits.true (ap chain_number c.word-key.ensures ∙ chain) (subst (λ v. 1 ≤ v) (sym c.word.ensures) value))))
+    (subst (IsAmong c.deref.result.now) c.word-key.ensures
+    (c.fits.ensures.bad c.if-not-fits.true (ap chain_number c.word-key.ensures ∙ chain) (subst (λ v. 1 ≤ v) (sym c.word.ensures) value))))
 
 pub loop-node-preserved : goal.loop-node-preserved
 loop-node-preserved g c =

@@ -1,4 +1,4 @@
-use Rattle.std.proofs.Common.{◌≡◌, ◌-◌, ◌+◌, slice_index, length}
+use Rattle.std.proofs.Common.{◌-◌, ◌+◌, slice_index, length}
 use Rattle.lane_traits.specs.Device.{MAX_WORDS}
 use Rattle.persist_hash.specs.Reading.{land_in, IsReading}
 use Rattle.persist_hash.proofs.soundness.read_chain.Given as goal

@@ -1,5 +1,5 @@
-use Rattle.std.proofs.Common.{◌≡◌, slice_index}
-use Rattle.persist_hash.specs.Reading.{land_in, AreMarks, in_directories, in_chains}
+use Rattle.std.proofs.Common.{slice_index}
+use Rattle.persist_hash.specs.Reading.{land_in, in_directories, in_chains}
 use Rattle.persist_hash.proofs.MarkLaws.{marks_same}
 use Rattle.persist_hash.proofs.Readings.{no_chains_yet, directories_alone}
 use Rattle.persist_hash.proofs.soundness.read_chains.Goals as goal

@@ -1,4 +1,4 @@
-use Rattle.std.proofs.Common.{◌≡◌, slice_index, length}
+use Rattle.std.proofs.Common.{slice_index}
 use Rattle.persist_hash.specs.Reading.{land_in, AreMarks, in_chains, HasChains}
 use Rattle.persist_hash.proofs.soundness.read_chains.Given as goal
 

@@ -1,5 +1,5 @@
-use Rattle.std.proofs.Common.{◌≡◌, ◌≢◌, ◌+◌, ℕ, Bool, slice_index, sym, ◌∙◌, ap, subst, arith}
-use Rattle.persist_hash.specs.Reading.{land_in, AreMarks, with_link, is_root, in_directories}
+use Rattle.std.proofs.Common.{◌+◌, slice_index, ◌∙◌, ap, arith}
+use Rattle.persist_hash.specs.Reading.{land_in, with_link, is_root, in_directories}
 use Rattle.persist_hash.proofs.MarkLaws.{marks_same}
 use Rattle.persist_hash.proofs.Readings.{no_directories, root_alone, directories_more, directory_more, no_hash_by_directory}
 use Rattle.persist_hash.proofs.soundness.read_directories.Goals as goal

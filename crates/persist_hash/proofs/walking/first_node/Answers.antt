@@ -1,6 +1,6 @@
-use Rattle.std.proofs.Common.{◌≡◌, ◌≢◌, ◌<◌, ◌+◌, ◌^◌, ◌%◌, ℕ, sym, ◌∙◌, ap, subst, arith, refl}
+use Rattle.std.proofs.Common.{◌≢◌, ◌<◌, ◌+◌, ◌^◌, ◌%◌, sym, ◌∙◌, ap, subst, arith}
 use Rattle.lane_traits.specs.Space.{Space, IsOwn, IsDataWord}
-use Rattle.region_layout.specs.HashMap.{directory_of, chain_word, first_link}
+use Rattle.region_layout.specs.HashMap.{directory_of, first_link}
 use Rattle.persist_hash.proofs.Searching.{chain_fits}
 use Rattle.persist_hash.proofs.Places.{directory_held, directory_fits, directory_own, slot_held, first_is, none_is, own_chain}
 use Rattle.persist_hash.proofs.walking.first_node.Goals as goal
@@ -46,7 +46,7 @@ link_at-requires-clause-fits g c =
     let e = c.link_at-directory.ensures.value in
     let some : directory_of s.word c.args.root c.args.chain ≢ 0 = (λ z. c.if-directory-eq0.false (e ∙ z)) in
     let fits = chain_fits s.land s.word (first_link s.word c.args.root c.args.chain) (c.requires.hash.chains c.args.chain)
-        (own_chain s.land s.word c.args.root c.requires.hash.chains c.args.chain c.requires.hash.is c.requires.chain) (c.requires.hash.is.laid c.args.chain c.requires.chain) in
+    (own_chain s.land s.word c.args.root c.requires.hash.chains c.args.chain c.requires.hash.is c.requires.chain) (c.requires.hash.is.laid c.args.chain c.requires.chain) in
     subst (λ (u : Space). u.word (c.link_at-directory.result + 1 + c.args.chain % 8) < 2 ^ 32) (sym c.link_at-directory.ensures.same)
     (subst (λ x. s.word (x + 1 + c.args.chain % 8) < 2 ^ 32) (sym e) (subst (λ x. x < 2 ^ 32) (first_is s.word c.args.root c.args.chain some) fits))
 

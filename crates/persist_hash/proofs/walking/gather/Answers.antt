@@ -1,6 +1,5 @@
-use Rattle.std.proofs.Common.{◌≡◌, ◌≢◌, ◌<◌, ◌+◌, ◌^◌, ℕ, sym, ◌∙◌, ap, subst, arith, refl}
+use Rattle.std.proofs.Common.{◌<◌, ◌+◌, ◌^◌, sym, ◌∙◌, ap, subst, arith}
 use Rattle.lane_traits.specs.Space.{Space, IsOwn, IsDataWord}
-use Rattle.region_layout.specs.HashMap.{first_link}
 use Rattle.persist_hash.specs.Chains.{nodes_left}
 use Rattle.persist_hash.proofs.Searching.{data_word}
 use Rattle.persist_hash.proofs.Gathering.{walked_first, walked_own, walked_fits, walked_next, walked_fewer, walked_end}

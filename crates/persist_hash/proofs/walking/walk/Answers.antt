@@ -1,7 +1,7 @@
 use Rattle.std.proofs.Common.{◌≡◌, ◌++◌, List, sym, ◌∙◌, ap, subst, arith}
 use Rattle.lane_traits.specs.Space.{Space}
 use Rattle.lane_traits.specs.declared.words.Pair.{Pair}
-use Rattle.region_layout.specs.HashMap.{Chains, IsHash}
+use Rattle.region_layout.specs.HashMap.{IsHash}
 use Rattle.persist_hash.specs.Walk.{entries_of, node_pairs, nodes_up_to}
 use Rattle.persist_hash.proofs.Walks.{no_chains, one_chain_more, walked_all}
 use Rattle.persist_hash.proofs.walking.walk.Goals as goal

@@ -1,4 +1,4 @@
-use Rattle.std.proofs.Common.{◌≡◌, ◌≤◌}
+use Rattle.std.proofs.Common.{◌≡◌}
 use Rattle.region_layout.specs.HashMap.{Chains, IsHash}
 use Rattle.persist_hash.specs.Walk.{node_pairs, nodes_up_to}
 use Rattle.persist_hash.proofs.walking.walk.Given as goal

@@ -1,4 +1,3 @@
-use Rattle.std.proofs.Common.{◌≤◌}
 use Rattle.persist_hash.proofs.Fresh.{AreOthers}
 use Rattle.persist_hash.proofs.tests.blank.other_blocks.Given as goal
 
