@@ -27,7 +27,11 @@ impl Look for Row {
 
 // The words of a region with one tree, of which some are then changed: the root block stands at 96, the top node with
 // key 5 at 112, and on its left the node with key 3 at 128.
-fn verdict(rt: &impl Abort, alloc: Global, changes: &[(usize, u64)]) -> Result<Result<(), Broken>, Fail> {
+fn verdict(
+    rt: &impl Abort,
+    alloc: Global,
+    changes: &[(usize, u64)],
+) -> Result<Result<(), Broken>, Fail> {
     let layout = Layout {
         policy: Policy::Force,
         cells: 1,
@@ -63,7 +67,10 @@ fn verdict(rt: &impl Abort, alloc: Global, changes: &[(usize, u64)]) -> Result<R
 #[test]
 fn each_kind_of_broken_map(rt: HostRuntime) -> Result<(), Fail> {
     assert_eq!(rt; verdict(&rt, rt.alloc(), &[])?, Ok(()));
-    assert_eq!(rt; verdict(&rt, rt.alloc(), &[(97, 0), (112, 0), (128, 0)])?, Ok(()));
+    assert_eq!(rt;
+        verdict(&rt, rt.alloc(), &[(97, 0), (112, 0), (128, 0)])?,
+        Ok(())
+    );
     let broken: [(&str, &[(usize, u64)]); 17] = [
         ("the root is another's", &[(96, 2)]),
         ("a node is another's", &[(128, 2)]),
@@ -83,11 +90,23 @@ fn each_kind_of_broken_map(rt: HostRuntime) -> Result<(), Fail> {
         ("a node that isn't reached", &[(97, 128)]),
         (
             "three in a row",
-            &[(131, 144), (133, 2), (117, 3), (144, 1), (145, 1), (146, 10), (149, 1)],
+            &[
+                (131, 144),
+                (133, 2),
+                (117, 3),
+                (144, 1),
+                (145, 1),
+                (146, 10),
+                (149, 1),
+            ],
         ),
     ];
     for (what, changes) in broken {
-        assert_eq!(rt; verdict(&rt, rt.alloc(), changes)?, Err(Broken::At(96)), "{what}");
+        assert_eq!(rt;
+            verdict(&rt, rt.alloc(), changes)?,
+            Err(Broken::At(96)),
+            "{what}"
+        );
     }
     Ok(())
 }

@@ -16,15 +16,15 @@ pub struct Memory {
 
 impl Reads for Memory {
     ghost space = { λ m. record {
-        land = record {
-            heap = 16;
-            structure = 0;
-            owner = slice_index m.words.items;
-            start = record { word = slice_index m.words.items; owner = slice_index m.words.items };
-        };
-        word = slice_index m.words.items;
-        spare = [];
-        writes = 0;
+      land = record {
+        heap = 16;
+        structure = 0;
+        owner = slice_index m.words.items;
+        start = record { word = slice_index m.words.items; owner = slice_index m.words.items };
+      };
+      word = slice_index m.words.items;
+      spare = [];
+      writes = 0;
     } };
 
     ghost readable = { λ m a. nat_lt a (length m.words.items) };

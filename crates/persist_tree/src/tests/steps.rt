@@ -32,7 +32,11 @@ fn made(rt: &impl Abort, words: &mut Draft<Memory>, step: Step) -> Result<Option
     }
 }
 
-fn follow(rt: &impl Abort, words: &mut Draft<Memory>, steps: &[(Step, Option<u64>)]) -> Result<(), WordsRefusal>
+fn follow(
+    rt: &impl Abort,
+    words: &mut Draft<Memory>,
+    steps: &[(Step, Option<u64>)],
+) -> Result<(), WordsRefusal>
     requires { IsMap (⟦<Draft<Memory> as Reads>⟧.space words.old) 16 }
     ensures { OnOk result (IsMap (⟦<Draft<Memory> as Reads>⟧.space words.new) 16) }
 {
@@ -93,10 +97,14 @@ fn ascending_and_descending_keys(rt: HostRuntime) -> Result<(), Fail> {
         (Step::Get(4), None),
         (Step::Get(5), Some(50)),
     ];
-    check(&rt, rt.alloc(), &Case {
-        steps: &ascending,
-        pairs: &[(3, 30), (5, 50), (7, 70)],
-    })?;
+    check(
+        &rt,
+        rt.alloc(),
+        &Case {
+            steps: &ascending,
+            pairs: &[(3, 30), (5, 50), (7, 70)],
+        },
+    )?;
     let descending = [
         (Step::Put(7, 70), None),
         (Step::Put(6, 60), None),
@@ -110,10 +118,14 @@ fn ascending_and_descending_keys(rt: HostRuntime) -> Result<(), Fail> {
         (Step::Remove(2), Some(20)),
         (Step::Remove(4), Some(40)),
     ];
-    check(&rt, rt.alloc(), &Case {
-        steps: &descending,
-        pairs: &[(1, 10), (3, 30), (5, 50)],
-    })
+    check(
+        &rt,
+        rt.alloc(),
+        &Case {
+            steps: &descending,
+            pairs: &[(1, 10), (3, 30), (5, 50)],
+        },
+    )
 }
 
 // Each third key comes between the two before it.
@@ -132,10 +144,14 @@ fn keys_between_and_at_the_ends(rt: HostRuntime) -> Result<(), Fail> {
         (Step::Remove(20), Some(9)),
         (Step::Needs(20), Some(1)),
     ];
-    check(&rt, rt.alloc(), &Case {
-        steps: &between,
-        pairs: &[(10, 1), (30, 3), (40, 4), (50, 5)],
-    })?;
+    check(
+        &rt,
+        rt.alloc(),
+        &Case {
+            steps: &between,
+            pairs: &[(10, 1), (30, 3), (40, 4), (50, 5)],
+        },
+    )?;
     let ends = [
         (Step::Put(TOP, TOP), None),
         (Step::Put(0, 1), None),
@@ -146,10 +162,14 @@ fn keys_between_and_at_the_ends(rt: HostRuntime) -> Result<(), Fail> {
         (Step::Get(0), None),
         (Step::Remove(TOP - 1), Some(2)),
     ];
-    check(&rt, rt.alloc(), &Case {
-        steps: &ends,
-        pairs: &[(TOP, TOP)],
-    })
+    check(
+        &rt,
+        rt.alloc(),
+        &Case {
+            steps: &ends,
+            pairs: &[(TOP, TOP)],
+        },
+    )
 }
 
 #[test]
