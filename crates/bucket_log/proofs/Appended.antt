@@ -45,7 +45,7 @@ use Rattle.bucket_log.proofs.Appending.{Each-among, among_last, append_images, a
 
 -- ---- the events
 
-AreOnLog-stores : (shape : Shape) (A : ℕ → Type 0) → ((a : ℕ) → A a → a < heap shape) → (plan : List Event) → AreStoresOn A plan → AreOnLog shape plan
+pub AreOnLog-stores : (shape : Shape) (A : ℕ → Type 0) → ((a : ℕ) → A a → a < heap shape) → (plan : List Event) → AreStoresOn A plan → AreOnLog shape plan
 AreOnLog-stores shape A below [] on = tt
 AreOnLog-stores shape A below (e ∷ plan) on = (of_event e on.0, AreOnLog-stores shape A below plan on.1)
   where
@@ -59,7 +59,7 @@ AreDurable-append : (es fs : List Event) → AreDurable es → AreDurable fs →
 AreDurable-append [] fs h k = k
 AreDurable-append (e ∷ es) fs h k = (h.0, AreDurable-append es fs h.1 k)
 
-AreDurable-out : (p : ℕ) (es : List Event) → AreDurable es → AreDurable (map (out_event p) es)
+pub AreDurable-out : (p : ℕ) (es : List Event) → AreDurable es → AreDurable (map (out_event p) es)
 AreDurable-out p [] h = tt
 AreDurable-out p (e ∷ es) h = (of_event e h.0, AreDurable-out p es h.1)
   where
@@ -134,11 +134,11 @@ module _ (shape : Shape) (ok : IsAllowed shape) (p : ℕ) (inside : p < shape.pa
 -- ---- the log words and their view
 
 -- a word of the log is itself in the log words
-inside_log : (shape : Shape) (w : Words) (a : ℕ) → a < heap shape → log_words shape w a ≡ w a
+pub inside_log : (shape : Shape) (w : Words) (a : ℕ) → a < heap shape → log_words shape w a ≡ w a
 inside_log shape w a m = let on : nat_lt a (heap shape) ≡ true = grind (arith, nat_tests, m) in ap (λ t. cond t (w a) 0) on
 
 -- the log words reach what the words reach
-log_reaches : (shape : Shape) (z v : Words) (plan : List Event) (k : ℕ) → Reaches (λ a. a < heap shape) (progress_at z plan k) v →
+pub log_reaches : (shape : Shape) (z v : Words) (plan : List Event) (k : ℕ) → Reaches (λ a. a < heap shape) (progress_at z plan k) v →
     Reaches (λ a. a < heap shape) (progress_at (log_words shape z) plan k) (log_words shape v)
 log_reaches shape z v plan k h =
     let same : SameOn (λ a. a < heap shape) (start z) (start (log_words shape z)) = record {
@@ -150,7 +150,7 @@ log_reaches shape z v plan k h =
     (SameOn-events (λ a. a < heap shape) (start z) (start (log_words shape z)) (take k plan) same) h in
     λ a m. subst (λ n. (n ≡ (progress_at (log_words shape z) plan k).durable a) ⊎ Wrote (progress_at (log_words shape z) plan k).pending a n) (sym (inside_log shape v a m)) (reached a m)
 
-view_cell : (shape : Shape) (p q b c : ℕ) (w : Words) → IsBucketOf shape q b → record_at (view p w) (cell_address b c) ≡ record_at w (cell_address b c)
+pub view_cell : (shape : Shape) (p q b c : ℕ) (w : Words) → IsBucketOf shape q b → record_at (view p w) (cell_address b c) ≡ record_at w (cell_address b c)
 view_cell shape p q b c w is = same_cell (view p w) w (cell_address b c) (λ a low high. view_behind p w a (let e = is.3 in omega (arith, e, low)))
 
 -- the records of a chain are the same in the view
@@ -175,11 +175,11 @@ view_records shape p w chain buckets r = (
   }),
 )
 
-view_room : (shape : Shape) (p : ℕ) (w : Words) (chain : List ℕ) → AreBuckets (IsBucketOf shape p) chain → room_of shape (view p w) p chain ≡ room_of shape w p chain
+pub view_room : (shape : Shape) (p : ℕ) (w : Words) (chain : List ℕ) → AreBuckets (IsBucketOf shape p) chain → room_of shape (view p w) p chain ≡ room_of shape w p chain
 view_room shape p w chain buckets = room_same shape (view p w) w p chain (λ c lt ne.
     view_behind p w (cell_address (last_or 0 chain) c) (let is = Each-among (IsBucketOf shape p) chain (last_or 0 chain) buckets (among_last chain ne) in let e = is.3 in omega (arith, e)))
 
-list_of_view : (shape : Shape) (p : ℕ) (w : Words) (chain : List ℕ) → IsList shape p (view p w) chain → view p w 12 ≡ 0 → IsListOf shape p w chain
+pub list_of_view : (shape : Shape) (p : ℕ) (w : Words) (chain : List ℕ) → IsList shape p (view p w) chain → view p w 12 ≡ 0 → IsListOf shape p w chain
 list_of_view shape p w chain list none = record { rules = rules_of_list shape p (view p w) chain list; removed = λ on. absurd (on none) }
 
 -- ---- the state

@@ -20,7 +20,7 @@ stores_of shape p (WriteBack a) h = absurd h
 stores_of shape p Fence h = tt
 
 -- a plan on the list's words stores to these alone
-list_plan_stores : (shape : Shape) (p : ℕ) (plan : List Event) → IsListPlan shape p plan → AreStoresOn (IsListWord shape p) plan
+pub list_plan_stores : (shape : Shape) (p : ℕ) (plan : List Event) → IsListPlan shape p plan → AreStoresOn (IsListWord shape p) plan
 list_plan_stores shape p [] h = tt
 list_plan_stores shape p (e ∷ plan) h = (stores_of shape p e (h 0 e refl), list_plan_stores shape p plan (λ k x found. h (suc k) x found))
 

@@ -192,6 +192,14 @@ module _ (shape : Shape) (ok : IsAllowed shape) (z v : Words) (s : State) (p : �
       (λ h. (was_record r).1 (elim h [ inl k ↦ inl ((records r).0 k) | inr k ↦ inr k ])),
     )) (has.room p inside ∙ sym room) (λ q ne. refl)
 
+    -- the same records and another room
+    pub part_with_room : (room : ℕ → ℕ) → SameRecords shape.cells before (has.chains p) later ys → room p ≡ room_of shape later p ys →
+        ((q : ℕ) → q ≢ p → room q ≡ s.room q) → HasState shape v (record { log = s.log; words = heap_words shape v; room = room })
+    part_with_room room records here elsewhere = changed s.log room has.records.newest_first (λ r. (
+      (λ m. elim ((was_record r).0 m) [ inl k ↦ inl ((records r).1 k) | inr k ↦ inr k ]),
+      (λ h. (was_record r).1 (elim h [ inl k ↦ inl ((records r).0 k) | inr k ↦ inr k ])),
+    )) here elsewhere
+
     -- one record more, and one cell less room
     pub part_grown : (new : Record) → ((r : Record) → IsAmong s.log r → r.lsn < new.lsn) → AddsRecord shape.cells before (has.chains p) later ys new →
         room_of shape later p ys + 1 ≡ room_of shape before p (has.chains p) →

@@ -1,5 +1,5 @@
 -- The records of all partitions, gathered one by one and sorted, are the log.
-use Rattle.std.proofs.Common.{◌≡◌, ◌≢◌, ◌⊎◌, ◌↔◌, inl, inr, ℕ, zero, suc, ◌+◌, ◌*◌, ◌<◌, ◌≤◌, ◌==◌, Bool, true, false, cond, List, [], ◌∷◌, ◌++◌, length, map, reverse, refl, ap, sym, ◌∙◌, arith, subst, nat_lt}
+use Rattle.std.proofs.Common.{◌≡◌, ◌↔◌, inl, inr, ℕ, ◌+◌, ◌<◌, ◌≤◌, true, cond, List, [], ◌∷◌, ◌++◌, length, map, reverse, refl, ap, sym, ◌∙◌, arith, subst, nat_lt}
 use Rattle.std.specs.Prelude.{slice_index}
 use Rattle.std.proofs.lemmas.Bool.Decides.{nat_tests, eqb_tells}
 use Rattle.std.proofs.lemmas.List.{map-append}
@@ -30,7 +30,7 @@ use Rattle.bucket_log.proofs.ScanLogs.{views_have_logs}
 use Rattle.bucket_log.proofs.Scans.{among_left, among_right, among_append, counts, count_at, counts_small, count-append, count-cons, count_none, ascending, permuted, among_map, map_among, reverse-cons, reverse_among, among_reverse, newest}
 use Rattle.log_partition.specs.Views.{viewed}
 use Rattle.log_partition.specs.Merging.{AreLogsOf}
-use Rattle.log_partition.proofs.Views.{length-viewed, viewed-at, viewed-is, view_shape, out_below}
+use Rattle.log_partition.proofs.Views.{length-viewed, viewed-is, view_shape, out_below}
 
 -- ---- what is read of one partition
 

@@ -1,16 +1,15 @@
 -- What a partition sees of a region's words and cells.
-use Rattle.std.proofs.Common.{◌≡◌, ◌≢◌, ◌⊎◌, inl, inr, ℕ, zero, suc, ◌+◌, ◌-◌, ◌*◌, ◌<◌, ◌≤◌, ◌==◌, Bool, true, false, cond, if◌then◌else◌, List, [], ◌∷◌, ◌++◌, length, refl, ap, sym, ◌∙◌, arith, subst}
+use Rattle.std.proofs.Common.{◌≡◌, ◌⊎◌, inl, inr, ℕ, zero, suc, ◌+◌, ◌-◌, ◌<◌, ◌≤◌, ◌==◌, cond, List, [], ◌∷◌, ◌++◌, length, refl, ap, sym, ◌∙◌, arith, subst}
 use Rattle.std.specs.Prelude.{slice_index}
 use Rattle.std.proofs.lemmas.Bool.{cases_lt}
 use Rattle.std.proofs.lemmas.Bool.Decides.{nat_tests, eqb_tells}
 use Rattle.std.proofs.lemmas.List.FromFn.{length-map-range_with_len, get_or-map-range_with_len}
-use Rattle.persist_model.specs.declared.event.Event.{Event}
 use Rattle.persist_model.specs.declared.event.Event.TheVariants.{Store, PStore, WriteBack, Fence}
 use Rattle.persist_model.specs.declared.event.Candidate.{Candidate}
-use Rattle.persist_model.specs.Region.{Words, Region, after, candidate, mark_last}
-use Rattle.persist_model.specs.Records.{Log, IsAmong}
+use Rattle.persist_model.specs.Region.{Words, candidate, mark_last}
+use Rattle.persist_model.specs.Records.{IsAmong}
 use Rattle.persist_model.specs.Shape.{Shape, IsBucketOf, list_words, IsShape, IsKind}
-use Rattle.persist_model.specs.Chain.{view, out_address, out_event, last_or}
+use Rattle.persist_model.specs.Chain.{view, out_address, last_or}
 use Rattle.persist_model.specs.ImageRecords.{cell_address}
 use Rattle.log_laws.proofs.Views.{list_words_cases, out_cases, view-out, view_behind, out_apart}
 use Rattle.atomic_list.specs.Rules.{IsList}
@@ -23,7 +22,7 @@ use Rattle.bucket_log.proofs.Partitions.{bucket_word_above}
 use Rattle.bucket_log.proofs.RecordSets.{same_cell}
 use Rattle.bucket_log.proofs.Rooms.{room_same}
 use Rattle.bucket_log.proofs.Scans.{log_same}
-use Rattle.log_partition.specs.Views.{viewed, viewed_cells, IsOutside, NamesOutside, ViewsShowEvents, HasLogOf, OwnWordsDecide}
+use Rattle.log_partition.specs.Views.{viewed, IsOutside, ViewsShowEvents, OwnWordsDecide}
 
 -- ---- addresses
 

@@ -1,5 +1,5 @@
 -- What a partition of the log sees of a region.
-use Rattle.std.specs.Prelude.{◌≡◌, ◌⊎◌, ◌↔◌, ℕ, ◌<◌, List, length, map, slice_index}
+use Rattle.std.specs.Prelude.{◌≡◌, ◌⊎◌, ℕ, ◌<◌, List, length, map, slice_index}
 use Rattle.std.specs.List.{range_with_len}
 use Rattle.persist_model.specs.declared.event.Event.{Event}
 use Rattle.persist_model.specs.declared.event.Event.TheVariants.{Store, PStore, WriteBack, Fence}

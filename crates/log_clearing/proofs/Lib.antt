@@ -1,0 +1,7 @@
+pub mod PlanEvents
+pub mod Closing
+pub mod ClosedStates
+pub mod ClosingImages
+pub mod ClearingStates
+pub mod ClosedBuckets
+pub mod RemovalStates

@@ -1,0 +1,8 @@
+use Rattle.std.proofs.Common.{◌≡◌, ◌+◌, ◌*◌, ◌++◌, List, [], ◌∷◌, ℕ, sym, subst, arith, rules}
+use Rattle.persist_hash.proofs.Fresh.{AreOthers, others_more}
+use Rattle.persist_hash.proofs.tests.blank.other_blocks.Goals as goal
+
+pub loop-k-preserved : goal.loop-k-preserved
+loop-k-preserved c =
+    let pushed : c.push.new.self ≡ c.loop-k.found ++ (16 + 16 * c.loop-k.k) ∷ [] = search rules in
+    subst (λ (xs : List ℕ). AreOthers (c.loop-k.k + 1) xs) (sym pushed) (others_more c.loop-k.k c.loop-k.found (omega arith) c.loop-k.invariant)

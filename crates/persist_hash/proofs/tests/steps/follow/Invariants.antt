@@ -1,0 +1,5 @@
+use Rattle.persist_hash.specs.Calls.{HasMap}
+use Rattle.persist_hash.proofs.tests.steps.follow.Given as goal
+
+abbrev pub invariant-loop-step : goal.invariant-loop-step
+invariant-loop-step g l = HasMap (g.W.Reads.space l.words) 16

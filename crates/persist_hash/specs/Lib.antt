@@ -1,0 +1,7 @@
+pub mod Chains
+pub mod Calls
+pub mod Adding
+pub mod Walk
+pub mod Reading
+pub mod Laws
+pub mod Map

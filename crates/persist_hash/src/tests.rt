@@ -1,0 +1,3 @@
+mod blank;
+mod broken;
+mod steps;

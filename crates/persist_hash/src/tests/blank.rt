@@ -1,0 +1,59 @@
+// A draft over words that are all 0: the root block stands at 16, and structure 0 owns so many blocks from there.
+ghost use Rattle.std.specs.Prelude.{◌≡◌, ℕ, ◌+◌, ◌*◌, ◌<◌, ◌≤◌, Bool, true, nat_lt, if◌then◌else◌, IfOk, []};
+ghost use Rattle.persist_model.specs.Records.{IsAmong};
+ghost use Rattle.persist_model.specs.Chain.{HasNoRepeats};
+ghost use Rattle.lane_traits.specs.Space.{Space};
+ghost use Rattle.persist_hash.specs.Calls.{HasMap};
+
+use lane_traits::{Draft, Reads};
+use persist_model::{List, NoMemory};
+use std::alloc::Global;
+
+#[derive(Clone, Copy)]
+pub struct Blank {
+    blocks: u32,
+}
+
+impl Reads for Blank {
+    ghost space = { λ blank. record {
+      land = record {
+        heap = 16;
+        structure = 0;
+        owner = λ b. if nat_lt b (16 + 16 * blank.blocks) then 1 else 0;
+        start = record { word = λ a. 0; owner = λ b. if nat_lt b (16 + 16 * blank.blocks) then 1 else 0 };
+      };
+      word = λ a. 0;
+      spare = [];
+      writes = 0;
+    } };
+
+    ghost readable = { λ blank a. true };
+
+    fn read(&mut self, _a: u32) -> u64 {
+        0
+    }
+}
+
+// All blocks but the root.
+fn other_blocks(alloc: Global, blocks: u32) -> Result<List<u32>, NoMemory>
+    requires few { blocks ≤ 64 }
+    requires some { 1 ≤ blocks }
+    ensures each { IfOk result (λ found. (b : ℕ) → IsAmong found b → (k : ℕ) × (0 < k) × (k < blocks) × (b ≡ 16 + 16 * k)) }
+    ensures all { IfOk result (λ found. (k : ℕ) → 0 < k → k < blocks → IsAmong found (16 + 16 * k)) }
+    ensures once { IfOk result (λ found. HasNoRepeats found) }
+{
+    let mut found = List::new(alloc);
+    for k in 1..blocks {
+        found.push(16 + 16 * k).map_err(|_| NoMemory)?;
+    }
+    Ok(found)
+}
+
+/// An empty map, and so many blocks that can be taken.
+pub fn fresh(alloc: Global, spare: u32) -> Result<Draft<Blank>, NoMemory>
+    requires { spare ≤ 63 }
+    ensures { IfOk result (λ draft. HasMap (⟦<Draft<Blank> as Reads>⟧.space draft) 16) }
+{
+    let others = other_blocks(alloc, spare + 1)?;
+    Ok(Draft::new(alloc, Blank { blocks: spare + 1 }, 0, others))
+}

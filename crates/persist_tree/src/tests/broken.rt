@@ -1,0 +1,112 @@
+ghost use Rattle.std.specs.Prelude.{◌<◌, ◌^◌, length};
+
+use crate::{Broken, sound};
+use persist_model::Look;
+use region_layout::{Layout, Policy};
+use std::alloc::Global;
+use std::process::Abort;
+use std::test::Fail;
+
+#[derive(Drop)]
+struct Row {
+    words: Vec<u64>,
+    ghost small: { length words.items < 2 ^ 32 },
+}
+
+impl Look for Row {
+    ghost words = { λ row. row.words.items };
+
+    fn size(&self) -> u32 {
+        self.words.len() as u32
+    }
+
+    fn word(&self, a: u32) -> u64 {
+        self.words[a as usize]
+    }
+}
+
+// The words of a region with one tree, of which some are then changed: the root block stands at 96, the top node with
+// key 5 at 112, and on its left the node with key 3 at 128.
+fn verdict(
+    rt: &impl Abort,
+    alloc: Global,
+    changes: &[(usize, u64)],
+) -> Result<Result<(), Broken>, Fail> {
+    let layout = Layout {
+        policy: Policy::Force,
+        cells: 1,
+        buckets: 4,
+        blocks: 16,
+        structures: 1,
+        format: 1,
+        partitions: 1,
+    };
+    let mut words = vec![in alloc; 0; 352]?;
+    let tree = [
+        (96, 1),
+        (97, 112),
+        (112, 1),
+        (113, 5),
+        (114, 50),
+        (115, 128),
+        (117, 2),
+        (128, 1),
+        (129, 3),
+        (130, 30),
+        (133, 1),
+    ];
+    for (address, value) in tree.iter().chain(changes) {
+        if *address < words.len() {
+            words[*address] = *value;
+        }
+    }
+    assert_eq!(rt; words.len(), 352);
+    Ok(sound(&Row { words }, layout, 0))
+}
+
+#[test]
+fn each_kind_of_broken_map(rt: HostRuntime) -> Result<(), Fail> {
+    assert_eq!(rt; verdict(&rt, rt.alloc(), &[])?, Ok(()));
+    assert_eq!(rt;
+        verdict(&rt, rt.alloc(), &[(97, 0), (112, 0), (128, 0)])?,
+        Ok(())
+    );
+    let broken: [(&str, &[(usize, u64)]); 17] = [
+        ("the root is another's", &[(96, 2)]),
+        ("a node is another's", &[(128, 2)]),
+        ("a node is nobody's", &[(112, 0)]),
+        ("a link into a block", &[(97, 113)]),
+        ("a link to the root", &[(115, 96)]),
+        ("a link before the heap", &[(97, 80)]),
+        ("a link behind the heap", &[(97, 352)]),
+        ("a link far away", &[(97, u64::MAX)]),
+        ("a node on both sides", &[(116, 128)]),
+        ("a cycle", &[(131, 112)]),
+        ("a key that isn't smaller", &[(129, 5)]),
+        ("a key on the wrong side", &[(115, 0), (116, 128)]),
+        ("no value", &[(130, 0)]),
+        ("a leaf of height 2", &[(133, 2), (117, 3)]),
+        ("a height that isn't one more", &[(117, 1)]),
+        ("a node that isn't reached", &[(97, 128)]),
+        (
+            "three in a row",
+            &[
+                (131, 144),
+                (133, 2),
+                (117, 3),
+                (144, 1),
+                (145, 1),
+                (146, 10),
+                (149, 1),
+            ],
+        ),
+    ];
+    for (what, changes) in broken {
+        assert_eq!(rt;
+            verdict(&rt, rt.alloc(), changes)?,
+            Err(Broken::At(96)),
+            "{what}"
+        );
+    }
+    Ok(())
+}
