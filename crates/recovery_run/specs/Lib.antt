@@ -1,2 +1,5 @@
 pub mod Closing
 pub mod Appending
+pub mod Edges
+pub mod Groups
+pub mod Reached

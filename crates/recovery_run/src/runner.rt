@@ -3,6 +3,7 @@ ghost use Rattle.persist_model.specs.declared.event.Event.{Event};
 ghost use Rattle.log_laws.specs.Recovering.{RECOVERY};
 ghost use Rattle.lane_traits.specs.Device.{IsWithin, stores_of};
 ghost use Rattle.log_laws.specs.Parts.{after_plan};
+ghost use Rattle.recovery_run.specs.Edges.{HasCounted, StoreElsewhere, KeepsWords};
 
 use lane_traits::{Device, Done};
 use persist_model::Event;
@@ -25,8 +26,10 @@ pub fn run<D: Device, P: Plan>(device: &mut D, plan: &P) -> Done
     ensures made { result ≡ Done.Made → D.cells device.new ≡ after_plan RECOVERY (D.cells device.old) (P.events plan.now) }
     ensures stopped { result ≡ Done.Stopped → (k : ℕ) × (D.cells device.new ≡ after_plan RECOVERY (D.cells device.old) (take k (P.events plan.now))) }
     ensures cause { result ≡ Done.Stopped → (D.counts device.new).events ≡ (D.counts device.new).budget }
-    ensures spare_made { result ≡ Done.Made → D.spare device.old ≤ D.spare device.new + sum_by stores_of (P.events plan.now) }
+    ensures spare_left { D.spare device.old ≤ D.spare device.new + sum_by stores_of (P.events plan.now) }
     ensures events_made { result ≡ Done.Made → (D.counts device.new).events ≡ (D.counts device.old).events + length (P.events plan.now) }
+    ensures counted { HasCounted (length (P.events plan.now)) result (D.counts device.old) (D.counts device.new) }
+    ensures aside { KeepsWords (λ a. StoreElsewhere a (P.events plan.now)) (D.cells device.old) (D.cells device.new) }
 {
     let mut i = 0;
     while let Some(event) = plan.event(i) {

@@ -2,13 +2,15 @@ use Rattle.std.proofs.Common.{◌≡◌, ◌≤◌, ◌+◌, ap, sym, ◌∙◌,
 use Rattle.std.proofs.lemmas.Option.{get_or_from_slice_get, slice_get_within}
 use Rattle.persist_model.specs.Region.{Region, after}
 use Rattle.log_laws.specs.Recovering.{RECOVERY}
-use Rattle.lane_traits.specs.Device.{Counts, stores_of, IsWithin}
+use Rattle.lane_traits.specs.Device.{Counts, counted, stores_of, IsWithin}
 use Rattle.log_laws.specs.Parts.{after_plan}
+use Rattle.recovery_run.specs.Edges.{HasOneValue}
 use Rattle.recovery_run.proofs.Making.{plan_more, places_left, past_end, take_whole, same_size}
+use Rattle.recovery_run.proofs.Aside.{elsewhere_take, plan_keeps}
 use Rattle.recovery_run.proofs.runner.run.Goals as goal
 
 pub loop-event-init : goal.loop-event-init
-loop-event-init g c = record { cells = refl; events = omega arith; spare = omega arith; size = refl; within = omega arith }
+loop-event-init g c = record { cells = refl; counts = ap (λ n. record (g.D.Device.counts c.args.device.now) { events = n }) (omega arith); spare = omega arith; size = refl; within = omega arith }
 
 pub event-requires-in-Some-clause-address : goal.event-requires-in-Some-clause-address
 event-requires-in-Some-clause-address g c =
@@ -49,15 +51,15 @@ loop-event-preserved g c =
     let e = c.in-Some.event in
     let so_far = c.loop-event.invariant in
     let made = c.in-Made.ensures.made_cells refl in
-    let counts = ap (λ (n : Counts). n.events) (c.in-Made.ensures.made_counts refl) in
+    let counts = c.in-Made.ensures.made_counts refl ∙ ap (λ (n : Counts). record n { events = n.events + 1 }) so_far.counts in
+    let old = g.D.Device.counts c.args.device.now in
     let left = places_left plan i e found in
     let used = c.in-Made.ensures.made_spare refl in
     let spare = so_far.spare in
     let lt = slice_get_within plan i e found in
-    let before = so_far.events in
     record {
       cells = made ∙ ap (λ (r : Region). after r RECOVERY e) so_far.cells ∙ sym (plan_more RECOVERY (g.D.Device.cells c.args.device.now) plan i e found);
-      events = omega (arith, counts, before);
+      counts = counts ∙ ap (λ n. record old { events = n }) (omega arith);
       spare = omega (arith, left, used, spare);
       size = ap (λ (r : Region). r.size) made ∙ same_size (g.D.Device.cells c.loop-event.device) RECOVERY e ∙ so_far.size;
       within = omega (arith, lt);
@@ -67,3 +69,47 @@ pub returns-in-Stopped-clause-cause : goal.returns-in-Stopped-clause-cause
 returns-in-Stopped-clause-cause g c = λ stopped.
     let counts = c.in-Stopped.ensures.stopped_counts refl in
     ap (λ (n : Counts). n.events) counts ∙ c.in-Stopped.ensures.stopped.0 refl ∙ sym (ap (λ (n : Counts). n.budget) counts)
+
+pub returns-in-Stopped-clause-counted : goal.returns-in-Stopped-clause-counted
+returns-in-Stopped-clause-counted g c =
+    let so_far = c.loop-event.invariant.counts in
+    let old = g.D.Device.counts c.args.device.now in
+    let counts = c.in-Stopped.ensures.stopped_counts refl ∙ ap (λ (n : Counts). record n { stopped = counted n.stopped }) so_far in
+    let used = c.in-Stopped.ensures.stopped.0 refl in
+    let events = ap (λ (n : Counts). n.events) so_far in
+    let budget = ap (λ (n : Counts). n.budget) so_far in
+    record { events = c.loop-event.i; few = c.loop-event.invariant.within; is = counts; cause = λ _. sym events ∙ used ∙ budget }
+
+pub returns-in-Stopped-clause-spare_left : goal.returns-in-Stopped-clause-spare_left
+returns-in-Stopped-clause-spare_left g c =
+    let same = c.in-Stopped.ensures.stopped_spare refl in
+    let spare = c.loop-event.invariant.spare in
+    omega (arith, same, spare)
+
+pub returns-in-Stopped-clause-aside : goal.returns-in-Stopped-clause-aside
+returns-in-Stopped-clause-aside g c = λ a v off one.
+    let plan = g.P.Plan.events c.args.plan.now in
+    subst (λ (r : Region). HasOneValue v (r.at a)) (sym (c.in-Stopped.ensures.stopped_cells refl ∙ c.loop-event.invariant.cells))
+    (plan_keeps RECOVERY (g.D.Device.cells c.args.device.now) (take c.loop-event.i plan) a v (elsewhere_take a c.loop-event.i plan off) one)
+
+pub returns-clause-made : goal.returns-clause-made
+returns-clause-made g c = λ made.
+    let plan = g.P.Plan.events c.args.plan.now in
+    let end = past_end plan c.loop-event.i (sym c.event.ensures ∙ c.in_default.is) in
+    c.loop-event.invariant.cells ∙ ap (after_plan RECOVERY (g.D.Device.cells c.args.device.now)) (take_whole plan c.loop-event.i end)
+
+pub returns-clause-events_made : goal.returns-clause-events_made
+returns-clause-events_made g c = λ made.
+    let end = past_end (g.P.Plan.events c.args.plan.now) c.loop-event.i (sym c.event.ensures ∙ c.in_default.is) in
+    let within = c.loop-event.invariant.within in
+    let events = ap (λ (n : Counts). n.events) c.loop-event.invariant.counts in
+    omega (arith, end, within, events)
+
+pub returns-clause-counted : goal.returns-clause-counted
+returns-clause-counted g c = record { events = c.loop-event.i; few = c.loop-event.invariant.within; is = c.loop-event.invariant.counts; cause = λ e. absurd (cc) }
+
+pub returns-clause-aside : goal.returns-clause-aside
+returns-clause-aside g c = λ a v off one.
+    let plan = g.P.Plan.events c.args.plan.now in
+    subst (λ (r : Region). HasOneValue v (r.at a)) (sym c.loop-event.invariant.cells)
+    (plan_keeps RECOVERY (g.D.Device.cells c.args.device.now) (take c.loop-event.i plan) a v (elsewhere_take a c.loop-event.i plan off) one)
