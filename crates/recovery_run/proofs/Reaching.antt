@@ -89,6 +89,11 @@ module _ (shape : Shape) (first y : State) (region : Region) (h : HasReached sha
 
 -- ---- a settled region
 
+pub settled_newest : (shape : Shape) (first y : State) (region : Region) (h : HasSettled shape first y region) → (a : ℕ) → a < words_of_shape shape → newest_at region a ≡ h.durable a
+settled_newest shape first y region h a lt =
+    let below : a < region.size = subst (λ n. a < n) (sym h.come.size) lt in
+    read_newest region a below ∙ newest_tracked (RECOVERY + 1) (h.durable a) [] a (region.at a) (h.come.tracks a lt) (λ none. h.settled a below)
+
 pub settled_reached : (shape : Shape) (first y : State) (region : Region) → HasSettled shape first y region → HasReached shape first y region
 settled_reached shape first y region h = record {
   header = h.header;
@@ -100,13 +105,8 @@ settled_reached shape first y region h = record {
   is = λ i. record { log = y.log; words = heap_is i; room = y.room };
 }
   where
-    newest_is : (a : ℕ) → a < words_of_shape shape → newest_at region a ≡ h.durable a
-    newest_is a lt =
-        let below : a < region.size = subst (λ n. a < n) (sym h.come.size) lt in
-        read_newest region a below ∙ newest_tracked (RECOVERY + 1) (h.durable a) [] a (region.at a) (h.come.tracks a lt) (λ none. h.settled a below)
-
     heap_is : y.words ≡ heap_words shape (newest_at region)
-    heap_is = h.come.rest.state.words ∙ sym (same_heap shape h.durable (newest_at region) (λ a le lt. newest_is a lt))
+    heap_is = h.come.rest.state.words ∙ sym (same_heap shape h.durable (newest_at region) (λ a le lt. settled_newest shape first y region h a lt))
 
 -- ---- the header
 
