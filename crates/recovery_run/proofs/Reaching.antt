@@ -16,7 +16,7 @@ use Rattle.persist_model.specs.Sound.{HasState}
 use Rattle.persist_model.proofs.Candidates.{IsCandidate_newest, newest-push, fenced-push}
 use Rattle.persist_model.proofs.Tracking.{latest_cases, Tracks-event, Wrote-push, Wrote-pushed}
 use Rattle.persist_model.proofs.Projecting.{latest_none}
-use Rattle.persist_model.proofs.Images.{get_or-newest_words}
+use Rattle.persist_model.proofs.Images.{get_or-newest_words, settled_is}
 use Rattle.log_laws.specs.Recovery.{IsCovered, Step, Steps, start as begins, makes, stores, KeepsStanding}
 use Rattle.log_laws.specs.Recovering.{RECOVERY, IsAtRest, with_heap}
 use Rattle.log_laws.specs.Parts.{after_plan, AreDurable, HasCome, Leads, EachKeeps}
@@ -24,7 +24,7 @@ use Rattle.log_laws.proofs.Recovering.{same_log, state_with_heap, heap_step, res
 use Rattle.log_laws.proofs.Keeping.{runs_keep}
 use Rattle.recovery_run.specs.Edges.{HasOneValue, KeepsWords, IsHeaderWord}
 use Rattle.recovery_run.specs.Reached.{newest_at, with_value, HasHeader, AreSingle, HasReached, HasSettled}
-use Rattle.recovery_run.proofs.Composing.{parts_keep, parts_go_on}
+use Rattle.recovery_run.proofs.Composing.{parts_keep, parts_go_on, recovery_begins}
 use Rattle.recovery_run.proofs.AppendPart.{come_store}
 use Rattle.recovery_run.proofs.Aside.{plan_keeps}
 use Rattle.recovery_run.proofs.Making.{same_size}
@@ -333,3 +333,15 @@ reached_images shape first y region sound h =
     nothing : (k : ℕ) (v : Words) → Reaches (λ a. a < words_of_shape shape) (advance_all h.progress (take k [])) v → (x : State) × HasState shape v x × Steps shape h.state x
     nothing zero v r = (let k = rest_image shape h.progress h.durable v h.state (omega arith) h.come.rest r in (with_heap h.state (heap_words shape v), k.0, makes begins k.1))
     nothing (suc n) v r = (let k = rest_image shape h.progress h.durable v h.state (omega arith) h.come.rest r in (with_heap h.state (heap_words shape v), k.0, makes begins k.1))
+
+-- a settled region with a right header begins its recovery
+pub settled_begins : (shape : Shape) (first : State) (region : Region) → AreSettled region → HasHeader shape region → HasState shape (newest_at region) first → HasSettled shape first first region
+settled_begins shape first region settled header has =
+    let size : region.size ≡ words_of_shape shape = header.header.long ∙ ap words_of_shape header.shape_is in
+    record {
+      header = header;
+      durable = newest_at region;
+      come = recovery_begins shape (newest_at region) first region size
+          (λ a lt v k. (let below : a < region.size = subst (λ n. a < n) (sym size) lt in settled_is (region.at a) v (settled a below) k ∙ sym (read_newest region a below))) has;
+      settled = settled;
+    }

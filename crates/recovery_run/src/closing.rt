@@ -39,4 +39,3 @@ pub fn close_all<D: Device>(device: &mut D, list: &ClearList) -> Done
 {
     run(device, list)
 }
-
