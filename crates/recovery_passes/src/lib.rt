@@ -1,0 +1,6 @@
+//! Recovery: what the log of a sound image asks for is made on a device that may stop at any event.
+#![tactic(auto)]
+
+mod recovering;
+
+pub use recovering::{RecoverFault, Recovered, recover};

