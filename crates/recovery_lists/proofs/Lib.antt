@@ -1,0 +1,3 @@
+pub mod PlanEvents
+pub mod PartPlans
+pub mod RepairStates
