@@ -55,6 +55,13 @@ heap_small shape ok = let most = ok.buckets.1 in elim ok.cells [ inl e ↦ rows 
         let b : buckets * (8 + 8 * cells) ≤ 1024 * (8 + 8 * cells) = mul-le-mul_right {m = buckets} {n = 1024} (8 + 8 * cells) most in
         omega (arith, a, b)
 
+-- a bucket is within any region
+pub bucket_small : (shape : Shape) → IsAllowed shape → (p : ℕ) → p < shape.partitions → (b : ℕ) → IsBucketOf shape p b → b < 1187872
+bucket_small shape ok p inside b is =
+    let below : b < heap shape = bucket_word_below shape p b ok inside (b, is, omega arith, omega arith) in
+    let few = heap_small shape ok in
+    omega (arith, below, few)
+
 module _ (shape : Shape) (ok : IsAllowed shape) (p : ℕ) (inside : p < shape.partitions) (w : Words) where
   append_word : seen shape p w 10 ≡ w (list_words p + 2)
   append_word = inside_log shape w (list_words p + 2) (part_word_below shape p (list_words p + 2) ok inside (inl (omega arith, omega arith)))
@@ -74,10 +81,4 @@ module _ (shape : Shape) (ok : IsAllowed shape) (p : ℕ) (inside : p < shape.pa
   none_is_quiet e = let words = nothing_of (seen shape p w) e in (sym append_word ∙ words.0, sym remove_word ∙ words.1)
 
   pub can_repair : (s : State) → HasState shape w s → CanRepair (asked_in shape p w)
-  can_repair s has = can_of (IsBucketOf shape p) (seen shape p w) (has.chains p) small (has.lists p inside).rules
-    where
-      small : (b : ℕ) → IsBucketOf shape p b → b < 1187872
-      small b is =
-          let below : b < heap shape = bucket_word_below shape p b ok inside (b, is, omega arith, omega arith) in
-          let few = heap_small shape ok in
-          omega (arith, below, few)
+  can_repair s has = can_of (IsBucketOf shape p) (seen shape p w) (has.chains p) (bucket_small shape ok p inside) (has.lists p inside).rules

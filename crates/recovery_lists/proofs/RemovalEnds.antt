@@ -1,9 +1,10 @@
 -- What the removal of a closed bucket leaves of the lists.
-use Rattle.std.proofs.Common.{◌≡◌, ◌≢◌, inl, inr, ℕ, ◌+◌, ◌<◌, ◌≤◌, List, [], ◌∷◌, ◌++◌, length, map, ap, sym, ◌∙◌, subst, arith, length-append}
+use Rattle.std.proofs.Common.{◌≡◌, ◌≢◌, inl, inr, ℕ, ◌+◌, ◌<◌, ◌≤◌, List, [], ◌∷◌, ◌++◌, length, map, refl, ap, sym, ◌∙◌, subst, arith, length-append}
 use Rattle.persist_model.specs.Region.{Words}
 use Rattle.persist_model.specs.Progress.{Wrote, Reaches}
 use Rattle.persist_model.specs.Runs.{progress_at}
-use Rattle.persist_model.specs.Shape.{Shape, heap, log_words}
+use Rattle.persist_model.specs.Records.{IsAmong}
+use Rattle.persist_model.specs.Shape.{Shape, IsBucketOf, heap, log_words}
 use Rattle.persist_model.specs.Chain.{first_or}
 use Rattle.persist_model.specs.State.{State}
 use Rattle.persist_model.specs.Sound.{HasState}
@@ -18,6 +19,9 @@ use Rattle.atomic_list.proofs.Repairs.{still}
 use Rattle.atomic_list.proofs.Walks.{chain_of_list}
 use Rattle.region_layout.specs.Layout.{IsAllowed}
 use Rattle.bucket_log.proofs.Addresses.{list_word_is_log_word}
+use Rattle.bucket_log.proofs.Appending.{Each-among}
+use Rattle.bucket_log.proofs.Scans.{among_right}
+use Rattle.recovery_lists.proofs.Asking.{bucket_small}
 use Rattle.bucket_log.proofs.ListFacts.{list_plan_stores}
 use Rattle.log_clearing.specs.Removals.{CanDrop, region_removal}
 use Rattle.recovery_run.specs.Reached.{IsQuiet, HasFewBuckets}
@@ -46,6 +50,13 @@ module _ (shape : Shape) (ok : IsAllowed shape) (p : ℕ) (inside : p < shape.pa
       let l : length longer ≡ length can.front + length (r.node ∷ can.rest) = length-append can.front (r.node ∷ can.rest) in
       let m : length shorter ≡ length can.front + length can.rest = length-append can.front can.rest in
       omega (arith, l, m)
+
+  pub next_small : r.next < 1187872
+  next_small = subst (λ n. n < 1187872) (sym can.can_remove.next) (by can.rest (λ b m. Each-among (IsBucketOf shape p) longer b can.can_remove.at_rest.buckets (among_right can.front (r.node ∷ can.rest) b (inr m))))
+    where
+      by : (rest : List ℕ) → ((b : ℕ) → IsAmong rest b → IsBucketOf shape p b) → first_or 0 rest < 1187872
+      by [] each = omega arith
+      by (x ∷ rest) each = bucket_small shape ok p inside x (each x (inl refl))
 
   -- the chain has two buckets at least
   pub not_few : (s : State) → HasState shape w s → HasFewBuckets shape p w → ⊥
