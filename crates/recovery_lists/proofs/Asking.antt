@@ -63,10 +63,10 @@ bucket_small shape ok p inside b is =
     omega (arith, below, few)
 
 module _ (shape : Shape) (ok : IsAllowed shape) (p : ℕ) (inside : p < shape.partitions) (w : Words) where
-  append_word : seen shape p w 10 ≡ w (list_words p + 2)
+  pub append_word : seen shape p w 10 ≡ w (list_words p + 2)
   append_word = inside_log shape w (list_words p + 2) (part_word_below shape p (list_words p + 2) ok inside (inl (omega arith, omega arith)))
 
-  remove_word : seen shape p w 12 ≡ w (list_words p + 4)
+  pub remove_word : seen shape p w 12 ≡ w (list_words p + 4)
   remove_word = inside_log shape w (list_words p + 4) (part_word_below shape p (list_words p + 4) ok inside (inl (omega arith, omega arith)))
 
   -- a quiet partition asks for nothing,

@@ -8,3 +8,5 @@ pub mod RemovalEnds
 pub mod Settling
 pub mod RepairPart
 pub mod DropPart
+pub mod Emptied
+pub mod DropLoop

@@ -58,6 +58,12 @@ module _ (shape : Shape) (ok : IsAllowed shape) (p : ℕ) (inside : p < shape.pa
       by [] each = omega arith
       by (x ∷ rest) each = bucket_small shape ok p inside x (each x (inl refl))
 
+  pub some_bucket : 1 ≤ length (chain_of shape (seen shape p w))
+  some_bucket =
+      let is = ap length (chain_of_list shape p (seen shape p w) longer inside (at_rest can.can_remove.at_rest)).0 in
+      let more = one_less in
+      omega (arith, is, more)
+
   -- the chain has two buckets at least
   pub not_few : (s : State) → HasState shape w s → HasFewBuckets shape p w → ⊥
   not_few s has few =
