@@ -1,0 +1,12 @@
+pub mod PlanEvents
+pub mod Reading
+pub mod Asking
+pub mod PartPlans
+pub mod RepairStates
+pub mod KeptLists
+pub mod RemovalEnds
+pub mod Settling
+pub mod RepairPart
+pub mod DropPart
+pub mod Emptied
+pub mod DropLoop

@@ -1,0 +1,19 @@
+use Rattle.std.proofs.Common.{length}
+use Rattle.std.specs.Prelude.{slice_index}
+use Rattle.region_layout.specs.Layout.{layout_shape}
+use Rattle.recovery_run.specs.Reached.{newest_at}
+use Rattle.recovery_lists.specs.Repairs.{seen}
+use Rattle.recovery_lists.proofs.Reading.{enough_words, view_is_log, view_is_seen}
+use Rattle.recovery_lists.proofs.dropping.next_removal.Goals as goal
+
+pub new-requires-clause-words : goal.new-requires-clause-words
+new-requires-clause-words g c = enough_words c.args.layout (g.D.Device.cells c.args.device.now) c.requires.settled (g.D.Look.words c.args.device.now) (g.met.D.Device.reads c.args.device.now)
+
+pub removal-requires : goal.removal-requires
+removal-requires g c = (view_is_log c.args.layout (g.D.Device.cells c.args.device.now) c.requires.settled (g.D.Look.words c.args.device.now) (g.met.D.Device.reads c.args.device.now)
+    c.args.p _ c.requires.partition c.new.ensures)
+
+pub returns : goal.returns
+returns g c = c.removal.ensures (seen (layout_shape c.args.layout) c.args.p (newest_at (g.D.Device.cells c.args.device.now)))
+    (view_is_seen c.args.layout (g.D.Device.cells c.args.device.now) c.requires.settled (g.D.Look.words c.args.device.now) (g.met.D.Device.reads c.args.device.now)
+    c.args.p _ c.requires.partition c.new.ensures)

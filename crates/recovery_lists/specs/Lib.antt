@@ -1,0 +1,3 @@
+pub mod Repairs
+pub mod Lists
+pub mod Repairable
