@@ -1,4 +1,4 @@
-use Rattle.std.proofs.Common.{◌≡◌, ◌≤◌, ◌*◌, ◌+◌, ◌<◌, ℕ, [], inl, inr, refl, sym, ◌∙◌, subst, arith}
+use Rattle.std.proofs.Common.{◌≡◌, ◌≤◌, ◌*◌, ◌+◌, ◌<◌, ℕ, [], inl, inr, refl, sym, ap, ◌∙◌, subst, arith}
 use Rattle.std.proofs.lemmas.Bool.Decides.{eqb_tells}
 use Rattle.persist_model.specs.Region.{Region}
 use Rattle.persist_model.specs.Shape.{count_buckets}
@@ -99,5 +99,27 @@ pub returns-clause-counted : goal.returns-clause-counted
 returns-clause-counted g c =
     let shape = layout_shape c.args.layout in
     let end = c.loop-p-test.false in
-    let all = all_before shape in
-    subst (λ n. HasCounted (7 * n) Made (g.D.Device.counts c.args.device.now) (g.D.Device.counts c.loop-p.device)) all c.loop-p.invariant.counted
+    let upto = c.loop-p.auto.p-end in
+    let is : c.loop-p.p ≡ shape.partitions = omega (arith, end, upto) in
+    subst (λ n. HasCounted (7 * n) Made (g.D.Device.counts c.args.device.now) (g.D.Device.counts c.loop-p.device)) (ap (buckets_before shape) is ∙ all_before shape) c.loop-p.invariant.counted
+
+pub returns-clause-few : goal.returns-clause-few
+returns-clause-few g c = λ made q lt. let end = c.loop-p-test.false in c.loop-p.invariant.few q (omega (arith, end, lt))
+
+pub returns-clause-spare_left : goal.returns-clause-spare_left
+returns-clause-spare_left g c =
+    let shape = layout_shape c.args.layout in
+    let end = c.loop-p-test.false in
+    let upto = c.loop-p.auto.p-end in
+    let is : c.loop-p.p ≡ shape.partitions = omega (arith, end, upto) in
+    let whole : buckets_before shape c.loop-p.p ≡ shape.buckets = ap (buckets_before shape) is ∙ all_before shape in
+    let left = c.loop-p.invariant.spare in
+    omega (arith, whole, left)
+
+pub returns-in-Stopped-clause-idle : goal.returns-in-Stopped-clause-idle
+returns-in-Stopped-clause-idle g c = λ short.
+    let before = c.loop-p.invariant.idle short in
+    let p = c.loop-p.p in
+    let none = c.in-Stopped.ensures.none_closed (subst (λ (r : Region). HasFewBuckets (layout_shape c.args.layout) p (newest_at r)) (sym before.cells) (short p c.loop-p-test.true)) in
+    let made = none.0 in
+    cc
