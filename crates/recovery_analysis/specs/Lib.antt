@@ -1,2 +1,4 @@
 pub mod Grouping
 pub mod Fates
+pub mod Analyses
+pub mod Conditions

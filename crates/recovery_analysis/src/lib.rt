@@ -1,7 +1,12 @@
 //! What recovery reads before it makes an event, and all the memory that it takes.
 #![tactic(auto)]
 
-mod grouping;
 mod adding;
+mod analysing;
+mod fates;
+mod grouping;
+mod picking;
 
+pub use analysing::{Analysis, analyse};
+pub use fates::{is_committed, is_running, is_skipped, need, newest_checkpoint};
 pub use grouping::{Transaction, transactions};
