@@ -2,3 +2,4 @@ pub mod Lists
 pub mod Runs
 pub mod Fated
 pub mod Picked
+pub mod Soundly

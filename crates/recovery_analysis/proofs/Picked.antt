@@ -105,19 +105,20 @@ losers_end log all i found h le picked = picked_ends (IsRunning log) (IsLoser lo
 pub unskipped_end : (log : Log) (all : List Transaction) (i : ℕ) (found : List ℕ) → AreTransactionsOf log all → length all ≤ i → ArePicked (IsUnskipped log) all i found → AreThose (IsUnskipped log) found
 unskipped_end log all i found h le picked = picked_ends (IsUnskipped log) (IsUnskipped log) all i found le (λ n m p. p) (λ n q. (h.whole n (of_end n log q.0), q)) picked
 
-pub unskipped_is : (log : Log) (n : ℕ) (ended running skipped : Bool) → ended ≡ not running → (IsTrue running ↔ IsRunning log n) → (IsTrue skipped ↔ IsSkipped log n) →
-    IsTrue (ended && not skipped) ↔ IsUnskipped log n
-unskipped_is log n ended running skipped is run skip = (λ on. forth running skipped (ap (λ b. b && not skipped) (sym is) ∙ on) run skip, λ u. ap (λ b. b && not skipped) is ∙ back running skipped u run skip)
-  where
-    forth : (r s : Bool) → (not r && not s) ≡ true → (IsTrue r ↔ IsRunning log n) → (IsTrue s ↔ IsSkipped log n) → IsUnskipped log n
-    forth true s on run skip = cc
-    forth false true on run skip = cc
-    forth false false on run skip = (
-      elim (ended_or_running log n) [ inl e ↦ e | inr r ↦ (let z : false ≡ true = run.1 r in cc) ],
-      λ k. (let z : false ≡ true = skip.1 k in cc),
-    )
+pub running_is_none : (log : Log) (n : ℕ) (running : Bool) → running ≡ true → (IsTrue running ↔ IsRunning log n) → IsTrue false ↔ IsUnskipped log n
+running_is_none log n running on says = ((λ z. cc), (λ u. absurd (says.0 on u.0.0 u.0.1 u.0.2)))
 
-    back : (r s : Bool) → IsUnskipped log n → (IsTrue r ↔ IsRunning log n) → (IsTrue s ↔ IsSkipped log n) → (not r && not s) ≡ true
-    back true s u run skip = absurd (run.0 refl u.0.0 u.0.1 u.0.2)
-    back false true u run skip = absurd (u.1 (skip.0 refl))
-    back false false u run skip = refl
+pub unskipped_is : (log : Log) (n : ℕ) (running skipped : Bool) → running ≡ false → (IsTrue running ↔ IsRunning log n) → (IsTrue skipped ↔ IsSkipped log n) →
+    IsTrue (not skipped) ↔ IsUnskipped log n
+unskipped_is log n running skipped off run skip = (forth skipped skip, back skipped skip)
+  where
+    ended : IsEnded log n
+    ended = elim (ended_or_running log n) [ inl e ↦ e | inr r ↦ (let z : false ≡ true = sym off ∙ run.1 r in cc) ]
+
+    forth : (s : Bool) → (IsTrue s ↔ IsSkipped log n) → IsTrue (not s) → IsUnskipped log n
+    forth true skip on = cc
+    forth false skip on = (ended, λ k. (let z : false ≡ true = skip.1 k in cc))
+
+    back : (s : Bool) → (IsTrue s ↔ IsSkipped log n) → IsUnskipped log n → IsTrue (not s)
+    back true skip u = absurd (u.1 (skip.0 refl))
+    back false skip u = refl

@@ -2,3 +2,4 @@ pub mod Grouping
 pub mod Fates
 pub mod Analyses
 pub mod Conditions
+pub mod Changes

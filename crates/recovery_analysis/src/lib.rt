@@ -3,10 +3,12 @@
 
 mod adding;
 mod analysing;
+mod changing;
 mod fates;
 mod grouping;
 mod picking;
 
 pub use analysing::{Analysis, analyse};
+pub use changing::Change;
 pub use fates::{is_committed, is_running, is_skipped, need, newest_checkpoint};
 pub use grouping::{Transaction, transactions};

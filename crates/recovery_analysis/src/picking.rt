@@ -1,7 +1,7 @@
 // Transactions by what became of them.
-ghost use Rattle.std.specs.Prelude.{◌≡◌, ◌∷◌, ◌++◌, [], ℕ, if◌then◌else◌, OnOk, IfOk};
+ghost use Rattle.std.specs.Prelude.{◌≡◌, ◌∷◌, ◌++◌, [], ℕ, ◌↔◌, IsTrue, if◌then◌else◌, OnOk, IfOk};
 ghost use Rattle.persist_model.specs.Records.{Log, IsCommitted, IsLoser};
-ghost use Rattle.recovery_analysis.specs.Grouping.{AreTransactionsOf};
+ghost use Rattle.recovery_analysis.specs.Grouping.{IsTransactionOf, AreTransactionsOf};
 ghost use Rattle.recovery_analysis.specs.Fates.{IsNewestCheckpoint};
 ghost use Rattle.recovery_analysis.specs.Analyses.{AreThose, IsUnskipped};
 
@@ -43,6 +43,17 @@ pub(crate) fn losers_of(alloc: Global, all: &[Transaction]) -> Result<List<u64>,
     Ok(found)
 }
 
+// Whether the transaction is ended and isn't skipped.
+fn is_unskipped(transaction: &Transaction, checkpoint: u64) -> bool
+    ensures { (log : Log) → IsTransactionOf log transaction.now → IsNewestCheckpoint log checkpoint
+        → IsTrue result ↔ IsUnskipped log transaction.now.number }
+{
+    if is_running(transaction) {
+        return false;
+    }
+    !is_skipped(transaction, checkpoint)
+}
+
 // The ended transactions that aren't skipped.
 pub(crate) fn unskipped_of(
     alloc: Global,
@@ -53,9 +64,7 @@ pub(crate) fn unskipped_of(
 {
     let mut found = List::new(alloc);
     for transaction in all {
-        let ended = !is_running(transaction);
-        let skipped = is_skipped(transaction, checkpoint);
-        keep(&mut found, transaction.number, ended && !skipped)?;
+        keep(&mut found, transaction.number, is_unskipped(transaction, checkpoint))?;
     }
     Ok(found)
 }
