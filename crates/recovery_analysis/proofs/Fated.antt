@@ -20,7 +20,7 @@ use Rattle.recovery_analysis.proofs.Runs.{records_filtered}
 
 -- ---- a test of some record
 
-or_cases : (a b : Bool) → (a || b) ≡ true → (a ≡ true) ⊎ (b ≡ true)
+pub or_cases : (a b : Bool) → (a || b) ≡ true → (a ≡ true) ⊎ (b ≡ true)
 or_cases true b h = inl refl
 or_cases false b h = inr h
 
@@ -69,10 +69,10 @@ record_own log t h r m of =
     among_map record_of_placed t.records r
     (among_reverse (map record_of_placed t.records) r (subst (λ rs. IsAmong rs r) (sym (h.records ∙ records_filtered t.number log)) k))
 
-eq_true : (a b : ℕ) → (a == b) ≡ true → a ≡ b
+pub eq_true : (a b : ℕ) → (a == b) ≡ true → a ≡ b
 eq_true a b h = grind (arith, nat_tests, h)
 
-true_eq : (a b : ℕ) → a ≡ b → (a == b) ≡ true
+pub true_eq : (a b : ℕ) → a ≡ b → (a == b) ≡ true
 true_eq a b h = grind (arith, nat_tests, h)
 
 -- ---- running, committed, skipped
@@ -97,11 +97,11 @@ running_is log t result h is = by (list_any (λ (x : Placed). x.cell.kind == 4) 
       (λ running. e),
     )
 
-both_true : (a b : Bool) → (a && b) ≡ true → (a ≡ true) × (b ≡ true)
+pub both_true : (a b : Bool) → (a && b) ≡ true → (a ≡ true) × (b ≡ true)
 both_true true b h = (refl, h)
 both_true false b h = cc
 
-true_both : (a b : Bool) → a ≡ true → b ≡ true → (a && b) ≡ true
+pub true_both : (a b : Bool) → a ≡ true → b ≡ true → (a && b) ≡ true
 true_both a b h k = rw (h, k) refl
 
 abbrev pub is_commit : Placed → Bool
@@ -122,10 +122,10 @@ committed_is log t result h is = (
         absurd (any_none is_commit t.records found k.0 k.1 (true_both (k.0.cell.kind == 4) (k.0.cell.outcome == 1)
         (true_eq k.0.cell.kind 4 (sym (ap (λ (y : Record). y.kind) k.2) ∙ won.2.0.0)) (true_eq k.0.cell.outcome 1 (sym (ap (λ (y : Record). y.outcome) k.2) ∙ won.2.1))))
 
-less_true : (a b : ℕ) → nat_lt a b ≡ true → a < b
+pub less_true : (a b : ℕ) → nat_lt a b ≡ true → a < b
 less_true a b h = grind (arith, nat_tests, h)
 
-true_less : (a b : ℕ) → a < b → nat_lt a b ≡ true
+pub true_less : (a b : ℕ) → a < b → nat_lt a b ≡ true
 true_less a b h = grind (arith, nat_tests, h)
 
 abbrev pub is_end_below : ℕ → Placed → Bool

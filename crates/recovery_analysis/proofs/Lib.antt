@@ -3,3 +3,4 @@ pub mod Runs
 pub mod Fated
 pub mod Picked
 pub mod Soundly
+pub mod Redoing

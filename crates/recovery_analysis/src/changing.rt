@@ -99,3 +99,24 @@ fn add_deleted(
     }
     Ok(())
 }
+
+/// What is to be stored again, and then the deferred deletions of committed transactions, each in the order of the records.
+pub(crate) fn redo_of(
+    alloc: Global,
+    merged: &[Placed],
+    policy: Policy,
+    unskipped: &[u64],
+    winners: &[u64],
+) -> Result<List<Change>, NoMemory>
+    requires unskipped { IsAscending unskipped.now }
+    requires winners { IsAscending winners.now }
+    requires redone { (x : Placed) → IsAmong merged.now x → IsTrue (is_redone_of (policy_number policy) unskipped.now x) → x.cell.address < 2 ^ 32 }
+    requires deleted { (x : Placed) → IsAmong merged.now x → IsTrue (is_deleted_of winners.now x) → x.cell.address < 2 ^ 32 }
+    ensures { IfOk result (λ changes. changes ≡ map new_value (filter (is_redone_of (policy_number policy) unskipped.now) merged.now)
+        ++ map given_back (filter (is_deleted_of winners.now) merged.now)) }
+{
+    let mut changes = List::new(alloc);
+    add_redone(&mut changes, merged, policy, unskipped)?;
+    add_deleted(&mut changes, merged, winners)?;
+    Ok(changes)
+}
