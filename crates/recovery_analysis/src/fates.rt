@@ -13,7 +13,7 @@ use persist_model::format::{CHECKPOINT, COMMITTED, COMPENSATION, END, ROLLBACK, 
 use region_layout::Cell;
 
 // Whether there is a record of this kind.
-fn has_kind(records: &[Placed], kind: u64) -> bool
+pub(crate) fn has_kind(records: &[Placed], kind: u64) -> bool
     ensures { result ≡ list_any (λ x. x.cell.kind == kind) records.now }
 {
     records.iter().any(|placed| placed.cell.kind == kind)
