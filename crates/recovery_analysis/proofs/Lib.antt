@@ -1,0 +1,6 @@
+pub mod Lists
+pub mod Runs
+pub mod Fated
+pub mod Picked
+pub mod Soundly
+pub mod Redoing
