@@ -203,11 +203,14 @@ pub needs_are : (part : ℕ → ℕ) (n : ℕ) (log : Log) (undo : List Transact
 needs_are part n log undo inside those =
     sym (sum_map (need_of log) undo) ∙ sym (seen_all (need_of log) log (map number_of undo) (λ m k. has_of_true m log ((those.each m).0 k).0))
     ∙ seen_is (need_of log) log (map number_of undo) those.ascending (λ t on. elim (ended_or_running log t) [
-      | inl ended ↦ inr (ap (λ b. if b then 0 else _) (has_kind_true t 4 log ended))
+      | inl ended ↦ inr (none t ended)
       | inr running ↦ inl ((those.each t).1 (of_has t log on, running))
     ])
     ∙ sym (parts_are part (need_of log) n log inside) ∙ sym (total_is part n log)
   where
+    none : (t : ℕ) → IsEnded log t → need_of log t ≡ 0
+    none t ended = rw (has_kind_true t 4 log ended) refl
+
     of_has : (t : ℕ) (log : Log) → has_of t log ≡ true → Has (IsOf t) log
     of_has t [] on = cc
     of_has t (r ∷ log) on = elim (or_true (is_of t r) (has_of t log) on) [

@@ -5,7 +5,7 @@ use Rattle.persist_model.specs.Shape.{shape_of}
 use Rattle.persist_model.specs.State.{State, IsSoundState}
 use Rattle.persist_model.specs.Sound.{IsSound}
 use Rattle.region_layout.specs.declared.layout.Layout.{Layout}
-use Rattle.region_layout.specs.Layout.{layout_shape}
+use Rattle.region_layout.specs.Layout.{layout_shape, IsAllowed}
 use Rattle.bucket_log.specs.declared.scanning.Placed.{Placed}
 use Rattle.bucket_log.specs.Scans.{record_of_placed}
 
@@ -16,6 +16,7 @@ pub record IsSoundImage (layout : Layout) (size : ℕ) (w : Words) : Type 0 wher
 
 -- these are the records of a sound state, and no partition has more room than its buckets have cells
 pub record IsSoundMerge (layout : Layout) (merged : List Placed) : Type 0 where
+  pub allowed : IsAllowed (layout_shape layout)
   pub state : State
   pub sound : IsSoundState (layout_shape layout) state
   pub log_is : reverse (map record_of_placed merged) ≡ state.log
