@@ -4,3 +4,6 @@ pub mod Fated
 pub mod Picked
 pub mod Soundly
 pub mod Redoing
+pub mod Summing
+pub mod Gathering
+pub mod Whole

@@ -13,4 +13,4 @@ pub use analysing::{Analysis, analyse};
 pub use changing::Change;
 pub use fates::{is_committed, is_running, is_skipped, need, newest_checkpoint};
 pub use grouping::{Transaction, transactions};
-pub use working::Work;
+pub use working::{Work, work_of};

@@ -1,17 +1,17 @@
 // What is to be done in a recovery, and the memory for it.
-ghost use Rattle.std.specs.Prelude.{◌≡◌, ◌↔◌, ◌×◌, ℕ, ◌+◌, ◌*◌, ◌<◌, ◌≤◌, ◌^◌, ◌==◌, ◌||◌, ◌++◌, ◌∷◌, [], not, if◌then◌else◌, IsTrue, IfOk, length, map, reverse, sum_by, slice_index, slice_index_or};
+ghost use Rattle.std.specs.Prelude.{◌≡◌, ◌↔◌, ℕ, ◌+◌, ◌*◌, ◌<◌, ◌≤◌, ◌^◌, ◌==◌, ◌||◌, ◌++◌, ◌∷◌, [], not, if◌then◌else◌, IsTrue, IfOk, length, map, reverse, sum_by, slice_index, slice_index_or};
 ghost use Rattle.std.specs.List.{filter, list_any};
 ghost use Rattle.std.specs.Vec.{vec_len, vec_capacity};
 ghost use Rattle.persist_model.specs.Records.{Log, IsAmong};
 ghost use Rattle.persist_model.specs.State.{State, HasOpen};
 ghost use Rattle.persist_model.specs.Need.{need_of};
 ghost use Rattle.persist_model.specs.Sound.{HasState};
-ghost use Rattle.region_layout.specs.Layout.{layout_shape};
+ghost use Rattle.region_layout.specs.Layout.{layout_shape, policy_number};
 ghost use Rattle.bucket_log.specs.Scans.{record_of_placed};
 ghost use Rattle.recovery_run.specs.Groups.{ListsAll};
 ghost use Rattle.recovery_analysis.specs.Grouping.{AreTransactionsOf};
 ghost use Rattle.recovery_analysis.specs.Fates.{IsNewestCheckpoint};
-ghost use Rattle.recovery_analysis.specs.Conditions.{IsSoundImage};
+ghost use Rattle.recovery_analysis.specs.Conditions.{IsSoundImage, IsSoundMerge};
 ghost use Rattle.recovery_analysis.specs.Needs.{AreSmall};
 ghost use Rattle.recovery_analysis.specs.Works.{IsWorkOf, HasSpare, next_lsn};
 
@@ -130,4 +130,66 @@ fn most_events(records: usize, appends: usize, layout: Layout) -> u64
 {
     let each = u64::from(23 + layout.cells);
     20 + 2 * records as u64 + each * appends as u64 + 7 * u64::from(layout.buckets)
+}
+
+// Whether recovery is to append a checkpoint record.
+fn has_checkpoint(all: &[Transaction], newest: u64, policy: Policy) -> bool
+    ensures { (log : Log) → AreTransactionsOf log all.now → IsNewestCheckpoint log newest → IsTrue result ↔ ((policy_number policy ≡ 2) × HasOpen log) }
+{
+    match policy {
+        Policy::Force => false,
+        Policy::NoForce => has_open(all, newest),
+    }
+}
+
+// The records that recovery appends.
+fn appends_with(needed: usize, checkpoint: bool) -> usize
+    requires { needed < 2 ^ 32 }
+    ensures { result ≡ needed + (if checkpoint then 1 else 0) }
+{
+    if checkpoint { needed + 1 } else { needed }
+}
+
+// What is to be done, by the records of all partitions.
+fn plan_work(alloc: Global, merged: &[Placed], layout: Layout) -> Result<Work, NoMemory>
+    requires { IsSoundMerge layout merged.now }
+    ensures { IfOk result (IsWorkOf (layout_shape layout) (reverse (map record_of_placed merged.now))) }
+{
+    let all = transactions(alloc, merged)?;
+    let newest = newest_checkpoint(merged);
+    let winners = winners_of(alloc, all.as_slice())?;
+    let losers = losers_of(alloc, all.as_slice())?;
+    let unskipped = unskipped_of(alloc, all.as_slice(), newest)?;
+    let redo = redo_of(
+        alloc,
+        merged,
+        layout.policy,
+        unskipped.as_slice(),
+        winners.as_slice(),
+    )?;
+    let checkpoint = has_checkpoint(all.as_slice(), newest, layout.policy);
+    let undo = running_of(all);
+    let needed = total_need(undo.as_slice());
+    let gates = gates_of(alloc, merged, needed, undo.as_slice().len())?;
+    let appends = appends_with(needed, checkpoint);
+    Ok(Work {
+        winners,
+        losers,
+        redo,
+        undo,
+        checkpoint,
+        gates,
+        next: next_number(merged),
+        most: most_events(merged.len(), appends, layout),
+    })
+}
+
+/// What is to be done to recover a sound image, with all the memory for it. Nothing changes where there is no memory.
+pub fn work_of<W: Look>(alloc: Global, words: &W, layout: Layout) -> Result<Work, NoMemory>
+    requires { IsSoundImage layout (length (W.words words.now)) (slice_index (W.words words.now)) }
+    ensures { (s : State) → HasState (layout_shape layout) (slice_index (W.words words.now)) s → IfOk result (IsWorkOf (layout_shape layout) s.log) }
+{
+    let merged = merge(alloc, words, layout)?;
+    let work = plan_work(alloc, merged.as_slice(), layout)?;
+    Ok(work)
 }
