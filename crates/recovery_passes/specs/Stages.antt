@@ -1,11 +1,15 @@
 -- What the stages of a recovery share.
-use Rattle.std.specs.Prelude.{◌≡◌, ℕ, ◌<◌}
+use Rattle.std.specs.Prelude.{◌≡◌, ℕ, ◌<◌, ◌≤◌, List}
 use Rattle.persist_model.specs.Region.{Region}
-use Rattle.persist_model.specs.Shape.{Shape}
+use Rattle.persist_model.specs.Records.{IsAmong}
+use Rattle.persist_model.specs.Shape.{Shape, heap}
+use Rattle.persist_model.specs.State.{State}
+use Rattle.log_laws.specs.Recovery.{IsCovered}
 use Rattle.lane_traits.specs.declared.device.Done.{Done}
 use Rattle.lane_traits.specs.declared.device.Done.TheVariants.{Made}
 use Rattle.lane_traits.specs.Device.{Counts}
 use Rattle.recovery_run.specs.Reached.{newest_at, IsQuiet, HasFewBuckets}
+use Rattle.recovery_analysis.specs.declared.changing.Change.{Change}
 
 -- no recovery word of any partition asks for a repair
 abbrev pub AreQuiet : Shape → Region → Type 0
@@ -20,3 +24,8 @@ pub record IsIdle (done : Done) (before later : Region) (counts later_counts : C
   pub made : done ≡ Made
   pub cells : later ≡ before
   pub same : later_counts ≡ counts
+
+-- each value is for a heap word whose standing value a record decides
+pub record MayStore (shape : Shape) (y : State) (changes : List Change) : Type 0 where
+  pub above : (c : Change) → IsAmong changes c → heap shape ≤ c.word
+  pub covered : (c : Change) → IsAmong changes c → IsCovered shape.policy y.log c.word

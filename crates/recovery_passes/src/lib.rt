@@ -3,5 +3,6 @@
 
 mod lists;
 mod recovering;
+mod redo;
 
 pub use recovering::{RecoverFault, Recovered, recover};
