@@ -184,6 +184,19 @@ module _ (layout : Layout) (merged : List Placed) (h : IsSoundMerge layout merge
   pub need_small : (all undo : List Transaction) (needed : ℕ) → AreTransactionsOf (log_of merged) all → undo ≡ filter runs all → needed ≡ sum_by (λ (t : Transaction). need_of (log_of merged) t.number) undo → needed < 2 ^ 20
   need_small all undo needed whole is sum = let k = (undo_small all undo whole is).small in omega (arith, k, sum)
 
+  pub needed_is : (all undo slice : List Transaction) (needed : ℕ) → AreTransactionsOf (log_of merged) all → undo ≡ filter runs all → slice ≡ undo →
+      ((log : Log) → AreSmall log slice → needed ≡ sum_by (λ (t : Transaction). need_of log t.number) slice) → needed ≡ sum_by (need_in_log (log_of merged)) undo
+  needed_is all undo slice needed whole is same says =
+      says (log_of merged) (subst (AreSmall (log_of merged)) (sym same) (undo_small all undo whole is)) ∙ ap (sum_by (need_in_log (log_of merged))) same
+
+  pub needed_small : (all undo slice : List Transaction) (needed : ℕ) → AreTransactionsOf (log_of merged) all → undo ≡ filter runs all → slice ≡ undo →
+      ((log : Log) → AreSmall log slice → needed ≡ sum_by (λ (t : Transaction). need_of log t.number) slice) → needed < 2 ^ 20
+  needed_small all undo slice needed whole is same says = need_small all undo needed whole is (needed_is all undo slice needed whole is same says)
+
+  pub appends_small : (needed appends : ℕ) (checkpoint : Bool) → needed < 2 ^ 20 → appends ≡ needed + (if checkpoint then 1 else 0) → appends < 2 ^ 32
+  appends_small needed appends true lt e = omega (arith, lt, e)
+  appends_small needed appends false lt e = omega (arith, lt, e)
+
   next_small : (log : Log) (total : ℕ) → ((r : Record) → IsAmong log r → r.lsn ≤ 2 ^ 63) → total ≤ 49200 → next_lsn log + (total + 1) < 2 ^ 64
   next_small [] total each le = omega (arith, le)
   next_small (r ∷ log) total each le = let k = each r (inl refl) in omega (arith, k, le)
