@@ -1,13 +1,11 @@
-use Rattle.std.proofs.Common.{◌≡◌, ◌+◌, ◌<◌, ◌^◌, ◌++◌, map, length, sym, ap, ◌∙◌, subst, arith}
+use Rattle.std.proofs.Common.{◌++◌, map, length, sym, ap, ◌∙◌, subst, arith}
 use Rattle.std.specs.List.{filter}
-use Rattle.persist_model.specs.Records.{IsCommitted}
 use Rattle.region_layout.specs.Layout.{policy_number}
 use Rattle.recovery_analysis.specs.Grouping.{IsAscending, AreTransactionsOf}
-use Rattle.recovery_analysis.specs.Analyses.{AreThose, IsUnskipped}
 use Rattle.recovery_analysis.specs.Changes.{is_redone, is_deleted, new_value, given_back}
 use Rattle.recovery_analysis.specs.Needs.{AreSmall}
 use Rattle.recovery_analysis.specs.Works.{HasSpare}
-use Rattle.recovery_analysis.proofs.Whole.{runs, log_of, redone_bounded, deleted_bounded, gate_bounded, undo_small, needed_is, needed_small, appends_small, work_done}
+use Rattle.recovery_analysis.proofs.Whole.{log_of, redone_bounded, deleted_bounded, gate_bounded, undo_small, needed_is, needed_small, appends_small, work_done}
 use Rattle.recovery_analysis.proofs.working.plan_work.Goals as goal
 
 pub redo_of-requires-clause-unskipped : goal.redo_of-requires-clause-unskipped
