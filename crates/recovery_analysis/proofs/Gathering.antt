@@ -1,14 +1,14 @@
 -- Gates, open transactions and the next number, as they are read.
-use Rattle.std.proofs.Common.{◌≡◌, ◌≢◌, ◌⊎◌, ◌↔◌, inl, inr, ℕ, zero, suc, ◌+◌, ◌-◌, ◌<◌, ◌≤◌, Bool, true, false, cond, not, ◌==◌, ◌&&◌, ◌||◌, if◌then◌else◌, List, [], ◌∷◌, ◌++◌, length, map, reverse, take, get_or, refl, sym, ap, ◌∙◌, subst, arith, append_assoc}
+use Rattle.std.proofs.Common.{◌≡◌, ◌↔◌, inl, inr, ℕ, suc, ◌+◌, ◌-◌, ◌<◌, ◌≤◌, Bool, true, false, cond, not, ◌==◌, ◌||◌, if◌then◌else◌, List, [], ◌∷◌, ◌++◌, length, map, reverse, take, get_or, refl, sym, ap, ◌∙◌, subst, arith}
 use Rattle.std.specs.Prelude.{IsTrue}
 use Rattle.std.specs.List.{filter}
 use Rattle.std.proofs.Math.Seq.{take-suc}
 use Rattle.std.proofs.lemmas.List.{map-append, reverse-append}
 use Rattle.std.proofs.lemmas.List.Elements.{filter-append}
-use Rattle.std.proofs.lemmas.Bool.Decides.{nat_tests, eqb_tells}
-use Rattle.persist_model.specs.Records.{Record, Log, IsAmong, Has, IsEnd, IsCheckpoint, IsSkipped}
+use Rattle.std.proofs.lemmas.Bool.Decides.{eqb_tells}
+use Rattle.persist_model.specs.Records.{Log, IsAmong, IsSkipped}
 use Rattle.persist_model.specs.State.{HasOpen}
-use Rattle.log_clearing.specs.Closed.{AreGroups, IsListed}
+use Rattle.log_clearing.specs.Closed.{IsListed}
 use Rattle.recovery_run.specs.Groups.{ListsAll}
 use Rattle.bucket_log.specs.declared.scanning.Placed.{Placed}
 use Rattle.bucket_log.specs.Scans.{record_of_placed}
@@ -16,7 +16,7 @@ use Rattle.bucket_log.proofs.Scans.{among_append}
 use Rattle.recovery_analysis.specs.declared.grouping.Transaction.{Transaction}
 use Rattle.recovery_analysis.specs.Grouping.{number_of, IsTransactionOf, AreTransactionsOf}
 use Rattle.recovery_analysis.specs.Works.{next_lsn}
-use Rattle.recovery_analysis.proofs.Lists.{map_among, among_map, reverse_among, among_reverse, filter_among, among_filter, reverse-cons}
+use Rattle.recovery_analysis.proofs.Lists.{map_among, among_map, reverse_among, among_reverse, filter_among, among_filter}
 use Rattle.recovery_analysis.proofs.Fated.{eq_true, true_eq, take_whole}
 
 -- ---- the gates

@@ -1,15 +1,15 @@
 -- Transactions that are picked one by one.
-use Rattle.std.proofs.Common.{◌≡◌, ◌⊎◌, ◌↔◌, inl, inr, ℕ, zero, suc, ◌+◌, ◌<◌, ◌≤◌, Bool, true, false, not, ◌&&◌, if◌then◌else◌, List, [], ◌∷◌, ◌++◌, length, map, take, get_or, refl, sym, ap, ◌∙◌, subst, arith, append-nil}
+use Rattle.std.proofs.Common.{◌≡◌, ◌⊎◌, ◌↔◌, inl, inr, ℕ, zero, suc, ◌+◌, ◌<◌, ◌≤◌, Bool, true, false, not, if◌then◌else◌, List, [], ◌∷◌, ◌++◌, length, map, take, get_or, refl, sym, ap, ◌∙◌, subst, arith, append-nil}
 use Rattle.std.specs.Prelude.{IsTrue}
 use Rattle.std.proofs.Math.Seq.{take-suc}
 use Rattle.std.proofs.lemmas.List.{map-append}
-use Rattle.persist_model.specs.Records.{Log, IsAmong, Has, IsOf, IsEndOf, IsEnded, IsRunning, IsCommitted, IsSkipped, IsLoser}
+use Rattle.persist_model.specs.Records.{Log, IsAmong, Has, IsOf, IsEnded, IsRunning, IsCommitted, IsSkipped, IsLoser}
 use Rattle.log_laws.proofs.Deciding.{ended_or_running}
 use Rattle.bucket_log.proofs.Scans.{among_left, among_right, among_append}
 use Rattle.recovery_analysis.specs.declared.grouping.Transaction.{Transaction}
 use Rattle.recovery_analysis.specs.Grouping.{IsAscending, number_of, IsTransactionOf, AreTransactionsOf}
 use Rattle.recovery_analysis.specs.Analyses.{AreThose, IsUnskipped}
-use Rattle.recovery_analysis.proofs.Lists.{among_at, map_among, among_map, take_among, ascending_push}
+use Rattle.recovery_analysis.proofs.Lists.{among_at, map_among, among_map, ascending_push}
 use Rattle.recovery_analysis.proofs.Fated.{take_whole}
 
 -- of the first i transactions those that have P

@@ -1,5 +1,5 @@
 -- The changes that are to be stored are those of a redo pass.
-use Rattle.std.proofs.Common.{◌≡◌, ◌≢◌, ◌⊎◌, ◌↔◌, inl, inr, ℕ, zero, suc, ◌+◌, ◌<◌, ◌≤◌, Bool, true, false, cond, ◌==◌, ◌&&◌, ◌||◌, if◌then◌else◌, List, [], ◌∷◌, ◌++◌, length, map, reverse, take, get_or, Ok, Err, refl, sym, ap, ◌∙◌, subst, arith, append_assoc, append-nil}
+use Rattle.std.proofs.Common.{◌≡◌, ◌⊎◌, ◌↔◌, inl, inr, ℕ, zero, suc, ◌+◌, ◌<◌, ◌≤◌, Bool, true, false, cond, ◌==◌, ◌&&◌, ◌||◌, if◌then◌else◌, List, [], ◌∷◌, ◌++◌, length, map, reverse, take, get_or, Ok, Err, refl, sym, ap, ◌∙◌, subst, arith, append_assoc}
 use Rattle.std.specs.Prelude.{Result, is_ok}
 use Rattle.std.specs.List.{list_any, filter}
 use Rattle.std.specs.List.Sorted.{IsBinarySearchResult}
@@ -8,11 +8,10 @@ use Rattle.std.proofs.Math.Seq.{take-suc}
 use Rattle.std.proofs.lemmas.List.{map-append}
 use Rattle.std.proofs.lemmas.List.Elements.{filter-append}
 use Rattle.std.proofs.lemmas.List.Sorted.{searched}
-use Rattle.std.proofs.lemmas.Bool.Decides.{nat_tests, eqb_tells}
 use Rattle.persist_model.specs.Region.{Words}
-use Rattle.persist_model.specs.Records.{Record, Log, IsAmong, Has, IsCommitted}
+use Rattle.persist_model.specs.Records.{Log, IsAmong, IsCommitted}
 use Rattle.persist_model.specs.Standing.{IsToRedo, IsToDelete}
-use Rattle.log_laws.specs.Recovery.{AreApplied, IsCovered}
+use Rattle.log_laws.specs.Recovery.{AreApplied}
 use Rattle.log_laws.proofs.Deciding.{IsDecided, decide_less, decide_to_redo, decide_to_delete}
 use Rattle.log_laws.proofs.Growing.{Descends}
 use Rattle.log_laws.proofs.Applying.{set_word, redone_words, deleted_words, passed_words, pass_applies}
@@ -25,7 +24,7 @@ use Rattle.recovery_analysis.specs.Grouping.{IsAscending}
 use Rattle.recovery_analysis.specs.Analyses.{AreThose, IsUnskipped}
 use Rattle.recovery_analysis.specs.Changes.{stored, AreRedone, has_number, is_redone, is_deleted, new_value, given_back}
 use Rattle.recovery_analysis.proofs.Lists.{place_of, among_at, map_among, among_map, reverse-cons, reverse_among, filter_among}
-use Rattle.recovery_analysis.proofs.Fated.{any_some, any_none, both_true, true_both, eq_true, true_eq, take_whole, or_cases}
+use Rattle.recovery_analysis.proofs.Fated.{any_some, both_true, true_both, eq_true, true_eq, take_whole, or_cases}
 
 -- ---- a search
 

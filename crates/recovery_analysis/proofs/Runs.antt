@@ -1,5 +1,5 @@
 -- Records that are put together by transaction and cut where it changes.
-use Rattle.std.proofs.Common.{◌≡◌, ◌≢◌, ◌⊎◌, inl, inr, ℕ, zero, suc, ◌+◌, ◌<◌, ◌≤◌, Bool, true, false, cond, not, ◌==◌, ◌&&◌, List, [], ◌∷◌, ◌++◌, length, map, reverse, take, drop, get_or, nat_lt, refl, sym, ap, ◌∙◌, subst, arith, append_assoc, append-nil}
+use Rattle.std.proofs.Common.{◌≡◌, ◌≢◌, inl, inr, ℕ, zero, suc, ◌<◌, ◌≤◌, Bool, true, false, cond, not, ◌==◌, ◌&&◌, List, [], ◌∷◌, ◌++◌, length, map, reverse, take, drop, get_or, nat_lt, refl, sym, ap, ◌∙◌, subst, arith, append_assoc, append-nil}
 use Rattle.std.specs.Prelude.{IsPermutation}
 use Rattle.std.specs.List.{filter}
 use Rattle.std.specs.List.Sorted.{IsNonDecreasingBy, ties, IsStableByKey}
@@ -17,8 +17,8 @@ use Rattle.bucket_log.specs.Scans.{record_of_placed}
 use Rattle.bucket_log.proofs.Scans.{among_left, among_right, among_append, permuted}
 use Rattle.recovery_run.specs.Groups.{records_of}
 use Rattle.recovery_analysis.specs.declared.grouping.Transaction.{Transaction}
-use Rattle.recovery_analysis.specs.Grouping.{IsAscending, IsTransactionOf, number_of, AreTransactionsOf, Rises, all_records, IsRun, AreRuns}
-use Rattle.recovery_analysis.proofs.Lists.{place_of, among_at, place_in_take, take_among, drop_among, map_among, among_map, reverse_among, among_reverse, filter_same, filter_whole, filter_none, filter_twice, filter_map_is, filter_reverse, filter_among, among_filter, ascending_push}
+use Rattle.recovery_analysis.specs.Grouping.{IsAscending, number_of, AreTransactionsOf, Rises, all_records, IsRun, AreRuns}
+use Rattle.recovery_analysis.proofs.Lists.{place_of, among_at, place_in_take, drop_among, map_among, among_map, reverse_among, among_reverse, filter_same, filter_whole, filter_none, filter_twice, filter_map_is, filter_reverse, filter_among, among_filter, ascending_push}
 
 abbrev pub transaction_of : Placed → ℕ
 transaction_of x = x.cell.transaction

@@ -1,9 +1,9 @@
 -- What a sound image gives.
-use Rattle.std.proofs.Common.{◌≡◌, ℕ, ◌+◌, ◌<◌, ◌≤◌, true, cond, List, nat_lt, refl, sym, ap, ◌∙◌, subst, arith}
+use Rattle.std.proofs.Common.{◌≡◌, ℕ, ◌+◌, ◌<◌, true, cond, nat_lt, sym, ap, ◌∙◌, subst, arith}
 use Rattle.std.proofs.lemmas.Bool.Decides.{nat_tests}
 use Rattle.persist_model.specs.Region.{Words}
-use Rattle.persist_model.specs.Shape.{Shape, shape_of, IsBucketOf, heap, log_words, list_words}
-use Rattle.persist_model.specs.Chain.{view, out_address, ListRules}
+use Rattle.persist_model.specs.Shape.{Shape, IsBucketOf, heap, log_words}
+use Rattle.persist_model.specs.Chain.{view, out_address}
 use Rattle.persist_model.specs.State.{IsSoundState}
 use Rattle.persist_model.specs.Sound.{HasState}
 use Rattle.log_laws.proofs.SameLists.{rules_same}
@@ -39,10 +39,13 @@ pub logs_of_image : (layout : Layout) (size : ℕ) (w : Words) → IsSoundImage 
 logs_of_image layout size w h = record {
   shape = h.sound.shape;
   has_layout = h.has_layout;
-  lists = λ p lt. (has.chains p, rules_same (IsBucketOf shape p) (view p (log_words shape w)) (view p w)
-      (λ a low high. view_below shape p w a (few p lt) (omega (arith, high)))
-      (λ b is. (let fits = whole_bucket_fits shape p b lt is in (view_below shape p w b (few p lt) (omega (arith, fits)), view_below shape p w (b + 1) (few p lt) (omega (arith, fits)))))
-      (has.chains p) (has.lists p lt).rules);
+  lists = λ p lt. (
+    has.chains p,
+    rules_same (IsBucketOf shape p) (view p (log_words shape w)) (view p w)
+        (λ a low high. view_below shape p w a (few p lt) (omega (arith, high)))
+        (λ b is. (let fits = whole_bucket_fits shape p b lt is in (view_below shape p w b (few p lt) (omega (arith, fits)), view_below shape p w (b + 1) (few p lt) (omega (arith, fits)))))
+        (has.chains p) (has.lists p lt).rules,
+  );
 }
   where
     shape : Shape

@@ -1,24 +1,23 @@
 -- The needs of the running transactions are those of all partitions, and no record is passed twice.
-use Rattle.std.proofs.Common.{◌≡◌, ◌≢◌, ◌⊎◌, ◌↔◌, inl, inr, ℕ, zero, suc, ◌+◌, ◌*◌, ◌-◌, ◌<◌, ◌≤◌, ◌^◌, Bool, true, false, cond, not, ◌==◌, ◌&&◌, ◌||◌, if◌then◌else◌, List, [], ◌∷◌, ◌++◌, length, map, reverse, take, get_or, refl, sym, ap, ◌∙◌, subst, arith, zero-add}
+use Rattle.std.proofs.Common.{◌≡◌, ◌≢◌, ◌⊎◌, inl, inr, ℕ, zero, suc, ◌+◌, ◌-◌, ◌<◌, ◌≤◌, ◌^◌, Bool, true, false, cond, not, ◌==◌, ◌&&◌, ◌||◌, if◌then◌else◌, List, [], ◌∷◌, length, map, reverse, take, get_or, refl, sym, ap, ◌∙◌, subst, arith, zero-add}
 use Rattle.std.specs.Prelude.{sum_by}
-use Rattle.std.specs.List.{list_any, filter}
+use Rattle.std.specs.List.{filter}
 use Rattle.std.proofs.lemmas.List.{length-reverse, length-map}
 use Rattle.std.proofs.lemmas.List.Sums.{sum_by-cons, sum_by_more, sum_by_more_le}
 use Rattle.std.proofs.lemmas.Bool.Decides.{nat_tests, eqb_tells}
-use Rattle.persist_model.specs.Records.{Record, Log, IsAmong, Has, HasNo, IsOf, IsRunning, IsEnded, IsLoser}
+use Rattle.persist_model.specs.Records.{Record, Log, IsAmong, Has, IsOf, IsEnded, IsLoser}
 use Rattle.persist_model.specs.Need.{need_of, is_of, has_of, counted, sum_over, need_in}
 use Rattle.persist_model.specs.State.{total_need}
 use Rattle.log_laws.proofs.Needs.{of_test, has_of_true, has_kind_true}
 use Rattle.log_laws.proofs.Deciding.{ended_or_running}
 use Rattle.bucket_log.specs.declared.scanning.Placed.{Placed}
 use Rattle.bucket_log.specs.Scans.{record_of_placed}
-use Rattle.recovery_run.specs.Groups.{records_of}
 use Rattle.recovery_analysis.specs.declared.grouping.Transaction.{Transaction}
 use Rattle.recovery_analysis.specs.Grouping.{IsAscending, number_of, IsTransactionOf}
 use Rattle.recovery_analysis.specs.Analyses.{AreThose}
 use Rattle.recovery_analysis.specs.Changes.{has_number}
 use Rattle.recovery_analysis.specs.Needs.{AreSmall}
-use Rattle.recovery_analysis.proofs.Lists.{among_at, map_among, filter_map_is, filter_reverse, filter_among}
+use Rattle.recovery_analysis.proofs.Lists.{among_at, filter_map_is, filter_reverse}
 use Rattle.recovery_analysis.proofs.Runs.{records_filtered}
 use Rattle.recovery_analysis.proofs.Fated.{eq_true, true_eq, both_true, take_whole}
 

@@ -1,19 +1,18 @@
 -- The parts of a recovery's work, put together.
-use Rattle.std.proofs.Common.{◌≡◌, ◌≢◌, ◌⊎◌, ◌↔◌, inl, inr, ℕ, zero, suc, ◌+◌, ◌*◌, ◌-◌, ◌<◌, ◌≤◌, ◌^◌, Bool, true, false, not, ◌==◌, ◌||◌, if◌then◌else◌, List, [], ◌∷◌, ◌++◌, length, map, reverse, refl, sym, ap, ◌∙◌, subst, arith}
+use Rattle.std.proofs.Common.{◌≡◌, ◌⊎◌, ◌↔◌, inl, inr, ℕ, zero, suc, ◌+◌, ◌*◌, ◌-◌, ◌<◌, ◌≤◌, ◌^◌, Bool, true, false, not, ◌==◌, ◌||◌, if◌then◌else◌, List, [], ◌∷◌, ◌++◌, length, map, reverse, refl, sym, ap, ◌∙◌, subst, arith}
 use Rattle.std.specs.Prelude.{IsTrue, sum_by}
 use Rattle.std.specs.List.{filter, list_any}
 use Rattle.std.proofs.lemmas.List.{length-reverse, length-map, length-append}
 use Rattle.persist_model.specs.Region.{Words}
-use Rattle.persist_model.specs.Records.{Record, Log, IsAmong, Has, IsOf, IsCommitted, IsEnded, IsRunning, IsLoser}
-use Rattle.persist_model.specs.Standing.{IsToUndo, IsToRedo, IsToDelete}
-use Rattle.persist_model.specs.Shape.{Shape, part_of, count_buckets, IsHeapWord, words_of_shape, block, log_words}
+use Rattle.persist_model.specs.Records.{Record, Log, IsAmong, IsCommitted, IsEnded, IsRunning, IsLoser}
+use Rattle.persist_model.specs.Standing.{IsToRedo, IsToDelete}
+use Rattle.persist_model.specs.Shape.{Shape, part_of, count_buckets, IsHeapWord, block, log_words}
 use Rattle.persist_model.specs.Chain.{last_or}
 use Rattle.persist_model.specs.ImageRecords.{cell_address, AreWellFormed}
 use Rattle.persist_model.specs.Need.{need_of, need_in}
 use Rattle.persist_model.specs.State.{State, HasOpen, total_need, IsSoundState}
-use Rattle.persist_model.specs.Sound.{HasState, closed_cells, room_of}
+use Rattle.persist_model.specs.Sound.{closed_cells, room_of}
 use Rattle.log_laws.specs.Recovery.{IsCovered}
-use Rattle.log_laws.proofs.Growing.{Descends}
 use Rattle.log_laws.proofs.Keeping.{good_of}
 use Rattle.log_laws.proofs.Passes.{part_inside}
 use Rattle.atomic_list.proofs.Parts.{parts_fit}
@@ -22,19 +21,18 @@ use Rattle.region_layout.specs.Layout.{layout_shape, IsAllowed}
 use Rattle.region_layout.proofs.Places.{sizes_bounded}
 use Rattle.bucket_log.specs.declared.scanning.Placed.{Placed}
 use Rattle.bucket_log.specs.Scans.{record_of_placed}
-use Rattle.recovery_run.specs.declared.gates.Gates.{Gates}
 use Rattle.recovery_run.specs.Groups.{ListsAll}
 use Rattle.recovery_analysis.specs.declared.grouping.Transaction.{Transaction}
 use Rattle.recovery_analysis.specs.declared.changing.Change.{Change}
 use Rattle.recovery_analysis.specs.declared.working.Work.{Work}
 use Rattle.recovery_analysis.specs.Grouping.{IsAscending, number_of, IsTransactionOf, AreTransactionsOf}
 use Rattle.recovery_analysis.specs.Analyses.{AreThose, IsUnskipped}
-use Rattle.recovery_analysis.specs.Changes.{AreRedone, has_number, is_redone, is_deleted, new_value, given_back}
+use Rattle.recovery_analysis.specs.Changes.{has_number, is_redone, is_deleted, new_value, given_back}
 use Rattle.recovery_analysis.specs.Conditions.{IsSoundImage, IsSoundMerge}
 use Rattle.recovery_analysis.specs.Needs.{AreSmall}
-use Rattle.recovery_analysis.specs.Works.{next_lsn, need_in_log, appends_of, HasSpare, IsWorkOf}
-use Rattle.recovery_analysis.proofs.Lists.{map_among, among_map, reverse_among, among_reverse, filter_among, among_filter}
-use Rattle.recovery_analysis.proofs.Fated.{any_some, any_none, running_is, eq_true, both_true}
+use Rattle.recovery_analysis.specs.Works.{next_lsn, need_in_log, HasSpare, IsWorkOf}
+use Rattle.recovery_analysis.proofs.Lists.{map_among, among_map, reverse_among, filter_among, among_filter}
+use Rattle.recovery_analysis.proofs.Fated.{running_is, both_true}
 use Rattle.recovery_analysis.proofs.Soundly.{allowed_image, state_of_image, sound_of_image}
 use Rattle.recovery_analysis.proofs.Redoing.{has_among, redone_test, deleted_test, redo_done}
 use Rattle.recovery_analysis.proofs.Summing.{needs_are, filter_or, filter_few, of_numbers, passed_records, needs_less}
@@ -183,6 +181,19 @@ module _ (layout : Layout) (merged : List Placed) (h : IsSoundMerge layout merge
 
   pub need_small : (all undo : List Transaction) (needed : ℕ) → AreTransactionsOf (log_of merged) all → undo ≡ filter runs all → needed ≡ sum_by (λ (t : Transaction). need_of (log_of merged) t.number) undo → needed < 2 ^ 20
   need_small all undo needed whole is sum = let k = (undo_small all undo whole is).small in omega (arith, k, sum)
+
+  pub needed_is : (all undo slice : List Transaction) (needed : ℕ) → AreTransactionsOf (log_of merged) all → undo ≡ filter runs all → slice ≡ undo →
+      ((log : Log) → AreSmall log slice → needed ≡ sum_by (λ (t : Transaction). need_of log t.number) slice) → needed ≡ sum_by (need_in_log (log_of merged)) undo
+  needed_is all undo slice needed whole is same says =
+      says (log_of merged) (subst (AreSmall (log_of merged)) (sym same) (undo_small all undo whole is)) ∙ ap (sum_by (need_in_log (log_of merged))) same
+
+  pub needed_small : (all undo slice : List Transaction) (needed : ℕ) → AreTransactionsOf (log_of merged) all → undo ≡ filter runs all → slice ≡ undo →
+      ((log : Log) → AreSmall log slice → needed ≡ sum_by (λ (t : Transaction). need_of log t.number) slice) → needed < 2 ^ 20
+  needed_small all undo slice needed whole is same says = need_small all undo needed whole is (needed_is all undo slice needed whole is same says)
+
+  pub appends_small : (needed appends : ℕ) (checkpoint : Bool) → needed < 2 ^ 20 → appends ≡ needed + (if checkpoint then 1 else 0) → appends < 2 ^ 32
+  appends_small needed appends true lt e = omega (arith, lt, e)
+  appends_small needed appends false lt e = omega (arith, lt, e)
 
   next_small : (log : Log) (total : ℕ) → ((r : Record) → IsAmong log r → r.lsn ≤ 2 ^ 63) → total ≤ 49200 → next_lsn log + (total + 1) < 2 ^ 64
   next_small [] total each le = omega (arith, le)

@@ -1,5 +1,5 @@
 -- The needs of some transactions.
-use Rattle.std.specs.Prelude.{ℕ, ◌<◌, ◌^◌, List, sum_by}
+use Rattle.std.specs.Prelude.{◌<◌, ◌^◌, List, sum_by}
 use Rattle.persist_model.specs.Records.{Log, IsAmong}
 use Rattle.persist_model.specs.Need.{need_of}
 use Rattle.recovery_analysis.specs.declared.grouping.Transaction.{Transaction}

@@ -1,10 +1,10 @@
 -- What is to be done in a recovery.
-use Rattle.std.specs.Prelude.{◌≡◌, ◌↔◌, ℕ, ◌+◌, ◌*◌, ◌-◌, ◌<◌, ◌≤◌, ◌^◌, if◌then◌else◌, List, [], ◌∷◌, map, length, sum_by, IsTrue}
+use Rattle.std.specs.Prelude.{◌≡◌, ◌↔◌, ℕ, ◌+◌, ◌*◌, ◌-◌, ◌<◌, ◌≤◌, ◌^◌, if◌then◌else◌, [], ◌∷◌, map, length, sum_by, IsTrue}
 use Rattle.std.specs.Vec.{vec_len, vec_capacity}
 use Rattle.persist_model.specs.Records.{Log, IsAmong, IsCommitted, IsLoser}
 use Rattle.persist_model.specs.Shape.{Shape, part_of, IsHeapWord}
 use Rattle.persist_model.specs.Need.{need_of}
-use Rattle.persist_model.specs.State.{State, HasOpen, total_need}
+use Rattle.persist_model.specs.State.{HasOpen, total_need}
 use Rattle.recovery_run.specs.Groups.{ListsAll}
 use Rattle.recovery_run.specs.declared.gates.Gates.{Gates}
 use Rattle.recovery_analysis.specs.declared.grouping.Transaction.{Transaction}

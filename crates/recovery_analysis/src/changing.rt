@@ -60,7 +60,13 @@ fn keep_change(
     ensures { OnOk result (changes.new ≡ changes.old ++ (if wanted then record { word = word; value = value } ∷ [] else [])) }
 {
     if wanted {
-        return add(changes, Change { word: word as u32, value });
+        return add(
+            changes,
+            Change {
+                word: word as u32,
+                value,
+            },
+        );
     }
     Ok(())
 }
@@ -93,9 +99,9 @@ fn add_deleted(
     requires words { (x : Placed) → IsAmong merged.now x → IsTrue (is_deleted_of winners.now x) → x.cell.address < 2 ^ 32 }
     ensures { OnOk result (changes.new ≡ changes.old ++ map given_back (filter (is_deleted_of winners.now) merged.now)) }
 {
-    for placed in merged {
-        let wanted = is_deleted(winners, *placed);
-        keep_change(changes, placed.cell.address, 0, wanted)?;
+    for deletion in merged {
+        let wanted = is_deleted(winners, *deletion);
+        keep_change(changes, deletion.cell.address, 0, wanted)?;
     }
     Ok(())
 }

@@ -23,18 +23,14 @@ pub(crate) fn has_kind(records: &[Placed], kind: u64) -> bool
 fn has_commit(records: &[Placed]) -> bool
     ensures { result ≡ list_any (λ x. (x.cell.kind == 4) && (x.cell.outcome == 1)) records.now }
 {
-    records
-        .iter()
-        .any(|placed| placed.cell.kind == END && placed.cell.outcome == COMMITTED)
+    records.iter().any(|placed| placed.cell.kind == END && placed.cell.outcome == COMMITTED)
 }
 
 // Whether there is an end with a number below this one.
 fn has_end_below(records: &[Placed], number: u64) -> bool
     ensures { result ≡ list_any (λ x. (x.cell.kind == 4) && nat_lt x.cell.gate number) records.now }
 {
-    records
-        .iter()
-        .any(|placed| placed.cell.kind == END && placed.cell.gate < number)
+    records.iter().any(|placed| placed.cell.kind == END && placed.cell.gate < number)
 }
 
 /// Whether the transaction has no end.

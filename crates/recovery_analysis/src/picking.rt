@@ -64,7 +64,11 @@ pub(crate) fn unskipped_of(
 {
     let mut found = List::new(alloc);
     for transaction in all {
-        keep(&mut found, transaction.number, is_unskipped(transaction, checkpoint))?;
+        keep(
+            &mut found,
+            transaction.number,
+            is_unskipped(transaction, checkpoint),
+        )?;
     }
     Ok(found)
 }

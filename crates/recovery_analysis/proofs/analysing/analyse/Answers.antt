@@ -1,6 +1,5 @@
 use Rattle.std.proofs.Common.{◌≡◌, map, reverse, refl, sym, ap, ◌∙◌, subst}
 use Rattle.persist_model.specs.Records.{Log}
-use Rattle.region_layout.specs.Layout.{layout_shape}
 use Rattle.bucket_log.specs.Scans.{record_of_placed}
 use Rattle.recovery_analysis.specs.Grouping.{AreTransactionsOf}
 use Rattle.recovery_analysis.proofs.Soundly.{logs_of_image}

@@ -1,4 +1,4 @@
-use Rattle.std.proofs.Common.{◌==◌, ◌&&◌, ap, ◌∙◌}
+use Rattle.std.proofs.Common.{ap, ◌∙◌}
 use Rattle.std.specs.List.{list_any}
 use Rattle.recovery_analysis.proofs.Fated.{is_commit, committed_is}
 use Rattle.recovery_analysis.proofs.fates.is_committed.Goals as goal

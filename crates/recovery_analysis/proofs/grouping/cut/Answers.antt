@@ -1,4 +1,4 @@
-use Rattle.std.proofs.Common.{◌<◌, length, refl, arith, rules}
+use Rattle.std.proofs.Common.{◌<◌, length, refl, rules}
 use Rattle.recovery_analysis.proofs.Runs.{cut_goes_on}
 use Rattle.recovery_analysis.proofs.grouping.cut.Goals as goal
 

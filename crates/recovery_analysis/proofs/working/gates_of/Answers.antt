@@ -1,5 +1,4 @@
 use Rattle.std.proofs.Common.{◌+◌, ◌-◌, length, ap, arith}
-use Rattle.recovery_analysis.specs.Works.{HasSpare}
 use Rattle.recovery_analysis.proofs.Gathering.{gates_begin, gates_more, gates_whole}
 use Rattle.recovery_analysis.proofs.working.gates_of.Goals as goal
 

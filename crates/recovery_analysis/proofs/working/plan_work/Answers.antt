@@ -1,12 +1,11 @@
-use Rattle.std.proofs.Common.{◌≡◌, ◌+◌, ◌<◌, ◌^◌, ◌||◌, Bool, true, false, if◌then◌else◌, length, sym, ap, ◌∙◌, subst, arith}
+use Rattle.std.proofs.Common.{◌++◌, map, length, sym, ap, ◌∙◌, subst, arith}
 use Rattle.std.specs.List.{filter}
-use Rattle.persist_model.specs.Records.{IsCommitted}
 use Rattle.region_layout.specs.Layout.{policy_number}
 use Rattle.recovery_analysis.specs.Grouping.{IsAscending, AreTransactionsOf}
-use Rattle.recovery_analysis.specs.Analyses.{AreThose, IsUnskipped}
-use Rattle.recovery_analysis.specs.Changes.{is_redone, is_deleted}
+use Rattle.recovery_analysis.specs.Changes.{is_redone, is_deleted, new_value, given_back}
 use Rattle.recovery_analysis.specs.Needs.{AreSmall}
-use Rattle.recovery_analysis.proofs.Whole.{runs, log_of, redone_bounded, deleted_bounded, gate_bounded, undo_small, need_small, work_done}
+use Rattle.recovery_analysis.specs.Works.{HasSpare}
+use Rattle.recovery_analysis.proofs.Whole.{log_of, redone_bounded, deleted_bounded, gate_bounded, undo_small, needed_is, needed_small, appends_small, work_done}
 use Rattle.recovery_analysis.proofs.working.plan_work.Goals as goal
 
 pub redo_of-requires-clause-unskipped : goal.redo_of-requires-clause-unskipped
@@ -39,19 +38,44 @@ total_need-needed-requires c = (
 )
 
 pub gates_of-requires-clause-more : goal.gates_of-requires-clause-more
-gates_of-requires-clause-more c = ?
+gates_of-requires-clause-more c =
+    let small = needed_small c.args.layout c.args.merged.now c.requires c.in_ok-all.all c.running_of-undo.result c.as_slice-7.result.now c.total_need-needed.result c.in_ok-all.ensures c.running_of-undo.ensures
+    c.as_slice-7.ensures c.total_need-needed.ensures in omega (arith, small)
 
 pub gates_of-requires-clause-ends : goal.gates_of-requires-clause-ends
-gates_of-requires-clause-ends c = ?
+gates_of-requires-clause-ends c = omega (arith, c.as_slice-8.type_inv)
 
 pub appends_with-appends-requires : goal.appends_with-appends-requires
-appends_with-appends-requires c = ?
+appends_with-appends-requires c =
+    let small = needed_small c.args.layout c.args.merged.now c.requires c.in_ok-all.all c.running_of-undo.result c.as_slice-7.result.now c.total_need-needed.result c.in_ok-all.ensures c.running_of-undo.ensures
+    c.as_slice-7.ensures c.total_need-needed.ensures in omega (arith, small)
 
 pub next_number-requires : goal.next_number-requires
 next_number-requires c = gate_bounded c.args.layout c.args.merged.now c.requires
 
 pub most_events-requires-clause-appends : goal.most_events-requires-clause-appends
-most_events-requires-clause-appends c = ?
+most_events-requires-clause-appends c =
+    appends_small c.args.layout c.args.merged.now c.requires c.total_need-needed.result c.appends_with-appends.result c.has_checkpoint-checkpoint.result
+    (needed_small c.args.layout c.args.merged.now c.requires c.in_ok-all.all c.running_of-undo.result c.as_slice-7.result.now c.total_need-needed.result c.in_ok-all.ensures c.running_of-undo.ensures
+    c.as_slice-7.ensures c.total_need-needed.ensures) c.appends_with-appends.ensures
 
 pub returns : goal.returns
-returns c = ?
+returns c =
+    let log = log_of c.args.merged.now in
+    let merged = c.args.merged.now in
+    let policy = policy_number c.args.layout.policy in
+    let whole = c.in_ok-all.ensures in
+    work_done c.args.layout merged c.requires c.in_ok-all.all c.in_ok-unskipped.unskipped c.total_need-needed.result c.appends_with-appends.result _ whole
+    (c.in_ok-winners.ensures log (subst (AreTransactionsOf log) (sym c.as_slice.ensures) whole))
+    (c.in_ok-losers.ensures log (subst (AreTransactionsOf log) (sym c.as_slice-2.ensures) whole))
+    (c.in_ok-unskipped.ensures log (subst (AreTransactionsOf log) (sym c.as_slice-3.ensures) whole) c.newest_checkpoint-newest.ensures)
+    (c.in_ok-redo.ensures
+    ∙ ap (λ ns. map new_value (filter (is_redone policy ns) merged) ++ map given_back (filter (is_deleted c.as_slice-5.result.now) merged)) c.as_slice-4.ensures
+    ∙ ap (λ ns. map new_value (filter (is_redone policy c.in_ok-unskipped.unskipped) merged) ++ map given_back (filter (is_deleted ns) merged)) c.as_slice-5.ensures)
+    c.running_of-undo.ensures
+    (c.has_checkpoint-checkpoint.ensures log (subst (AreTransactionsOf log) (sym c.as_slice-6.ensures) whole) c.newest_checkpoint-newest.ensures)
+    c.in_ok-gates.ensures.lists
+    (subst (λ ts. HasSpare c.in_ok-gates.gates c.total_need-needed.result (length ts) 1) c.as_slice-8.ensures c.in_ok-gates.ensures.spare)
+    (needed_is c.args.layout merged c.requires c.in_ok-all.all c.running_of-undo.result c.as_slice-7.result.now c.total_need-needed.result whole c.running_of-undo.ensures
+    c.as_slice-7.ensures c.total_need-needed.ensures)
+    c.next_number.ensures c.appends_with-appends.ensures c.most_events.ensures

@@ -1,4 +1,4 @@
-use Rattle.std.proofs.Common.{◌==◌, not, ap, sym, ◌∙◌, rules}
+use Rattle.std.proofs.Common.{◌==◌, not, ap, ◌∙◌, rules}
 use Rattle.std.specs.List.{filter, list_any}
 use Rattle.std.proofs.lemmas.Fn.{filter_same}
 use Rattle.bucket_log.specs.declared.scanning.Placed.{Placed}

@@ -1,8 +1,4 @@
-use Rattle.std.proofs.Common.{◌≡◌, ◌<◌, ◌≤◌, ◌+◌, ◌^◌, take, get_or, sym, ap, ◌∙◌, subst, arith}
-use Rattle.std.specs.Prelude.{sum_by}
-use Rattle.std.proofs.lemmas.List.Sums.{sum_by_more, sum_by_more_le}
-use Rattle.persist_model.specs.Need.{need_of}
-use Rattle.recovery_analysis.specs.declared.grouping.Transaction.{Transaction}
+use Rattle.std.proofs.Common.{sym, arith}
 use Rattle.recovery_analysis.proofs.Summing.{needs_more, needs_fit, needs_whole}
 use Rattle.recovery_analysis.proofs.working.total_need.Goals as goal
 
