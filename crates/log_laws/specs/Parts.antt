@@ -31,10 +31,11 @@ pub record Leads (shape : Shape) (p : Progress) (s : State) (plan : List Event) 
   pub images : (k : ℕ) (v : Words) → Reaches (λ a. a < words_of_shape shape) (advance_all p (take k plan)) v →
       (x : State) × HasState shape v x × Steps shape s x
 
--- each image is sound, with the standing words of the state first
-abbrev pub EachKeeps : Shape → State → Region → Type 0
-EachKeeps shape first region = (words : List ℕ) → IsImage words region →
-    (x : State) × HasState shape (slice_index words) x × IsSoundState shape x × KeepsStanding shape.policy first x
+-- The region is as large as the shape says, and each image is sound, with the standing words of the state first.
+pub record EachKeeps (shape : Shape) (first : State) (region : Region) : Type 0 where
+  pub size : region.size ≡ words_of_shape shape
+  pub each : (words : List ℕ) → IsImage words region →
+      (x : State) × HasState shape (slice_index words) x × IsSoundState shape x × KeepsStanding shape.policy first x
 
 -- Wherever a part is stopped, each image keeps the standing words.
 abbrev pub PartsKeep : Type 0

@@ -100,7 +100,7 @@ module _ (old later : Region) (s0 : State) (h : IsBegun old s0) (size : later.si
       let same = image_header words image in
       let length_is : length words ≡ old.size = image.long ∙ size in
       let shape_is : shape_of i ≡ shape_of w = shape_same old.size (length words) w i h.shape length_is same in
-      let x = kept words image in (
+      let x = kept.each words image in (
         record {
           shape = is_shape_same old.size (length words) w i h.shape length_is same;
           state = x.0;

@@ -1,3 +1,4 @@
 pub mod Counting
 pub mod Buckets
 pub mod Ends
+pub mod Redoing

@@ -1,10 +1,9 @@
 // The stage of a recovery that stores again what ended transactions wrote.
-ghost use Rattle.std.specs.Prelude.{◌≡◌, ◌≤◌, ◌<◌, ◌+◌, [], length};
+ghost use Rattle.std.specs.Prelude.{◌≡◌, ◌≤◌, ◌+◌, [], length};
 ghost use Rattle.persist_model.specs.Records.{IsAmong};
-ghost use Rattle.persist_model.specs.Shape.{Shape, heap};
+ghost use Rattle.persist_model.specs.Shape.{Shape};
 ghost use Rattle.persist_model.specs.State.{State, IsSoundState};
 ghost use Rattle.log_laws.specs.Parts.{EachKeeps};
-ghost use Rattle.log_laws.specs.Recovery.{IsCovered};
 ghost use Rattle.log_laws.specs.Recovering.{with_heap};
 ghost use Rattle.recovery_run.specs.Edges.{HasCounted, KeepsWords};
 ghost use Rattle.recovery_run.specs.Reached.{HasReached, HasSettled};
@@ -18,7 +17,7 @@ use recovery_run::{fence, store};
 
 // Stores each value, in order.
 fn store_all<D: Device>(device: &mut D, changes: &[Change]) -> Done
-    requires words { (c : Change) → IsAmong changes.now c → c.word < (D.cells device.old).size }
+    requires can { (shape : Shape) × (first : State) × (y : State) × HasReached shape first y (D.cells device.old) × MayStore shape y changes.now }
     requires spare { length changes.now ≤ D.spare device.old }
     ensures made { result ≡ Done.Made → (shape : Shape) (first y : State) → HasReached shape first y (D.cells device.old) → MayStore shape y changes.now
         → HasReached shape first (with_heap y (stored changes.now y.words)) (D.cells device.new) }
@@ -39,7 +38,7 @@ fn store_all<D: Device>(device: &mut D, changes: &[Change]) -> Done
 
 /// Stores each value, in order, and fences. No event is made where there is none to store.
 pub fn redo_all<D: Device>(device: &mut D, changes: &[Change]) -> Done
-    requires words { (c : Change) → IsAmong changes.now c → c.word < (D.cells device.old).size }
+    requires can { (shape : Shape) × (first : State) × (y : State) × HasSettled shape first y (D.cells device.old) × MayStore shape y changes.now }
     requires spare { length changes.now ≤ D.spare device.old }
     ensures made { result ≡ Done.Made → (shape : Shape) (first y : State) → HasSettled shape first y (D.cells device.old) → MayStore shape y changes.now
         → HasSettled shape first (with_heap y (stored changes.now y.words)) (D.cells device.new) }

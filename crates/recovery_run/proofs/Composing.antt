@@ -40,15 +40,18 @@ steps_all shape s x _ h (makes {x = z} k step) = makes (steps_all shape s x z h 
 
 pub parts_keep : (shape : Shape) (first : State) (p : Progress) (w : Words) (s : State) (region : Region) (plan : List Event) (k : ℕ) →
     IsSoundState shape first → HasCome shape first p w s region → Leads shape p s plan → EachKeeps shape first (after_plan RECOVERY region (take k plan))
-parts_keep shape first p w s region plan k sound h leads = λ words image.
-    let events : List Event = take k plan in
-    let tracks = tracks_plan (λ a. a < words_of_shape shape) RECOVERY p region events (durable_take k plan leads.durable) h.tracks in
-    let size : (after_plan RECOVERY region events).size ≡ words_of_shape shape = size_plan RECOVERY region events ∙ h.size in
-    let r = Reaches-image (λ a. a < words_of_shape shape) RECOVERY (advance_all p events) (after_plan RECOVERY region events) (slice_index words)
-    (λ a lt. subst (λ n. a < n) (sym size) lt) image.each tracks in
-    let x = leads.images k (slice_index words) r in
-    let kept = runs_keep shape first x.0 sound (steps_all shape first s x.0 h.steps x.2) in
-    (x.0, x.1, kept.0, kept.1)
+parts_keep shape first p w s region plan k sound h leads = record {
+  size = size_plan RECOVERY region (take k plan) ∙ h.size;
+  each = λ words image.
+      let events : List Event = take k plan in
+      let tracks = tracks_plan (λ a. a < words_of_shape shape) RECOVERY p region events (durable_take k plan leads.durable) h.tracks in
+      let size : (after_plan RECOVERY region events).size ≡ words_of_shape shape = size_plan RECOVERY region events ∙ h.size in
+      let r = Reaches-image (λ a. a < words_of_shape shape) RECOVERY (advance_all p events) (after_plan RECOVERY region events) (slice_index words)
+      (λ a lt. subst (λ n. a < n) (sym size) lt) image.each tracks in
+      let x = leads.images k (slice_index words) r in
+      let kept = runs_keep shape first x.0 sound (steps_all shape first s x.0 h.steps x.2) in
+      (x.0, x.1, kept.0, kept.1);
+}
 
 pub parts_go_on : (shape : Shape) (first : State) (p : Progress) (w d : Words) (s y : State) (region : Region) (plan : List Event) →
     HasCome shape first p w s region → Leads shape p s plan → advance_all p plan ≡ start d → HasState shape d y → Steps shape s y →
