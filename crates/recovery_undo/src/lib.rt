@@ -1,0 +1,2 @@
+//! The records that recovery appends, and the undo of one running transaction.
+#![tactic(auto)]
