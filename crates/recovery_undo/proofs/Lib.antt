@@ -1,3 +1,6 @@
 pub mod RecordsOf
 pub mod Noting
 pub mod Passing
+pub mod Places
+pub mod Planned
+pub mod Taking
