@@ -17,13 +17,15 @@ use Rattle.log_laws.proofs.Growing.{Descends, numbered, one_before}
 use Rattle.log_laws.proofs.Keeping.{recovery_keeps, good_of, undone_of}
 use Rattle.log_laws.proofs.Clearing.{loser_needs}
 use Rattle.log_laws.proofs.Needs.{need_rollback, need_compensation, need_end, has_kind_true, has_kind_false}
-use Rattle.log_laws.proofs.Applying.{set_word, applied_stored, applied_noted, applied_ended}
+use Rattle.log_laws.proofs.Applying.{applied_stored, applied_noted, applied_ended}
 use Rattle.log_laws.proofs.Passes.{part_inside}
 use Rattle.bucket_log.specs.States.{less_room}
 use Rattle.bucket_log.proofs.PartStates.{less_here, less_elsewhere}
 use Rattle.bucket_log.proofs.Scans.{among_right, among_append}
+use Rattle.recovery_run.specs.Reached.{with_value}
 use Rattle.recovery_run.proofs.Coming.{compensation_may_come, rollback_may_come}
 use Rattle.recovery_undo.specs.Numbers.{next_lsn}
+use Rattle.recovery_undo.specs.Passing.{IsNote, IsUndoing}
 use Rattle.recovery_undo.specs.Records.{compensation_of, plain_record}
 
 -- ---- a record takes the next number and a cell of its part
@@ -55,22 +57,6 @@ appends_here shape part s r x some h m enough here next formed = record {
 }
 
 -- ---- the undo of one transaction
-
--- a compensation or a rollback record of t
-abbrev pub IsNote : ℕ → Record → Type 0
-IsNote t r = (r.transaction ≡ t) × ((r.kind ≡ 2) ⊎ (r.kind ≡ 3))
-
--- The undo of t began at the state y and has come to z: t runs, its records stand in this part, and notes of it came.
-pub record IsUndoing (shape : Shape) (t part : ℕ) (y z : State) : Type 0 where
-  pub sound : IsSoundState shape z
-  pub running : IsRunning z.log t
-  pub some : Has (IsOf t) z.log
-  pub in_part : (r : Record) → IsAmong z.log r → IsOf t r → part_of shape r.at ≡ part
-  pub applied : AreApplied shape.policy z.log z.words
-  pub news : Log
-  pub log : z.log ≡ news ++ y.log
-  pub notes : (r : Record) → IsAmong news r → IsNote t r
-  pub need : length news + need_of z.log t ≡ need_of y.log t
 
 in_one_part : (part : ℕ → ℕ) (log : Log) (t : ℕ) → IsInOrder part log → (x y : Record) → IsAmong log x → IsAmong log y → IsOf t x → IsOf t y → part x.at ≡ part y.at
 in_one_part part log t f x y m k of_x of_y = elim (decide_equal (part x.at) (part y.at)) [
@@ -198,13 +184,13 @@ module _ (shape : Shape) (t part : ℕ) (y z : State) (few : 1 ≤ shape.partiti
   pub covers : (u : Record) → IsAmong z.log u → IsUpdate u → u.transaction ≡ t → IsCovered shape.policy z.log u.word
   covers u m is owner = inl (u, m, (is, refl, subst (λ x. IsRunning z.log x) (sym owner) h.running))
 
-  pub stored : (u : Record) → IsAmong z.log u → IsUpdate u → u.transaction ≡ t → IsUndoing shape t part y (with_heap z (set_word z.words u.word u.before))
+  pub stored : (u : Record) → IsAmong z.log u → IsUpdate u → u.transaction ≡ t → IsUndoing shape t part y (with_heap z (with_value z.words u.word u.before))
   stored u m is owner = record {
     sound = record { newest_first = h.sound.newest_first; gates = h.sound.gates; formed = h.sound.formed; order = h.sound.order; room = h.sound.room; numbers = h.sound.numbers };
     running = h.running;
     some = h.some;
     in_part = h.in_part;
-    applied = applied_stored shape.policy z.log z.words (set_word z.words u.word u.before) (numbered (part_of shape) z.log z.log h.sound.order)
+    applied = applied_stored shape.policy z.log z.words (with_value z.words u.word u.before) (numbered (part_of shape) z.log z.log h.sound.order)
         (λ a. elim (eqb_tells a u.word) [
           | inr ne ↦ inl (let off = ne.0 in rw off refl)
           | inl e ↦ inr (u, m, (is, sym e.1, subst (λ x. IsRunning z.log x) (sym owner) h.running))

@@ -12,14 +12,16 @@ use Rattle.log_laws.specs.Recovery.{IsStored, grown}
 use Rattle.log_laws.specs.Recovering.{with_heap}
 use Rattle.log_laws.proofs.Keeping.{good_of}
 use Rattle.log_laws.proofs.Needs.{kind_test}
-use Rattle.log_laws.proofs.Applying.{set_word, undone_words, undone_stored}
+use Rattle.log_laws.proofs.Applying.{undone_words, undone_stored}
 use Rattle.bucket_log.specs.States.{less_room}
 use Rattle.bucket_log.proofs.Scans.{among_right, among_append}
 use Rattle.recovery_run.specs.Groups.{records_of}
 use Rattle.recovery_undo.specs.Numbers.{next_lsn}
+use Rattle.recovery_run.specs.Reached.{with_value}
+use Rattle.recovery_undo.specs.Passing.{IsUndoing, IsPassing}
 use Rattle.recovery_undo.specs.Records.{compensation_of, plain_record}
 use Rattle.recovery_undo.proofs.RecordsOf.{to_undo-records_of, undone_words-records_of, records_of_are}
-use Rattle.recovery_undo.proofs.Noting.{IsUndoing, compensated, stored, rolled_back}
+use Rattle.recovery_undo.proofs.Noting.{compensated, stored, rolled_back}
 
 -- ---- a stack without its first records
 
@@ -48,15 +50,6 @@ drop_next : (n : ℕ) (r : Record) (stack : Log) → drop (n + 1) (r ∷ stack) 
 drop_next n r stack = rw add-one refl
 
 -- ---- the pass
-
--- The undo of t has come to z, with its rollback record; these records of t are still to pass, and so many of their compensations'
--- updates are passed over. What is left of the stack is the stack of what is left, without those.
-pub record IsPassing (shape : Shape) (t part : ℕ) (y z : State) (left : Log) (counter : ℕ) : Type 0 where
-  pub undoing : IsUndoing shape t part y z
-  pub rolled : Has (λ x. IsOf t x × IsRollback x) z.log
-  pub among : (u : Record) → IsAmong left u → IsAmong y.log u × IsOf t u
-  pub left_is : to_undo t z.log ≡ drop counter (to_undo t left)
-  pub words : undone_words t left z.words ≡ undone_words t y.log y.words
 
 pub pass_begins : (shape : Shape) (t part : ℕ) (y z : State) → IsUndoing shape t part y z → Has (λ x. IsOf t x × IsRollback x) z.log → z.words ≡ y.words →
     to_undo t z.log ≡ to_undo t y.log → IsPassing shape t part y z (records_of t y.log) 0
@@ -121,7 +114,7 @@ module _ (shape : Shape) (t part : ℕ) (y z : State) (r : Record) (left : Log) 
 
   -- an update that is compensated: its OLD is stored
   pub pass_update : (few : 1 ≤ shape.partitions) (counter : ℕ) → IsPassing shape t part y z (r ∷ left) (counter + 1) → IsUpdate r →
-      IsPassing shape t part y (with_heap z (set_word z.words r.word r.before)) left counter
+      IsPassing shape t part y (with_heap z (with_value z.words r.word r.before)) left counter
   pass_update few counter h is =
       let one = test_of 1 1 true (owner (counter + 1) h) is refl in
       record {

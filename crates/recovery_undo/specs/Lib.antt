@@ -1,3 +1,5 @@
 pub mod Numbers
 pub mod Records
 pub mod Appending
+pub mod Undoing
+pub mod Passing

@@ -2,5 +2,8 @@
 #![tactic(auto)]
 
 mod appending;
+mod target;
+mod undoing;
 
 pub use appending::{Appended, append_record};
+pub use undoing::undo;
