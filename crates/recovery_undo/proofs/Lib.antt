@@ -4,3 +4,4 @@ pub mod Passing
 pub mod Places
 pub mod Planned
 pub mod Taking
+pub mod Going

@@ -34,7 +34,7 @@ use Rattle.recovery_undo.specs.Appending.{CanTake, IsPlaceFor}
 use Rattle.recovery_undo.proofs.Places.{allowed, has}
 use Rattle.recovery_undo.proofs.Planned.{IsBehind, behind, elsewhere, to_append_zero, all_within}
 
-list_words_few : (p : ℕ) → p < 3 → list_words p ≤ 26
+pub list_words_few : (p : ℕ) → p < 3 → list_words p ≤ 26
 list_words_few p lt = let x = list_words_cases p lt in grind (arith, x)
 
 -- the list words of two partitions are apart

@@ -131,24 +131,24 @@ fn undo_update<D: Device>(
 fn turn<D: Device>(
     device: &mut D,
     target: Target,
-    record: &Placed,
+    placed: &Placed,
     counter: &mut usize,
     next: &mut u64,
     gates: &mut Gates,
 ) -> Done
-    requires passes { (start : Start) × (left : Log) × Passes target start (record_of_placed record.now ∷ left) counter.old next.old gates.old
+    requires passes { (start : Start) × (left : Log) × Passes target start (record_of_placed placed.now ∷ left) counter.old next.old gates.old
         (seen (D.cells device.old) (D.counts device.old) (D.spare device.old)) }
     requires counter { counter.old + 1 < 2 ^ 64 }
     ensures made { result ≡ Done.Made → (start : Start) (left : Log)
-        → Passes target start (record_of_placed record.now ∷ left) counter.old next.old gates.old (seen (D.cells device.old) (D.counts device.old) (D.spare device.old))
+        → Passes target start (record_of_placed placed.now ∷ left) counter.old next.old gates.old (seen (D.cells device.old) (D.counts device.old) (D.spare device.old))
         → Passes target start left counter.new next.new gates.new (seen (D.cells device.new) (D.counts device.new) (D.spare device.new)) }
     ensures stopped { result ≡ Done.Stopped → (start : Start) (left : Log)
-        → Passes target start (record_of_placed record.now ∷ left) counter.old next.old gates.old (seen (D.cells device.old) (D.counts device.old) (D.spare device.old))
+        → Passes target start (record_of_placed placed.now ∷ left) counter.old next.old gates.old (seen (D.cells device.old) (D.counts device.old) (D.spare device.old))
         → Halts target start (seen (D.cells device.new) (D.counts device.new) (D.spare device.new)) }
     ensures counter { counter.new ≤ counter.old + 1 }
 {
-    match record.cell.kind {
-        1 => undo_update(device, target, record, counter, next, gates),
+    match placed.cell.kind {
+        1 => undo_update(device, target, placed, counter, next, gates),
         2 => {
             *counter += 1;
             Done::Made
