@@ -61,6 +61,9 @@ spent_within shape a b done x y le h = record {
   header = h.header;
 }
 
+pub counted_as : (n : ℕ) (done is : Done) (before later : Counts) → done ≡ is → HasCounted n done before later → HasCounted n is before later
+counted_as n done is before later e h = subst (λ (d : Done). HasCounted n d before later) e h
+
 -- ---- the gates
 
 pub lists_gate : (log : Log) (r : Record) (gates ends checkpoints : List ℕ) → (IsEnd r → ⊥) → (IsCheckpoint r → ⊥) → ListsAll log gates ends checkpoints → ListsAll (r ∷ log) (gates ++ r.at ∷ []) ends checkpoints

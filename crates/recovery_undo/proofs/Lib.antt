@@ -5,3 +5,4 @@ pub mod Places
 pub mod Planned
 pub mod Taking
 pub mod Going
+pub mod Stepping

@@ -146,14 +146,21 @@ module _ (shape : Shape) (t part : ℕ) (y z : State) (few : 1 ≤ shape.partiti
       let r = plain_record at (next_lsn z.log) t 3 0 in
       rollback_may_come shape z r (less_room part z.room) (note_appends r here refl (rollback_formed at)) (note_loser r refl here) refl first
 
+  pub rollback_less : (at : ℕ) → HasNo (λ x. IsOf t x × IsRollback x) z.log → need_of (plain_record at (next_lsn z.log) t 3 0 ∷ z.log) t + 1 ≡ need_of z.log t
+  rollback_less at first = need_rollback t (plain_record at (next_lsn z.log) t 3 0) z.log refl refl not_ended
+      (has_kind_false t 3 z.log (λ x m k. first x m ((k.1, (λ five. (let three = k.0 in absurd (omega (arith, three, five))))), k.0)))
+
   pub rolled_back : (at : ℕ) → part_of shape at ≡ part → HasNo (λ x. IsOf t x × IsRollback x) z.log →
       IsUndoing shape t part y (grown z (plain_record at (next_lsn z.log) t 3 0) (less_room part z.room))
   rolled_back at here first =
       let r = plain_record at (next_lsn z.log) t 3 0 in
       noted r (refl, inr refl) here (rolls_back r (less_room part z.room) (note_appends r here refl (rollback_formed at)) (note_loser r refl here) refl first)
-      (need_rollback t r z.log refl refl not_ended (has_kind_false t 3 z.log (λ x m k. first x m ((k.1, (λ five. (let three = k.0 in absurd (omega (arith, three, five))))), k.0))))
+      (rollback_less at first)
 
   -- ---- a compensation
+
+  pub compensation_less : (u : Record) (stack : Log) (at : ℕ) → to_undo t z.log ≡ u ∷ stack → need_of (compensation_of t u at (next_lsn z.log) ∷ z.log) t + 1 ≡ need_of z.log t
+  compensation_less u stack at top = need_compensation t (compensation_of t u at (next_lsn z.log)) u stack z.log refl refl not_ended top
 
   compensation_formed : (u : Record) (at : ℕ) → IsAmong z.log u → IsUpdate u → IsWellFormed shape (compensation_of t u at (next_lsn z.log))
   compensation_formed u at m is = record {
@@ -177,7 +184,7 @@ module _ (shape : Shape) (t part : ℕ) (y z : State) (few : 1 ≤ shape.partiti
       let c = compensation_of t u at (next_lsn z.log) in
       noted c (refl, inl refl) here (compensates c u stack (less_room part z.room) (note_appends c here refl (compensation_formed u at m is)) (note_loser c refl here) refl top
       (record { word = refl; before = refl; after = refl; undo_next = refl }))
-      (need_compensation t c u stack z.log refl refl not_ended top)
+      (compensation_less u stack at top)
 
   -- ---- a store of an OLD
 
