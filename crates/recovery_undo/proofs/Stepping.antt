@@ -1,5 +1,7 @@
 -- The turns of the pass on the device: what each needs, and how the pass goes on behind it.
 use Rattle.std.proofs.Common.{◌≡◌, ◌≢◌, ◌⊎◌, inl, inr, ℕ, zero, suc, ◌+◌, ◌-◌, ◌*◌, ◌<◌, ◌≤◌, ◌==◌, Bool, true, false, List, [], ◌∷◌, ◌++◌, length, map, reverse, refl, sym, ap, ◌∙◌, subst, arith}
+use Rattle.std.proofs.Common.{get_or, take}
+use Rattle.std.proofs.lemmas.List.{take_more, map-append, reverse-append}
 use Rattle.std.specs.Vec.{vec_len, vec_capacity}
 use Rattle.persist_model.specs.Region.{Region}
 use Rattle.persist_model.specs.Records.{Record, Log, IsAmong, Has, HasNo, IsOf, IsUpdate, IsCompensation, IsRollback}
@@ -15,6 +17,8 @@ use Rattle.log_laws.specs.Parts.{EachKeeps}
 use Rattle.region_layout.specs.declared.cell.Cell.{Cell}
 use Rattle.region_layout.specs.Cell.{record_of}
 use Rattle.region_layout.specs.Layout.{layout_shape}
+use Rattle.bucket_log.specs.declared.scanning.Placed.{Placed}
+use Rattle.bucket_log.specs.Scans.{record_of_placed}
 use Rattle.bucket_log.specs.States.{less_room}
 use Rattle.recovery_run.specs.declared.gates.Gates.{Gates}
 use Rattle.recovery_run.specs.Edges.{HasCounted, KeepsWords, IsHeaderWord}
@@ -165,3 +169,17 @@ module _ (target : Target) (start : Start) (u : Record) (left : Log) (next : ℕ
 -- the same count
 pub passes_at : (target : Target) (start : Start) (left : Log) (n m next : ℕ) (gates : Gates) (now : Seen) → n ≡ m → Passes target start left n next gates now → Passes target start left m next gates now
 passes_at target start left n m next gates now e h = subst (λ k. Passes target start left k next gates now) e h
+
+abbrev pub no_placed : Placed
+no_placed = record { at = 0; cell = record { gate = 0; transaction = 0; kind = 0; address = 0; before = 0; after = 0; undo_next = 0; outcome = 0 } }
+
+-- the first records, newest first: the last of them, and those before it
+pub newest_of : (xs : List Placed) (i n : ℕ) (d : Placed) → i < length xs → n ≡ i + 1 → reverse (map record_of_placed (take n xs)) ≡ record_of_placed (get_or xs i d) ∷ reverse (map record_of_placed (take i xs))
+newest_of xs i n d lt is =
+    ap (λ k. reverse (map record_of_placed (take k xs))) is
+    ∙ ap (λ (ys : List Placed). reverse (map record_of_placed ys)) (take_more xs i d lt)
+    ∙ ap reverse (map-append record_of_placed (take i xs) (get_or xs i d ∷ []))
+    ∙ reverse-append (map record_of_placed (take i xs)) (record_of_placed (get_or xs i d) ∷ [])
+
+pub passes_on : (target : Target) (start : Start) (left rest : Log) (n next : ℕ) (gates : Gates) (now : Seen) → left ≡ rest → Passes target start left n next gates now → Passes target start rest n next gates now
+passes_on target start left rest n next gates now e h = subst (λ l. Passes target start l n next gates now) e h
