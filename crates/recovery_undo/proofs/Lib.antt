@@ -6,3 +6,4 @@ pub mod Planned
 pub mod Taking
 pub mod Going
 pub mod Stepping
+pub mod Beginning
