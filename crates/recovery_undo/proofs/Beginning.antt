@@ -178,6 +178,7 @@ module _ (layout : Layout) (t next : ℕ) (records : List Placed) (gates : Gates
       record {
         gone = record {
           sound = h.sound;
+          origin = sound;
           reached = settled_reached (layout_shape layout) first y now.region h.settled;
           quiet = h.quiet;
           next_is = h.next_is;

@@ -145,7 +145,7 @@ next_fits shape z sound r m = by_log z.log refl
 pub need_some : (log : Log) (t : ℕ) → IsRunning log t → 1 ≤ need_of log t
 need_some log t running = let off = has_kind_false t 4 log running in rw off (omega arith)
 
-next_is_some : (log : Log) → next_lsn log ≢ 0
+pub next_is_some : (log : Log) → next_lsn log ≢ 0
 next_is_some [] e = omega (arith, e)
 next_is_some (x ∷ log) e = omega (arith, e)
 
@@ -255,6 +255,7 @@ module _ (target : Target) (start : Start) (z : State) (left next : ℕ) (gates 
         (λ five. elim (k.note at).1 [ inl two ↦ absurd (omega (arith, five, two)) | inr three ↦ absurd (omega (arith, five, three)) ]) h.lists in
         record {
           sound = h.sound;
+          origin = h.origin;
           reached = settled_reached shape start.first (with_cell z target.partition cell at) later.region settled;
           quiet = quiet;
           next_is = (let e = h.next_is in let f = k.gate in let both : next ≡ cell.gate = e ∙ sym f in ap (λ n. n + 1) both);

@@ -7,3 +7,4 @@ pub mod Taking
 pub mod Going
 pub mod Stepping
 pub mod Beginning
+pub mod Ending

@@ -37,6 +37,7 @@ use Rattle.recovery_undo.proofs.Going.{spent_more, few_partitions, halts, store_
 pub gone_less : (target : Target) (start : Start) (z : State) (left next : ℕ) (gates : Gates) (now : Seen) → HasGone target start z (suc left) next gates now → HasGone target start z left next gates now
 gone_less target start z left next gates now h = record {
   sound = h.sound;
+  origin = h.origin;
   reached = h.reached;
   quiet = h.quiet;
   next_is = h.next_is;
@@ -58,6 +59,7 @@ pub store_goes : (target : Target) (start : Start) (z : State) (left next : ℕ)
     HasGone target start (with_heap z w) left next gates later
 store_goes target start z left next gates now later w h reached quiet spent = record {
   sound = h.sound;
+  origin = h.origin;
   reached = reached;
   quiet = quiet;
   next_is = h.next_is;

@@ -87,6 +87,7 @@ pub record Start : Type 0 where
 -- still needed fits.
 pub record HasGone (target : Target) (start : Start) (z : State) (left next : ℕ) (gates : Gates) (now : Seen) : Type 0 where
   pub sound : IsSoundState (layout_shape target.layout) start.first
+  pub origin : IsSoundState (layout_shape target.layout) start.state
   pub reached : HasReached (layout_shape target.layout) start.first z now.region
   pub quiet : AreQuiet (layout_shape target.layout) now.region
   pub next_is : next ≡ next_lsn z.log
