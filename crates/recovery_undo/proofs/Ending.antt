@@ -218,3 +218,9 @@ module _ (target : Target) (start : Start) (counter next : ℕ) (gates : Gates) 
             };
             spent = used_all Made later spent;
           }
+
+-- however it ends, so much is spent at most
+pub all_spent : (target : Target) (start : Start) (done : Done) (next : ℕ) (gates : Gates) (later : Seen) → (done ≡ Made → Finishes target start next gates later) → (done ≡ Stopped → Halts target start later) →
+    HasSpent (layout_shape target.layout) start.most done start.now later
+all_spent target start Made next gates later made stopped = (made refl).spent
+all_spent target start Stopped next gates later made stopped = (stopped refl).spent

@@ -205,6 +205,26 @@ fn finish<D: Device>(device: &mut D, target: Target, next: &mut u64, gates: &mut
     }
 }
 
+// Undoes the transaction of these records.
+fn undo_target<D: Device>(device: &mut D, target: Target, records: &[Placed], next: &mut u64, gates: &mut Gates) -> Done
+    requires { (start : Start) × Begins target start records.now next.old gates.old (seen (D.cells device.old) (D.counts device.old) (D.spare device.old)) }
+    ensures made { result ≡ Done.Made → (start : Start)
+        → Begins target start records.now next.old gates.old (seen (D.cells device.old) (D.counts device.old) (D.spare device.old))
+        → Finishes target start next.new gates.new (seen (D.cells device.new) (D.counts device.new) (D.spare device.new)) }
+    ensures stopped { result ≡ Done.Stopped → (start : Start)
+        → Begins target start records.now next.old gates.old (seen (D.cells device.old) (D.counts device.old) (D.spare device.old))
+        → Halts target start (seen (D.cells device.new) (D.counts device.new) (D.spare device.new)) }
+{
+    match begin(device, target, records, next, gates) {
+        Done::Stopped => return Done::Stopped,
+        Done::Made => {}
+    }
+    match pass(device, target, records, next, gates) {
+        Done::Stopped => Done::Stopped,
+        Done::Made => finish(device, target, next, gates),
+    }
+}
+
 /// Undoes a running transaction: a rollback record, the compensations that are missing, the old words, and an end.
 ///
 /// `records` are the transaction's, oldest first. `next` is the number after all, and is raised. The gates of what is appended
@@ -233,12 +253,5 @@ pub fn undo<D: Device>(
         transaction,
         partition: partition_of(layout, records[0].at),
     };
-    match begin(device, target, records, next, gates) {
-        Done::Stopped => return Done::Stopped,
-        Done::Made => {}
-    }
-    match pass(device, target, records, next, gates) {
-        Done::Stopped => Done::Stopped,
-        Done::Made => finish(device, target, next, gates),
-    }
+    undo_target(device, target, records, next, gates)
 }
