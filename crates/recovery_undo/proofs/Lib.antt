@@ -8,3 +8,4 @@ pub mod Going
 pub mod Stepping
 pub mod Beginning
 pub mod Ending
+pub mod Checkpointing

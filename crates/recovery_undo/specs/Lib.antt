@@ -3,3 +3,4 @@ pub mod Records
 pub mod Appending
 pub mod Undoing
 pub mod Passing
+pub mod Checkpoint

@@ -2,8 +2,10 @@
 #![tactic(auto)]
 
 mod appending;
+mod checkpoint;
 mod target;
 mod undoing;
 
 pub use appending::{Appended, append_record};
+pub use checkpoint::append_checkpoint;
 pub use undoing::undo;
