@@ -1,0 +1,11 @@
+pub mod RecordsOf
+pub mod Noting
+pub mod Passing
+pub mod Places
+pub mod Planned
+pub mod Taking
+pub mod Going
+pub mod Stepping
+pub mod Beginning
+pub mod Ending
+pub mod Checkpointing

@@ -1,0 +1,46 @@
+use Rattle.std.proofs.Common.{◌≡◌, ◌≤◌, ◌<◌, ℕ, ◌+◌, length, refl, sym, ap, ◌∙◌, subst, arith}
+use Rattle.lane_traits.specs.declared.device.Done.{Done}
+use Rattle.lane_traits.specs.declared.device.Done.TheVariants.{Made, Stopped}
+use Rattle.region_layout.specs.Layout.{layout_shape}
+use Rattle.recovery_undo.specs.Passing.{seen, HasSpent}
+use Rattle.recovery_undo.proofs.Going.{note_take, note_spare, note_fits, note_next, note_halts, note_goes}
+use Rattle.recovery_undo.proofs.undoing.append_note.Goals as goal
+
+pub append_record-requires-clause-can : goal.append_record-requires-clause-can
+append_record-requires-clause-can g c =
+    let at = c.requires in
+    (at.0.first, at.1, note_take c.args.target at.0 at.1 at.2 c.args.next.now c.args.gates.now _ at.3 c.args.cell.now at.4)
+
+pub append_record-requires-clause-spare : goal.append_record-requires-clause-spare
+append_record-requires-clause-spare g c =
+    let at = c.requires in
+    note_spare c.args.target at.0 at.1 at.2 c.args.next.now c.args.gates.now _ at.3 c.args.cell.now at.4
+
+pub put-requires : goal.put-requires
+put-requires g c =
+    let at = c.requires in
+    note_fits c.args.target at.0 at.1 at.2 c.args.next.now c.args.gates.now _ at.3 c.args.cell.now at.4
+
+pub overflow_add-next : goal.overflow_add-next
+overflow_add-next g c =
+    let at = c.requires in
+    let lt = note_next c.args.target at.0 at.1 at.2 c.args.next.now c.args.gates.now _ at.3 c.args.cell.now at.4 in
+    omega (arith, lt)
+
+pub returns-in-Stopped-clause-stopped : goal.returns-in-Stopped-clause-stopped
+returns-in-Stopped-clause-stopped g c = λ same start z left h can.
+    note_halts c.args.target start z left c.args.next.now c.args.gates.now _ h c.args.cell.now can _
+    (c.in-Stopped.ensures.stopped refl start.first z h.sound (note_take c.args.target start z left c.args.next.now c.args.gates.now _ h c.args.cell.now can) can.comes)
+    (record { counted = c.in-Stopped.ensures.counted; spare = c.in-Stopped.ensures.spare; header = c.in-Stopped.ensures.header })
+
+pub returns-in-At-clause-made : goal.returns-in-At-clause-made
+returns-in-At-clause-made g c = λ same start z left h can.
+    let take = note_take c.args.target start z left c.args.next.now c.args.gates.now _ h c.args.cell.now can in (
+      c.in-At.at,
+      c.in-At.ensures.part,
+      note_goes c.args.target start z left c.args.next.now c.args.gates.now _ h c.args.cell.now can c.in-At.at _ _
+      (c.in-At.ensures.made start.first z take can.comes)
+      (λ q lt. c.in-At.ensures.quiet q lt (h.quiet q lt))
+      (record { counted = c.in-At.ensures.counted; spare = c.in-At.ensures.spare; header = c.in-At.ensures.header })
+      c.put.ensures.items c.put.ensures.len c.put.ensures.capacity refl refl,
+    )

@@ -1,0 +1,6 @@
+pub mod Numbers
+pub mod Records
+pub mod Appending
+pub mod Undoing
+pub mod Passing
+pub mod Checkpoint

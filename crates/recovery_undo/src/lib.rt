@@ -1,0 +1,11 @@
+//! The records that recovery appends, and the undo of one running transaction.
+#![tactic(auto)]
+
+mod appending;
+mod checkpoint;
+mod target;
+mod undoing;
+
+pub use appending::{Appended, append_record};
+pub use checkpoint::append_checkpoint;
+pub use undoing::undo;

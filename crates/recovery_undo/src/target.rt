@@ -1,0 +1,60 @@
+// The transaction that is undone, and the cells of the records that its undo appends.
+ghost use Rattle.std.specs.Prelude.{◌≡◌, ◌<◌, ℕ};
+ghost use Rattle.persist_model.specs.Shape.{part_of};
+ghost use Rattle.region_layout.specs.Layout.{layout_shape};
+ghost use Rattle.region_layout.specs.Cell.{record_of};
+ghost use Rattle.recovery_undo.specs.Records.{compensation_of, plain_record};
+
+use region_layout::{Cell, Layout};
+
+// The transaction that is undone, and the partition of its records.
+#[derive(Clone, Copy)]
+pub(crate) struct Target {
+    pub layout: Layout,
+    pub transaction: u64,
+    pub partition: u32,
+    pub ghost inside: { partition < layout.partitions },
+}
+
+// The partition of the bucket that has the word at this address.
+pub(crate) fn partition_of(layout: Layout, at: u32) -> u32
+    ensures is { result ≡ part_of (layout_shape layout) at }
+    ensures inside { result < layout.partitions }
+{
+    let bucket_size = 8 + 8 * layout.cells;
+    let each = layout.buckets / layout.partitions;
+    let part = at.saturating_sub(32) / bucket_size / each;
+    part.min(layout.partitions - 1)
+}
+
+// The cell of a record that names no word.
+pub(crate) fn plain_cell(transaction: u64, gate: u64, kind: u64, outcome: u64) -> Cell
+    ensures { (at : ℕ) → record_of at result ≡ plain_record at gate transaction kind outcome }
+{
+    Cell {
+        gate,
+        transaction,
+        kind,
+        address: 0,
+        before: 0,
+        after: 0,
+        undo_next: 0,
+        outcome,
+    }
+}
+
+// The cell of an update's compensation.
+pub(crate) fn compensation_cell(transaction: u64, gate: u64, update: &Cell) -> Cell
+    ensures { (at from : ℕ) → record_of at result ≡ compensation_of transaction (record_of from update.now) at gate }
+{
+    Cell {
+        gate,
+        transaction,
+        kind: 2,
+        address: update.address,
+        before: update.after,
+        after: update.before,
+        undo_next: update.undo_next,
+        outcome: 0,
+    }
+}
