@@ -2,3 +2,4 @@ pub mod Counting
 pub mod Buckets
 pub mod Ends
 pub mod Redoing
+pub mod Undone

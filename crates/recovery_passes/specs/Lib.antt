@@ -1,2 +1,4 @@
 pub mod Recovered
 pub mod Stages
+pub mod Passing
+pub mod Going

@@ -4,5 +4,6 @@
 mod lists;
 mod recovering;
 mod redo;
+mod undoing;
 
 pub use recovering::{RecoverFault, Recovered, recover};

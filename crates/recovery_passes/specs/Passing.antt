@@ -1,0 +1,62 @@
+-- How far a recovery has come with the transactions that ran.
+use Rattle.std.specs.Prelude.{◌≡◌, ◌≢◌, ℕ, ◌+◌, ◌-◌, ◌≤◌, List, [], ◌++◌, length, map, reverse, sum_by}
+use Rattle.std.specs.Vec.{vec_len}
+use Rattle.persist_model.specs.Region.{Region}
+use Rattle.persist_model.specs.Records.{Record, Log, IsAmong, HasNo, IsLoser}
+use Rattle.persist_model.specs.Standing.{IsToRedo}
+use Rattle.persist_model.specs.Need.{need_of}
+use Rattle.persist_model.specs.State.{State}
+use Rattle.log_laws.specs.Recovery.{AreApplied}
+use Rattle.region_layout.specs.declared.layout.Layout.{Layout}
+use Rattle.region_layout.specs.Layout.{layout_shape, policy_number}
+use Rattle.bucket_log.specs.Scans.{record_of_placed}
+use Rattle.recovery_run.specs.declared.gates.Gates.{Gates}
+use Rattle.recovery_run.specs.ClosingAll.{CanCloseAll}
+use Rattle.recovery_run.specs.Groups.{records_of}
+use Rattle.recovery_run.specs.Reached.{HasSettled}
+use Rattle.recovery_analysis.specs.declared.grouping.Transaction.{Transaction}
+use Rattle.recovery_analysis.specs.Grouping.{IsAscending, number_of}
+use Rattle.recovery_analysis.specs.Works.{need_in_log, HasSpare}
+use Rattle.recovery_undo.specs.Numbers.{next_lsn}
+use Rattle.recovery_undo.specs.Undoing.{undo_events, AreGatesOf}
+use Rattle.recovery_passes.specs.Stages.{AreQuiet}
+
+-- how many gates there are
+abbrev pub gates_len : Gates → ℕ
+gates_len gates = vec_len gates.gates + vec_len gates.ends + vec_len gates.checkpoints
+
+-- the most events of the undo of all these
+abbrev pub undo_all_events : Layout → Log → List Transaction → ℕ
+undo_all_events layout log undo = sum_by (λ t. undo_events layout t.number t.records log) undo
+
+-- the transaction t of the log still runs, with the records that it had
+pub record IsLeft (log later : Log) (t : Transaction) : Type 0 where
+  pub first : IsLoser log t.number
+  pub loser : IsLoser later t.number
+  pub records : reverse (map record_of_placed t.records) ≡ records_of t.number later
+  pub need : need_of later t.number ≡ need_of log t.number
+
+-- Recovery began at first, and these transactions are still to be undone. Each word has its standing value, or is to be undone;
+-- there is memory for the gates of the records to come, and with theirs there will be so many.
+pub record Undoes (layout : Layout) (first : State) (total : ℕ) (left : List Transaction) (next : ℕ) (gates : Gates) (region : Region) : Type 0 where
+  pub state : State
+  pub settled : HasSettled (layout_shape layout) first state region
+  pub quiet : AreQuiet (layout_shape layout) region
+  pub applied : AreApplied (policy_number layout.policy) state.log state.words
+  pub next_is : next ≡ next_lsn state.log
+  pub lists : AreGatesOf state.log gates
+  pub news : Log
+  pub log : state.log ≡ news ++ first.log
+  pub of_losers : (r : Record) → IsAmong news r → IsLoser first.log r.transaction × (r.kind ≢ 5)
+  pub losers : (t : ℕ) → IsLoser state.log t → IsAmong (map number_of left) t
+  pub each : (t : Transaction) → IsAmong left t → IsLeft first.log state.log t
+  pub ascending : IsAscending (map number_of left)
+  pub spare : HasSpare gates (sum_by (λ t. need_in_log first.log t - 1) left) (length left) 1
+  pub count : gates_len gates + sum_by (need_in_log first.log) left ≡ total
+
+-- Recovery began at first, and all records may be closed.
+pub record IsReady (layout : Layout) (first : State) (gates : Gates) (region : Region) : Type 0 where
+  pub state : State
+  pub settled : HasSettled (layout_shape layout) first state region
+  pub quiet : AreQuiet (layout_shape layout) region
+  pub close : CanCloseAll (layout_shape layout) state gates.gates.items gates.ends.items gates.checkpoints.items
