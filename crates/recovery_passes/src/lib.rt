@@ -1,6 +1,7 @@
 //! Recovery: what the log of a sound image asks for is made on a device that may stop at any event.
 #![tactic(auto)]
 
+mod clearing;
 mod lists;
 mod recovering;
 mod redo;
