@@ -8,7 +8,6 @@ use Rattle.persist_model.specs.State.{total_need}
 use Rattle.bucket_log.specs.declared.scanning.Placed.{Placed}
 use Rattle.bucket_log.specs.Scans.{record_of_placed}
 use Rattle.recovery_run.specs.Groups.{records_of}
-use Rattle.recovery_analysis.specs.declared.changing.Change.{Change}
 use Rattle.recovery_analysis.specs.Changes.{stored, is_redone, is_deleted, new_value, given_back}
 use Rattle.recovery_analysis.specs.Works.{next_lsn}
 

@@ -81,7 +81,12 @@ fn a_checkpoint_skips_what_ended_before_it(rt: HostRuntime) -> Result<(), Fail> 
     assert_eq!(rt; newest, 3);
     let all = transactions(alloc, &merged)?;
     for (transaction, skipped) in all.as_slice().iter().zip([true, false, false]) {
-        assert_eq!(rt; is_skipped(transaction, newest), skipped, "{}", transaction.number);
+        assert_eq!(rt;
+            is_skipped(transaction, newest),
+            skipped,
+            "{}",
+            transaction.number
+        );
     }
     let unskipped = unskipped_of(alloc, all.as_slice(), newest)?;
     assert_eq!(rt; unskipped.as_slice(), [4].as_slice());
@@ -103,12 +108,24 @@ fn redoes_in_order_and_then_deletes(rt: HostRuntime) -> Result<(), Fail> {
     let changes = redo_of(alloc, &merged, Policy::NoForce, &[4], &[3, 4])?;
     assert_eq!(rt; changes.len(), 4);
     for (change, (word, value)) in changes.as_slice().iter().zip(redone.iter().chain(&deleted)) {
-        assert_eq!(rt; *change, Change { word: *word, value: *value });
+        assert_eq!(rt;
+            *change,
+            Change {
+                word: *word,
+                value: *value
+            }
+        );
     }
     let changes = redo_of(alloc, &merged, Policy::Force, &[4], &[3, 4])?;
     assert_eq!(rt; changes.len(), 2);
     for (change, (word, value)) in changes.as_slice().iter().zip(&deleted) {
-        assert_eq!(rt; *change, Change { word: *word, value: *value });
+        assert_eq!(rt;
+            *change,
+            Change {
+                word: *word,
+                value: *value
+            }
+        );
     }
     Ok(())
 }
@@ -168,7 +185,9 @@ fn empty(alloc: Global, layout: Layout) -> Result<Row, Fail>
 {
     layouts_are_allowed(&layout);
     let fresh = format(alloc, layout, &[Kind::Cells])?;
-    Ok(Row { words: fresh.into_vec() })
+    Ok(Row {
+        words: fresh.into_vec(),
+    })
 }
 
 #[test]
