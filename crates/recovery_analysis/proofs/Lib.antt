@@ -7,3 +7,4 @@ pub mod Redoing
 pub mod Summing
 pub mod Gathering
 pub mod Whole
+mod Examples

@@ -14,3 +14,6 @@ pub use changing::Change;
 pub use fates::{is_committed, is_running, is_skipped, need, newest_checkpoint};
 pub use grouping::{Transaction, transactions};
 pub use working::{Work, work_of};
+
+#[cfg(test)]
+mod tests;

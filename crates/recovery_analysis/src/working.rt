@@ -108,7 +108,12 @@ fn put_gate(gates: &mut Gates, placed: Placed)
 }
 
 // The gates of all records, and memory for so many more, with that many ends and one checkpoint record.
-fn gates_of(alloc: Global, merged: &[Placed], more: usize, ends: usize) -> Result<Gates, NoMemory>
+pub(crate) fn gates_of(
+    alloc: Global,
+    merged: &[Placed],
+    more: usize,
+    ends: usize,
+) -> Result<Gates, NoMemory>
     requires more { more < 2 ^ 32 }
     requires ends { ends < 2 ^ 60 }
     ensures lists { IfOk result (λ made. ListsAll (reverse (map record_of_placed merged.now)) made.gates.items made.ends.items made.checkpoints.items) }
