@@ -3,3 +3,4 @@ pub mod Buckets
 pub mod Ends
 pub mod Redoing
 pub mod Undone
+pub mod Closed
