@@ -6,3 +6,6 @@ pub mod Chains
 pub mod Changes
 pub mod Readable
 pub mod Tried
+pub mod Asking
+pub mod Oldest
+pub mod Ordering

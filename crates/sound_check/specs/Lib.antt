@@ -1,3 +1,4 @@
 pub mod Faulty
 pub mod Walks
 pub mod Rules
+pub mod Rows

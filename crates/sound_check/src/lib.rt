@@ -3,7 +3,11 @@
 
 mod addresses;
 mod fault;
+mod formed;
+mod history;
 mod log_words;
+mod numbers;
+mod order;
 mod points;
 mod walk;
 
