@@ -9,3 +9,4 @@ pub mod Tried
 pub mod Asking
 pub mod Oldest
 pub mod Ordering
+pub mod Needing

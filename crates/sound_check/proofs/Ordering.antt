@@ -22,7 +22,7 @@ pub kind_tells : (rows : List Placed) (tr k : ℕ) (t : Bool) → t ≡ list_any
 kind_tells rows tr k t e = any_has (IsKindOf tr k) (λ (s : Placed). (s.cell.transaction == tr) && (s.cell.kind == k)) rows t e
     (λ x. both_true _ _ _ _ (equal_true x.cell.transaction tr) (equal_true x.cell.kind k))
 
-has_as : (P Q : Record → Type 0) (log : Log) → ((r : Record) → P r → Q r) → Has P log → Has Q log
+pub has_as : (P Q : Record → Type 0) (log : Log) → ((r : Record) → P r → Q r) → Has P log → Has Q log
 has_as P Q log on h = (h.0, h.1, on h.0 h.2)
 
 pub end_tells : (rows : List Placed) (tr : ℕ) (t : Bool) → t ≡ list_any (λ (s : Placed). (s.cell.transaction == tr) && (s.cell.kind == 4)) rows → (t ≡ true) ↔ IsEnded (log_of_rows rows) tr
