@@ -60,11 +60,11 @@ log_of_view layout p xs row lt logs is =
       has_layout = logs.has_layout;
     }
 
-log_word_below : (shape : Shape) (v : Words) (a : ℕ) → a < heap shape → log_words shape v a ≡ v a
+pub log_word_below : (shape : Shape) (v : Words) (a : ℕ) → a < heap shape → log_words shape v a ≡ v a
 log_word_below shape v a lt = let on : nat_lt a (heap shape) ≡ true = grind (arith, nat_tests, lt) in ap (λ t. cond t (v a) 0) on
 
 -- words with the same log show the same in the partition's view
-same_seen : (layout : Layout) (p : ℕ) (xs row : List ℕ) (v : Words) → p < layout.partitions → AreLogsOf layout (length xs) (slice_index xs) → row ≡ viewed p xs →
+pub same_seen : (layout : Layout) (p : ℕ) (xs row : List ℕ) (v : Words) → p < layout.partitions → AreLogsOf layout (length xs) (slice_index xs) → row ≡ viewed p xs →
     SameLog (slice_index xs) v → SameLog (slice_index row) (view p (log_words (layout_shape layout) v))
 same_seen layout p xs row v lt logs is same =
     subst (λ ys. SameLog (slice_index ys) (view p (log_words (layout_shape layout) v))) (sym is)

@@ -11,7 +11,7 @@ use Rattle.region_layout.specs.declared.layout.Layout.{Layout}
 use Rattle.region_layout.specs.Layout.{layout_shape}
 use Rattle.sound_check.specs.Rules.{IsReadable}
 
-few_cells : (n : ℕ) → IsTrue ((n == 1) || (n == 16)) → n ≤ 16
+pub few_cells : (n : ℕ) → IsTrue ((n == 1) || (n == 16)) → n ≤ 16
 few_cells zero h = omega arith
 few_cells (suc n) h = grind arith
 

@@ -5,7 +5,7 @@ use Rattle.persist_model.specs.Region.{Words}
 use Rattle.persist_model.specs.Chain.{IsBefore, LinksBackBut, IsExcepted, prev_of}
 use Rattle.persist_model.specs.Faults.{TryLinksBack, NoFault}
 use Rattle.log_laws.proofs.ListFaults.{Splits, splits_none, splits_back, splits_first, splits_behind, splits_empty}
-use Rattle.sound_check.proofs.Lists.{drop_next}
+use Rattle.sound_check.proofs.BucketLists.{drop_next}
 
 -- ---- whether p stands before q
 

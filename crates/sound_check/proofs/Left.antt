@@ -4,7 +4,7 @@ use Rattle.persist_model.specs.Chain.{Each}
 use Rattle.persist_model.specs.Faults.{FaultSet, TriedEach, NoFault}
 use Rattle.log_laws.proofs.Trying.{each_past}
 use Rattle.std.proofs.lemmas.List.{drop_all}
-use Rattle.sound_check.proofs.Lists.{drop_next}
+use Rattle.sound_check.proofs.BucketLists.{drop_next}
 
 -- where what is left holds all hold, and a fault of what is left is the first of all
 pub record IsLeft (P : ℕ → Type 0) (n : ℕ) (at : ℕ → ℕ) (all left : List ℕ) : Type 0 where

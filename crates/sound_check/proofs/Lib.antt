@@ -1,4 +1,4 @@
-pub mod Lists
+pub mod BucketLists
 pub mod Left
 pub mod Buckets
 pub mod Going
@@ -10,3 +10,7 @@ pub mod Asking
 pub mod Oldest
 pub mod Ordering
 pub mod Needing
+pub mod PartsTried
+pub mod RoomRead
+pub mod LogTried
+pub mod Images

@@ -8,7 +8,7 @@ use Rattle.persist_model.specs.Visit.{chain_from, links_of, links_at, address_wo
 use Rattle.persist_model.specs.Faults.{FaultSet, TriedEach, TryLinksBack, TryPoints, NoFault}
 use Rattle.log_laws.proofs.ListFaults.{PointsHold, links_at_none, links_at_some}
 use Rattle.sound_check.specs.Rules.{AreLinks, IsWrongLink, ChangesHold, IsWrongChange, ListHolds}
-use Rattle.sound_check.proofs.Lists.{drop_next}
+use Rattle.sound_check.proofs.BucketLists.{drop_next}
 use Rattle.sound_check.proofs.Left.{IsLeft, left_all, left_goes_on, left_fails}
 
 -- ---- the links of the buckets that were visited

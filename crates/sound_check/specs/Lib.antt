@@ -2,3 +2,4 @@ pub mod Faulty
 pub mod Walks
 pub mod Rules
 pub mod Rows
+pub mod Logs

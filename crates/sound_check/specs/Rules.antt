@@ -1,10 +1,10 @@
 -- The rules of a partition's list, each as what holds of its words and as the fault that there is.
 use Rattle.std.specs.Prelude.{◌≡◌, ◌≢◌, ◌⊎◌, ℕ, ◌+◌, ◌<◌, ◌≤◌, ◌^◌, List}
 use Rattle.persist_model.specs.Region.{Words}
-use Rattle.persist_model.specs.Shape.{Shape, heap, IsBucketOf}
-use Rattle.persist_model.specs.Chain.{TAIL, TO_APPEND, TO_REMOVE, out_address, Each, AreBuckets, IsLink, last_or, IsExcepted, LinksBackBut}
-use Rattle.persist_model.specs.Visit.{HasArrived, chain_from, address_words}
-use Rattle.persist_model.specs.Faults.{FaultSet, Tried, TriedEach, NoFault, MayAppend, MayRemove}
+use Rattle.persist_model.specs.Shape.{Shape, heap, list_words, IsBucketOf}
+use Rattle.persist_model.specs.Chain.{TAIL, TO_APPEND, TO_REMOVE, view, out_address, Each, AreBuckets, IsLink, last_or, IsExcepted, LinksBackBut}
+use Rattle.persist_model.specs.Visit.{IsVisit, HasArrived, chain_from, address_words}
+use Rattle.persist_model.specs.Faults.{FaultSet, Tried, TriedEach, NoFault, MayAppend, MayRemove, TryPoints}
 
 -- ---- the address rule
 
@@ -51,3 +51,36 @@ pub record ListHolds (shape : Shape) (w : Words) (visited chain : List ℕ) : Ty
   pub changes : ChangesHold shape w visited chain
   pub links_back : LinksBackBut w 0 chain
   pub tail : (w TAIL ≡ last_or 0 chain) ⊎ IsExcepted w TAIL
+
+-- ---- a partition, by what its walk visits
+
+-- the address rule holds
+pub record HasGoodLinks (shape : Shape) (p : ℕ) (w : Words) : Type 0 where
+  pub visited : List ℕ
+  pub visit : IsVisit (IsBucketOf shape p) w visited
+  pub links : AreLinks shape p w (address_words w visited)
+
+-- or this is where it fails
+pub record HasBadLink (shape : Shape) (p : ℕ) (w : Words) (fault a : ℕ) : Type 0 where
+  pub visited : List ℕ
+  pub visit : IsVisit (IsBucketOf shape p) w visited
+  pub wrong : IsWrongLink shape p w (address_words w visited) fault a
+
+-- the address rule and the list rules hold
+pub record HasGoodList (shape : Shape) (p : ℕ) (w : Words) : Type 0 where
+  pub visited : List ℕ
+  pub visit : IsVisit (IsBucketOf shape p) w visited
+  pub links : AreLinks shape p w (address_words w visited)
+  pub list : ListHolds shape w visited (chain_from w visited)
+
+-- or this is where the list rules fail
+pub record HasBadList (shape : Shape) (p : ℕ) (w : Words) (fault a : ℕ) : Type 0 where
+  pub visited : List ℕ
+  pub visit : IsVisit (IsBucketOf shape p) w visited
+  pub wrong : TryPoints shape (list_words p) w visited NoFault fault a
+
+-- ---- all partitions
+
+-- each partition's view of the words has P
+abbrev pub EachPart : Shape → Words → (Shape → ℕ → Words → Type 0) → Type 0
+EachPart shape z P = (p : ℕ) → p < shape.partitions → P shape p (view p z)

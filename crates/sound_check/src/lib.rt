@@ -2,13 +2,18 @@
 #![tactic(auto)]
 
 mod addresses;
+mod checking;
 mod fault;
 mod formed;
 mod history;
+mod lists;
+mod log_rules;
 mod log_words;
 mod numbers;
 mod order;
 mod points;
+
 mod walk;
 
+pub use checking::{SoundLog, check, read_sound};
 pub use fault::CheckFault;

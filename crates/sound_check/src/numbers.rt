@@ -83,8 +83,8 @@ fn is_checkpointed(layout: Layout, rows: &[Placed]) -> bool
     }
 }
 
-// Whether a partition with this much room has enough.
-fn has_room(layout: Layout, rows: &[Placed], p: u32, room: u64) -> bool
+/// Whether a partition with this much room has enough.
+pub(crate) fn has_room(layout: Layout, rows: &[Placed], p: u32, room: u64) -> bool
     requires { room < 2 ^ 63 }
     ensures { IsTrue result ↔ HasRoom (layout_shape layout) (log_of_rows rows.now) p room }
 {
@@ -120,8 +120,8 @@ fn is_exceeded(rows: &[Placed], count: u64) -> bool
     rows.iter().any(|r| exceeds(r.cell.gate, count))
 }
 
-// Whether recovery draws numbers up to the greatest one at most.
-fn keeps_numbers(layout: Layout, rows: &[Placed]) -> bool
+/// Whether recovery draws numbers up to the greatest one at most.
+pub(crate) fn keeps_numbers(layout: Layout, rows: &[Placed]) -> bool
     ensures { IsTrue result ↔ ((r : Record) → IsAmong (log_of_rows rows.now) r → HasNumbers (layout_shape layout) (log_of_rows rows.now) r) }
 {
     !is_exceeded(rows, drawn(layout, rows))

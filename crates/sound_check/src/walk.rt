@@ -130,16 +130,18 @@ fn without(alloc: Global, b: u64, walk: &[u32]) -> Result<Vec<u32>, AllocError>
 pub(crate) fn chain<W: Look>(
     alloc: Global,
     words: &W,
-    mut visited: Vec<u32>,
+    visited: &[u32],
 ) -> Result<Vec<u32>, NoMemory>
     requires long { 32 ≤ length (W.words words.now) }
     requires fits { slice_index (W.words words.now) APPENDED < 2 ^ 32 }
-    ensures { IfOk result (λ chain. chain.items ≡ chain_from (slice_index (W.words words.now)) visited.items) }
+    ensures { IfOk result (λ chain. chain.items ≡ chain_from (slice_index (W.words words.now)) visited.now) }
 {
+    let mut walk = Vec::new(alloc);
+    walk.extend_from_slice(visited)?;
     let appended = words.word(TO_APPEND) as u32;
     if appended != 0 {
-        push(&mut visited, appended)?;
+        push(&mut walk, appended)?;
     }
-    let chain = without(alloc, words.word(TO_REMOVE), visited.as_slice())?;
+    let chain = without(alloc, words.word(TO_REMOVE), walk.as_slice())?;
     Ok(chain)
 }

@@ -7,7 +7,7 @@ use Rattle.persist_model.specs.Visit.{links_of}
 use Rattle.region_layout.specs.Layout.{layout_shape}
 use Rattle.sound_check.specs.Rules.{IsReadable}
 use Rattle.sound_check.proofs.Left.{left_all}
-use Rattle.sound_check.proofs.Lists.{each_at}
+use Rattle.sound_check.proofs.BucketLists.{each_at}
 use Rattle.sound_check.proofs.Buckets.{buckets_readable}
 use Rattle.sound_check.proofs.Tried.{visited_next, visited_fails, visited_done}
 use Rattle.sound_check.proofs.addresses.try_visited.Goals as goal

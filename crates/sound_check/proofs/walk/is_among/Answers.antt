@@ -1,5 +1,5 @@
 use Rattle.std.proofs.Common.{refl, ◌∙◌, arith}
-use Rattle.sound_check.proofs.Lists.{among_here, among_left, among_none}
+use Rattle.sound_check.proofs.BucketLists.{among_here, among_left, among_none}
 use Rattle.sound_check.proofs.walk.is_among.Goals as goal
 
 pub loop-x-preserved : goal.loop-x-preserved

@@ -1,6 +1,6 @@
 use Rattle.std.proofs.Common.{◌≡◌, ◌<◌, ℕ, length, ◌==◌, false, sym, arith}
 use Rattle.std.proofs.lemmas.Bool.Decides.{nat_tests}
-use Rattle.sound_check.proofs.Lists.{last_is}
+use Rattle.sound_check.proofs.BucketLists.{last_is}
 use Rattle.sound_check.proofs.walk.last_or.Goals as goal
 
 some : (n : ℕ) → (n == 0) ≡ false → 0 < n

@@ -1,5 +1,5 @@
 use Rattle.std.proofs.Common.{◌≡◌, not, ◌==◌, filter, rules}
-use Rattle.sound_check.proofs.Lists.{filter_without}
+use Rattle.sound_check.proofs.BucketLists.{filter_without}
 use Rattle.sound_check.proofs.walk.without.Goals as goal
 
 pub returns : goal.returns
