@@ -14,8 +14,7 @@ use Rattle.log_laws.proofs.Visits.{visit_some, visit_one}
 use Rattle.sound_check.specs.declared.fault.CheckFault.{CheckFault}
 use Rattle.sound_check.specs.declared.fault.CheckFault.TheVariants.{Unsound, NoMemory}
 use Rattle.sound_check.specs.Faulty.{IfUnsound}
-use Rattle.log_laws.proofs.Soundness.{sound_has_no_fault, first_fault_is_one, chains_in, state_with, has_state_with, state_gates}
-use Rattle.log_laws.proofs.LogFaults.{sound_of_holds}
+use Rattle.log_laws.proofs.Soundness.{sound_has_no_fault, first_fault_is_one, chains_in, state_with, has_state_with}
 use Rattle.atomic_list.specs.Reads.{SameLog}
 use Rattle.atomic_list.proofs.Parts.{whole_bucket_fits}
 use Rattle.region_layout.specs.declared.layout.Layout.{Layout}
@@ -51,25 +50,19 @@ has_state shape w h = has_state_with shape w (chains_in shape (log_words shape w
 -- ---- the same lists stand in the whole image
 
 module _ (layout : Layout) (w : Words) (p : ℕ) (lt : p < layout.partitions) where
-  abbrev pub shape : Shape
-  shape = layout_shape layout
-
-  abbrev pub z : Words
-  z = log_words shape w
-
   few : p < 3
   few = let most = layout.partitions_within in omega (arith, lt, most)
 
-  first : (c : ℕ) → c < 32 → w c ≡ z c
-  first c low = let small = heap_small layout in sym (log_word_below shape w c (omega (arith, small, low)))
+  first : (c : ℕ) → c < 32 → w c ≡ log_words (layout_shape layout) w c
+  first c low = let small = heap_small layout in sym (log_word_below (layout_shape layout) w c (omega (arith, small, low)))
 
-  seen : (a : ℕ) → a < heap shape → view p w a ≡ view p z a
-  seen a below = view_same p a z w few first (sym (log_word_below shape w a below))
+  seen : (a : ℕ) → a < heap (layout_shape layout) → view p w a ≡ view p (log_words (layout_shape layout) w) a
+  seen a below = view_same p a (log_words (layout_shape layout) w) w few first (sym (log_word_below (layout_shape layout) w a below))
 
-  pub whole_rules : (chain : List ℕ) → ListRules (IsBucketOf shape p) (view p z) chain → ListRules (IsBucketOf shape p) (view p w) chain
-  whole_rules chain rules = rules_same (IsBucketOf shape p) (view p z) (view p w)
+  pub whole_rules : (chain : List ℕ) → ListRules (IsBucketOf (layout_shape layout) p) (view p (log_words (layout_shape layout) w)) chain → ListRules (IsBucketOf (layout_shape layout) p) (view p w) chain
+  whole_rules chain rules = rules_same (IsBucketOf (layout_shape layout) p) (view p (log_words (layout_shape layout) w)) (view p w)
       (λ a low high. let small = heap_small layout in seen a (omega (arith, small, high)))
-      (λ b is. let fits = whole_bucket_fits shape p b lt is in (seen b (omega (arith, fits)), seen (b + 1) (omega (arith, fits)))) chain rules
+      (λ b is. let fits = whole_bucket_fits (layout_shape layout) p b lt is in (seen b (omega (arith, fits)), seen (b + 1) (omega (arith, fits)))) chain rules
 
 pub are_logs : (layout : Layout) (size : ℕ) (w : Words) → IsShape size w → layout_shape layout ≡ shape_of w → EachPart (layout_shape layout) (log_words (layout_shape layout) w) HasGoodList → AreLogsOf layout size w
 are_logs layout size w ok e h = record {
@@ -90,7 +83,7 @@ log_fault shape size w log i a ok e s has same f = subst (λ t. HasState t w s �
 
 pub image_is_sound : (shape : Shape) (size : ℕ) (w : Words) (log : Log) → IsShape size w → shape ≡ shape_of w → (s : State) → HasState shape w s → log ≡ s.log → HoldsLog shape w log → IsSound size w
 image_is_sound shape size w log ok e s has same holds = subst (λ t. HasState t w s → HoldsLog t w log → IsSound size w) (sym e)
-    (λ k h. record { shape = ok; state = s; has = k; sound = sound_of_holds (shape_of w) s k.records.newest_first (state_gates (shape_of w) w s k) (h s k same) }) has holds
+    (λ k h. record { shape = ok; state = s; has = k; sound = h s k same }) has holds
 
 pub same_words : (w : Words) → SameLog w w
 same_words w a below = refl

@@ -4,17 +4,17 @@ use Rattle.std.specs.List.{range_with_len}
 use Rattle.std.proofs.lemmas.Bool.Decides.{eqb_tells}
 use Rattle.persist_model.specs.Region.{Words}
 use Rattle.persist_model.specs.Records.{Record, Log, IsAmong}
-use Rattle.persist_model.specs.Order.{Follows}
+use Rattle.persist_model.specs.Order.{Follows, IsInOrder}
 use Rattle.persist_model.specs.Shape.{Shape, part_of, list_words}
-use Rattle.persist_model.specs.ImageRecords.{IsWellFormed}
+use Rattle.persist_model.specs.ImageRecords.{IsWellFormed, AreWellFormed}
 use Rattle.persist_model.specs.State.{State, HasRoom, HasNumbers}
 use Rattle.persist_model.specs.Sound.{HasState}
 use Rattle.persist_model.specs.Chain.{Each}
 use Rattle.persist_model.specs.Faults.{FaultSet, Tried, TriedEach, TriedOldest, NoFault, parts, IsLogFault}
 use Rattle.log_laws.proofs.AddressLists.{each_in_range}
-use Rattle.log_laws.proofs.Tries.{AllGood}
 use Rattle.log_laws.proofs.Trying.{each_here, each_past, oldest_past}
-use Rattle.log_laws.proofs.LogFaults.{LogHolds}
+use Rattle.log_laws.proofs.LogFaults.{formed_all, follow_all}
+use Rattle.log_laws.proofs.Soundness.{state_gates}
 use Rattle.sound_check.specs.Logs.{HasAllRoom, LacksRoom, HoldsLog, HasLogFault}
 use Rattle.sound_check.proofs.PartsTried.{parts_split}
 
@@ -65,34 +65,36 @@ pub record_fault : (shape : Shape) (w : Words) (log : Log) (i a : ℕ) → Tried
 record_fault shape w log i a f s has e =
     subst (λ l. LogRule shape l s.room i a) e (oldest_more (λ earlier r. IsWellFormed shape r) 7 log NoFault (OrderRule shape log s.room) i a (λ h. absurd h) f)
 
-pub order_fault : (shape : Shape) (w : Words) (log : Log) (i a : ℕ) → AllGood (λ earlier r. IsWellFormed shape r) log → TriedOldest (Follows (part_of shape) log) 8 log NoFault i a → HasLogFault shape w log i a
+pub order_fault : (shape : Shape) (w : Words) (log : Log) (i a : ℕ) → AreWellFormed shape log → TriedOldest (Follows (part_of shape) log) 8 log NoFault i a → HasLogFault shape w log i a
 order_fault shape w log i a formed f s has e =
-    subst (λ l. LogRule shape l s.room i a) e (oldest_past (λ earlier r. IsWellFormed shape r) 7 log (OrderRule shape log s.room) i a formed
+    subst (λ l. LogRule shape l s.room i a) e (oldest_past (λ earlier r. IsWellFormed shape r) 7 log (OrderRule shape log s.room) i a (formed_all shape log formed)
     (oldest_more (Follows (part_of shape) log) 8 log NoFault (RoomRule shape log s.room) i a (λ h. absurd h) f))
 
-pub room_fault : (shape : Shape) (w : Words) (log : Log) (i a : ℕ) → AllGood (λ earlier r. IsWellFormed shape r) log → AllGood (Follows (part_of shape) log) log → LacksRoom shape w log i a → HasLogFault shape w log i a
+pub room_fault : (shape : Shape) (w : Words) (log : Log) (i a : ℕ) → AreWellFormed shape log → IsInOrder (part_of shape) log → LacksRoom shape w log i a → HasLogFault shape w log i a
 room_fault shape w log i a formed order f s has e =
-    subst (λ l. LogRule shape l s.room i a) e (oldest_past (λ earlier r. IsWellFormed shape r) 7 log (OrderRule shape log s.room) i a formed
-    (oldest_past (Follows (part_of shape) log) 8 log (RoomRule shape log s.room) i a order
+    subst (λ l. LogRule shape l s.room i a) e (oldest_past (λ earlier r. IsWellFormed shape r) 7 log (OrderRule shape log s.room) i a (formed_all shape log formed)
+    (oldest_past (Follows (part_of shape) log) 8 log (RoomRule shape log s.room) i a (follow_all (part_of shape) log log order)
     (each_more (λ p. HasRoom shape log p (s.room p)) 9 (λ p. list_words p + 1) (parts shape) NoFault (NumbersRule shape log) i a (λ h. absurd h) (f s has))))
 
 all_room : (shape : Shape) (w : Words) (log : Log) (s : State) → HasState shape w s → HasAllRoom shape w log → Each (λ p. HasRoom shape log p (s.room p)) (parts shape)
 all_room shape w log s has room = each_in_range (λ p. HasRoom shape log p (s.room p)) 0 shape.partitions (λ p le lt. room s has p (omega (arith, lt)))
 
-pub numbers_fault : (shape : Shape) (w : Words) (log : Log) → AllGood (λ earlier r. IsWellFormed shape r) log → AllGood (Follows (part_of shape) log) log → HasAllRoom shape w log →
+pub numbers_fault : (shape : Shape) (w : Words) (log : Log) → AreWellFormed shape log → IsInOrder (part_of shape) log → HasAllRoom shape w log →
     (((r : Record) → IsAmong log r → HasNumbers shape log r) → ⊥) → HasLogFault shape w log 9 9
 numbers_fault shape w log formed order room bad s has e =
-    subst (λ l. LogRule shape l s.room 9 9) e (oldest_past (λ earlier r. IsWellFormed shape r) 7 log (OrderRule shape log s.room) 9 9 formed
-    (oldest_past (Follows (part_of shape) log) 8 log (RoomRule shape log s.room) 9 9 order
+    subst (λ l. LogRule shape l s.room 9 9) e (oldest_past (λ earlier r. IsWellFormed shape r) 7 log (OrderRule shape log s.room) 9 9 (formed_all shape log formed)
+    (oldest_past (Follows (part_of shape) log) 8 log (RoomRule shape log s.room) 9 9 (follow_all (part_of shape) log log order)
     (each_past (λ p. HasRoom shape log p (s.room p)) 9 (λ p. list_words p + 1) (parts shape) (NumbersRule shape log) 9 9 (all_room shape w log s has room) (inl (bad, refl, refl)))))
 
 -- ---- no fault
 
-abbrev HoldsOf : Shape → Log → (ℕ → ℕ) → Type 0
-HoldsOf shape log room =
-    AllGood (λ earlier r. IsWellFormed shape r) log × (AllGood (Follows (part_of shape) log) log × (Each (λ p. HasRoom shape log p (room p)) (parts shape)
-    × (((r : Record) → IsAmong log r → HasNumbers shape log r) × Unit {0})))
-
-pub log_holds : (shape : Shape) (w : Words) (log : Log) → AllGood (λ earlier r. IsWellFormed shape r) log → AllGood (Follows (part_of shape) log) log → HasAllRoom shape w log →
+pub log_holds : (shape : Shape) (w : Words) (log : Log) → AreWellFormed shape log → IsInOrder (part_of shape) log → HasAllRoom shape w log →
     ((r : Record) → IsAmong log r → HasNumbers shape log r) → HoldsLog shape w log
-log_holds shape w log formed order room numbers s has e = subst (λ l. HoldsOf shape l s.room) e (formed, (order, (all_room shape w log s has room, (numbers, tt))))
+log_holds shape w log formed order room numbers s has e = record {
+  newest_first = has.records.newest_first;
+  gates = state_gates shape w s has;
+  formed = subst (AreWellFormed shape) e formed;
+  order = subst (IsInOrder (part_of shape)) e order;
+  room = λ p lt. subst (λ l. HasRoom shape l p (s.room p)) e (room s has p lt);
+  numbers = subst (λ l. (r : Record) → IsAmong l r → HasNumbers shape l r) e numbers;
+}

@@ -1,13 +1,11 @@
 -- The rules of a log, said of each state that an image is.
 use Rattle.std.specs.Prelude.{◌≡◌, ℕ, ◌+◌, ◌<◌}
 use Rattle.persist_model.specs.Region.{Words}
-use Rattle.persist_model.specs.Records.{Record, Log, IsAmong}
-use Rattle.persist_model.specs.Order.{Follows}
-use Rattle.persist_model.specs.Shape.{Shape, part_of, list_words}
-use Rattle.persist_model.specs.State.{State, HasRoom, HasNumbers}
+use Rattle.persist_model.specs.Records.{Log}
+use Rattle.persist_model.specs.Shape.{Shape, list_words}
+use Rattle.persist_model.specs.State.{State, HasRoom, IsSoundState}
 use Rattle.persist_model.specs.Sound.{HasState}
 use Rattle.persist_model.specs.Faults.{FaultSet, TriedEach, NoFault, parts, IsLogFault}
-use Rattle.log_laws.proofs.LogFaults.{LogHolds}
 
 -- each partition of the image has room for this log
 abbrev pub HasAllRoom : Shape → Words → Log → Type 0
@@ -18,9 +16,9 @@ abbrev pub LacksRoom : Shape → Words → Log → FaultSet
 LacksRoom shape w log fault a =
     (s : State) → HasState shape w s → TriedEach (λ p. HasRoom shape log p (s.room p)) 9 (λ p. list_words p + 1) (parts shape) NoFault fault a
 
--- where the image has this log no rule of the log fails
+-- where the image has this log its state is sound
 abbrev pub HoldsLog : Shape → Words → Log → Type 0
-HoldsLog shape w log = (s : State) → HasState shape w s → log ≡ s.log → LogHolds shape s
+HoldsLog shape w log = (s : State) → HasState shape w s → log ≡ s.log → IsSoundState shape s
 
 -- where it has, this is the first that does
 abbrev pub HasLogFault : Shape → Words → Log → FaultSet

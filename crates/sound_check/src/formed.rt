@@ -1,9 +1,8 @@
 //! The record rule.
 ghost use Rattle.std.specs.Prelude.{◌≡◌, ◌≢◌, ◌⊎◌, ◌↔◌, ◌<◌, ◌≤◌, ℕ, IsTrue, OnOk, IfErr, MatchOption};
 ghost use Rattle.persist_model.specs.Shape.{block, IsHeapWord, IsRootOwner, IsPlainOwner};
-ghost use Rattle.persist_model.specs.ImageRecords.{IsWellFormed};
+ghost use Rattle.persist_model.specs.ImageRecords.{IsWellFormed, AreWellFormed};
 ghost use Rattle.persist_model.specs.Faults.{TriedOldest, NoFault};
-ghost use Rattle.log_laws.proofs.Tries.{AllGood};
 ghost use Rattle.bucket_log.specs.Scans.{record_of_placed};
 ghost use Rattle.region_layout.specs.Layout.{layout_shape};
 ghost use Rattle.sound_check.specs.Rows.{log_of_rows};
@@ -107,7 +106,7 @@ fn is_formed(layout: Layout, r: &Placed) -> bool
 
 /// Tries the record rule, the oldest record first.
 pub(crate) fn try_records(layout: Layout, rows: &[Placed]) -> Result<(), ImageFault>
-    ensures ok { OnOk result (AllGood (λ earlier r. IsWellFormed (layout_shape layout) r) (log_of_rows rows.now)) }
+    ensures ok { OnOk result (AreWellFormed (layout_shape layout) (log_of_rows rows.now)) }
     ensures fault { IfErr result (λ found. TriedOldest (λ earlier r. IsWellFormed (layout_shape layout) r) 7 (log_of_rows rows.now) NoFault found.fault found.addr) }
 {
     for r in rows {

@@ -17,3 +17,6 @@ mod walk;
 
 pub use checking::{SoundLog, check, read_sound};
 pub use fault::CheckFault;
+
+#[cfg(test)]
+mod tests;

@@ -1,10 +1,9 @@
 //! The order rule.
 ghost use Rattle.std.specs.Prelude.{◌≡◌, ◌↔◌, ◌==◌, ◌&&◌, ◌||◌, not, map, IsTrue, IfOk, OnOk, IfErr};
 ghost use Rattle.std.specs.List.{list_any, zip};
-ghost use Rattle.persist_model.specs.Order.{UndoesWell, Follows, undo_point as undo_point_of, last_new as last_new_of};
+ghost use Rattle.persist_model.specs.Order.{UndoesWell, Follows, IsInOrder, undo_point as undo_point_of, last_new as last_new_of};
 ghost use Rattle.persist_model.specs.Shape.{part_of as part_of_shape};
 ghost use Rattle.persist_model.specs.Faults.{TriedOldest, NoFault};
-ghost use Rattle.log_laws.proofs.Tries.{AllGood};
 ghost use Rattle.bucket_log.specs.Scans.{record_of_placed};
 ghost use Rattle.region_layout.specs.Layout.{layout_shape};
 ghost use Rattle.sound_check.specs.Rows.{log_of_rows, is_barring_row};
@@ -164,7 +163,7 @@ fn follows(
 // Tries the order rule, the oldest record first.
 fn try_each(layout: Layout, rows: &[Placed], marks: &[bool]) -> Result<(), ImageFault>
     requires { marks.now ≡ map (is_barring_row rows.now) rows.now }
-    ensures ok { OnOk result (AllGood (Follows (part_of_shape (layout_shape layout)) (log_of_rows rows.now)) (log_of_rows rows.now)) }
+    ensures ok { OnOk result (IsInOrder (part_of_shape (layout_shape layout)) (log_of_rows rows.now)) }
     ensures fault { IfErr result (λ found. TriedOldest (Follows (part_of_shape (layout_shape layout)) (log_of_rows rows.now)) 8 (log_of_rows rows.now) NoFault found.fault found.addr) }
 {
     for i in 0..rows.len() {
@@ -181,7 +180,7 @@ fn try_each(layout: Layout, rows: &[Placed], marks: &[bool]) -> Result<(), Image
 
 /// Tries the order rule, the oldest record first.
 pub(crate) fn try_order(alloc: Global, layout: Layout, rows: &[Placed]) -> Result<(), CheckFault>
-    ensures ok { OnOk result (AllGood (Follows (part_of_shape (layout_shape layout)) (log_of_rows rows.now)) (log_of_rows rows.now)) }
+    ensures ok { OnOk result (IsInOrder (part_of_shape (layout_shape layout)) (log_of_rows rows.now)) }
     ensures fault { IfErr result (λ e. IfUnsound e (TriedOldest (Follows (part_of_shape (layout_shape layout)) (log_of_rows rows.now)) 8 (log_of_rows rows.now) NoFault)) }
 {
     let marks = barring_rows(alloc, rows)?;
