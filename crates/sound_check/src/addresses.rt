@@ -16,12 +16,7 @@ use region_layout::{ImageFault, Layout};
 const ADDRESS_FAULT: u32 = 5;
 
 // Tries the words at these addresses, in order.
-fn try_links<W: Look>(
-    words: &W,
-    layout: Layout,
-    p: u32,
-    ats: &[u32],
-) -> Result<(), ImageFault>
+fn try_links<W: Look>(words: &W, layout: Layout, p: u32, ats: &[u32]) -> Result<(), ImageFault>
     requires part { p < layout.partitions }
     requires inside { Each (λ a. a < length (W.words words.now)) ats.now }
     ensures ok { OnOk result (AreLinks (layout_shape layout) p (slice_index (W.words words.now)) ats.now) }
@@ -58,12 +53,7 @@ fn try_visited<W: Look>(
 }
 
 // Tries the links of the bucket that the word at this address names.
-fn try_named<W: Look>(
-    words: &W,
-    layout: Layout,
-    p: u32,
-    at: u32,
-) -> Result<(), ImageFault>
+fn try_named<W: Look>(words: &W, layout: Layout, p: u32, at: u32) -> Result<(), ImageFault>
     requires part { p < layout.partitions }
     requires long { heap (layout_shape layout) ≤ length (W.words words.now) }
     requires inside { at < 32 }
@@ -93,7 +83,12 @@ pub(crate) fn try_addresses<W: Look>(
     ensures ok { OnOk result (AreLinks (layout_shape layout) p (slice_index (W.words words.now)) (address_words (slice_index (W.words words.now)) visited.now)) }
     ensures fault { IfErr result (λ found. IsWrongLink (layout_shape layout) p (slice_index (W.words words.now)) (address_words (slice_index (W.words words.now)) visited.now) found.fault found.addr) }
 {
-    try_links(words, layout, p, &[HEAD, TAIL, TO_APPEND, LAST_TAIL, TO_REMOVE])?;
+    try_links(
+        words,
+        layout,
+        p,
+        &[HEAD, TAIL, TO_APPEND, LAST_TAIL, TO_REMOVE],
+    )?;
     try_visited(words, layout, p, visited)?;
     try_named(words, layout, p, TO_APPEND)?;
     try_named(words, layout, p, TO_REMOVE)

@@ -21,16 +21,14 @@ pub(crate) fn has_number(rows: &[Placed], number: u64) -> bool
 pub(crate) fn has_record(rows: &[Placed], transaction: u64) -> bool
     ensures { result ≡ list_any (λ s. (s.cell.transaction == transaction) && not (s.cell.kind == 5)) rows.now }
 {
-    rows.iter()
-        .any(|s| s.cell.transaction == transaction && s.cell.kind != CHECKPOINT)
+    rows.iter().any(|s| s.cell.transaction == transaction && s.cell.kind != CHECKPOINT)
 }
 
 /// Whether a transaction has an end.
 pub(crate) fn has_end(rows: &[Placed], transaction: u64) -> bool
     ensures { result ≡ list_any (λ s. (s.cell.transaction == transaction) && (s.cell.kind == 4)) rows.now }
 {
-    rows.iter()
-        .any(|s| s.cell.transaction == transaction && s.cell.kind == END)
+    rows.iter().any(|s| s.cell.transaction == transaction && s.cell.kind == END)
 }
 
 /// Whether a transaction has an end that commits it.
@@ -46,8 +44,7 @@ pub(crate) fn has_commit(rows: &[Placed], transaction: u64) -> bool
 pub(crate) fn has_rollback(rows: &[Placed], transaction: u64) -> bool
     ensures { result ≡ list_any (λ s. (s.cell.transaction == transaction) && (s.cell.kind == 3)) rows.now }
 {
-    rows.iter()
-        .any(|s| s.cell.transaction == transaction && s.cell.kind == ROLLBACK)
+    rows.iter().any(|s| s.cell.transaction == transaction && s.cell.kind == ROLLBACK)
 }
 
 /// The number of the update that a transaction would undo next, or 0.
@@ -148,6 +145,5 @@ fn is_skipped(rows: &[Placed], transaction: u64) -> bool
 pub(crate) fn is_open(rows: &[Placed]) -> bool
     ensures { result ≡ list_any (λ r. not (r.cell.kind == 5) && not (is_skipped_row rows.now r.cell.transaction)) rows.now }
 {
-    rows.iter()
-        .any(|r| r.cell.kind != CHECKPOINT && !is_skipped(rows, r.cell.transaction))
+    rows.iter().any(|r| r.cell.kind != CHECKPOINT && !is_skipped(rows, r.cell.transaction))
 }

@@ -12,7 +12,6 @@ mod log_words;
 mod numbers;
 mod order;
 mod points;
-
 mod walk;
 
 pub use checking::{SoundLog, check, read_sound};

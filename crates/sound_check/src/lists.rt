@@ -17,12 +17,7 @@ use region_layout::Layout;
 use std::alloc::Global;
 
 // Tries the address rule of a partition, whose view the words are.
-fn try_links_of<W: Look>(
-    alloc: Global,
-    words: &W,
-    layout: Layout,
-    p: u32,
-) -> Result<(), CheckFault>
+fn try_links_of<W: Look>(alloc: Global, words: &W, layout: Layout, p: u32) -> Result<(), CheckFault>
     requires part { p < layout.partitions }
     requires long { heap (layout_shape layout) ≤ length (W.words words.now) }
     ensures ok { OnOk result (HasGoodLinks (layout_shape layout) p (slice_index (W.words words.now))) }
@@ -34,12 +29,7 @@ fn try_links_of<W: Look>(
 }
 
 // Tries the list rules of a partition, whose view the words are.
-fn try_list_of<W: Look>(
-    alloc: Global,
-    words: &W,
-    layout: Layout,
-    p: u32,
-) -> Result<(), CheckFault>
+fn try_list_of<W: Look>(alloc: Global, words: &W, layout: Layout, p: u32) -> Result<(), CheckFault>
     requires part { p < layout.partitions }
     requires long { heap (layout_shape layout) ≤ length (W.words words.now) }
     requires links { HasGoodLinks (layout_shape layout) p (slice_index (W.words words.now)) }
@@ -80,11 +70,7 @@ fn try_all_lists<W: Look>(alloc: Global, words: &W, layout: Layout) -> Result<()
 }
 
 /// Tries the address rule of all partitions, and then their list rules.
-pub(crate) fn try_lists<W: Look>(
-    alloc: Global,
-    words: &W,
-    layout: Layout,
-) -> Result<(), CheckFault>
+pub(crate) fn try_lists<W: Look>(alloc: Global, words: &W, layout: Layout) -> Result<(), CheckFault>
     requires { length (W.words words.now) ≡ words_of_shape (layout_shape layout) }
     ensures ok { OnOk result (EachPart (layout_shape layout) (log_words (layout_shape layout) (slice_index (W.words words.now))) HasGoodList) }
     ensures fault { IfErr result (λ e. IfUnsound e (IsListFault (layout_shape layout) (log_words (layout_shape layout) (slice_index (W.words words.now))))) }

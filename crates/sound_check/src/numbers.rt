@@ -25,7 +25,11 @@ fn need_of(rows: &[Placed], transaction: u64) -> u64
     if has_end(rows, transaction) {
         return 0;
     }
-    let appended = if has_rollback(rows, transaction) { 1 } else { 2 };
+    let appended = if has_rollback(rows, transaction) {
+        1
+    } else {
+        2
+    };
     appended + undo_count(rows, transaction)
 }
 

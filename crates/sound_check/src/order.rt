@@ -10,9 +10,7 @@ ghost use Rattle.sound_check.specs.Rows.{log_of_rows, is_barring_row};
 ghost use Rattle.sound_check.specs.Faulty.{IfUnsound};
 
 use crate::fault::CheckFault;
-use crate::history::{
-    has_commit, has_end, has_number, has_rollback, last_new, undo_point,
-};
+use crate::history::{has_commit, has_end, has_number, has_rollback, last_new, undo_point};
 use bucket_log::Placed;
 use persist_model::NoMemory;
 use persist_model::format::{CHECKPOINT, COMPENSATION, DELETION, ROLLBACK, UPDATE};
@@ -59,9 +57,7 @@ fn is_claimed(earlier: &[Placed], marks: &[bool], r: &Placed) -> bool
     ensures { result ≡ list_any (λ x. x.1 && ((x.0.cell.address == r.now.cell.address) && not (x.0.cell.transaction == r.now.cell.transaction))) (zip earlier.now marks.now) }
 {
     earlier.iter().zip(marks.iter()).any(|(s, bars)| {
-        *bars
-            && s.cell.address == r.cell.address
-            && s.cell.transaction != r.cell.transaction
+        *bars && s.cell.address == r.cell.address && s.cell.transaction != r.cell.transaction
     })
 }
 
@@ -129,13 +125,7 @@ fn undoes_well(earlier: &[Placed], r: &Placed) -> bool
 }
 
 // Whether the order rule holds of r, by the records before it, of which marks says whether they bar others.
-fn follows(
-    layout: Layout,
-    rows: &[Placed],
-    earlier: &[Placed],
-    marks: &[bool],
-    r: &Placed,
-) -> bool
+fn follows(layout: Layout, rows: &[Placed], earlier: &[Placed], marks: &[bool], r: &Placed) -> bool
     requires { marks.now ≡ map (is_barring_row rows.now) earlier.now }
     ensures { IsTrue result ↔ Follows (part_of_shape (layout_shape layout)) (log_of_rows rows.now) (log_of_rows earlier.now) (record_of_placed r.now) }
 {

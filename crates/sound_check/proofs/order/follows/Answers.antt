@@ -9,8 +9,11 @@ use Rattle.sound_check.proofs.Ordering.{number_tells, scattered_tells, end_tells
 use Rattle.sound_check.proofs.order.follows.Goals as goal
 
 pub returns-then-has_number : goal.returns-then-has_number
-returns-then-has_number c = ((λ t. cc), (λ f.
-    let k = (number_tells c.args.earlier.now c.args.r.now.cell.gate c.has_number.result c.has_number.ensures).0 c.if-has_number.true in absurd (f.fresh k.0 k.1 k.2)))
+returns-then-has_number c = (
+  (λ t. cc),
+  (λ f.
+      let k = (number_tells c.args.earlier.now c.args.r.now.cell.gate c.has_number.result c.has_number.ensures).0 c.if-has_number.true in absurd (f.fresh k.0 k.1 k.2)),
+)
 
 pub returns-then-r-eq-CHECKPOINT : goal.returns-then-r-eq-CHECKPOINT
 returns-then-r-eq-CHECKPOINT c = (
@@ -20,13 +23,19 @@ returns-then-r-eq-CHECKPOINT c = (
 )
 
 pub returns-then-is_scattered : goal.returns-then-is_scattered
-returns-then-is_scattered c = ((λ t. cc), (λ f.
-    let k = (scattered_tells (part_of (layout_shape c.args.layout)) c.args.earlier.now c.args.r.now c.is_scattered.result c.is_scattered.ensures).0 c.if-is_scattered.true in
-    absurd (f.one_part k.0 k.1 (k.2.0, c.if-r-eq-CHECKPOINT.false, k.2.1))))
+returns-then-is_scattered c = (
+  (λ t. cc),
+  (λ f.
+      let k = (scattered_tells (part_of (layout_shape c.args.layout)) c.args.earlier.now c.args.r.now c.is_scattered.result c.is_scattered.ensures).0 c.if-is_scattered.true in
+      absurd (f.one_part k.0 k.1 (k.2.0, c.if-r-eq-CHECKPOINT.false, k.2.1))),
+)
 
 pub returns-then-has_end : goal.returns-then-has_end
-returns-then-has_end c = ((λ t. cc), (λ f.
-    absurd (follows_no_end _ _ _ (record_of_placed c.args.r.now) c.if-r-eq-CHECKPOINT.false ((end_tells c.args.earlier.now c.args.r.now.cell.transaction c.has_end.result c.has_end.ensures).0 c.if-has_end.true) f)))
+returns-then-has_end c = (
+  (λ t. cc),
+  (λ f.
+      absurd (follows_no_end _ _ _ (record_of_placed c.args.r.now) c.if-r-eq-CHECKPOINT.false ((end_tells c.args.earlier.now c.args.r.now.cell.transaction c.has_end.result c.has_end.ensures).0 c.if-has_end.true) f)),
+)
 
 pub returns-then-is_barred : goal.returns-then-is_barred
 returns-then-is_barred c = ((λ t. cc), (λ f. let k = (barred_tells c.args.rows.now c.args.earlier.now c.args.marks.now c.args.r.now c.is_barred.result c.requires c.is_barred.ensures).0 c.if-is_barred.true in absurd (f.word k.0 k.1.0 k.1.1 k.1.2)))
