@@ -1,5 +1,5 @@
 -- Lists of buckets.
-use Rattle.std.proofs.Common.{◌≡◌, ◌≢◌, inl, inr, ℕ, zero, suc, ◌+◌, ◌-◌, ◌<◌, ◌≤◌, Bool, true, false, not, ◌==◌, List, [], ◌∷◌, length, filter, get_or, drop, refl, sym, ap, ◌∙◌, subst, add-one, arith, drop-cons}
+use Rattle.std.proofs.Common.{◌≡◌, inl, inr, ℕ, zero, suc, ◌+◌, ◌-◌, ◌<◌, ◌≤◌, not, ◌==◌, List, [], ◌∷◌, length, filter, get_or, drop, refl, sym, ap, ◌∙◌, subst, add-one, arith, drop-cons}
 use Rattle.std.proofs.lemmas.Bool.Decides.{eqb_tells}
 use Rattle.std.proofs.lemmas.List.{drop_all}
 use Rattle.persist_model.specs.Records.{IsAmong}

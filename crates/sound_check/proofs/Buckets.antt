@@ -1,9 +1,8 @@
 -- Where a partition's buckets stand.
-use Rattle.std.proofs.Common.{◌≡◌, ◌≢◌, ◌⊎◌, inl, inr, ℕ, zero, suc, ◌+◌, ◌*◌, ◌-◌, ◌<◌, ◌≤◌, ◌^◌, ◌==◌, ◌||◌, List, [], ◌∷◌, length, refl, sym, ap, ◌∙◌, subst, arith}
+use Rattle.std.proofs.Common.{inl, inr, ℕ, zero, suc, ◌+◌, ◌*◌, ◌<◌, ◌≤◌, ◌==◌, ◌||◌, List, arith}
 use Rattle.std.specs.Prelude.{IsTrue}
 use Rattle.std.proofs.Math.Nat.{mul-le-mul}
-use Rattle.persist_model.specs.Region.{Words}
-use Rattle.persist_model.specs.Shape.{Shape, bucket_size, heap, IsBucketOf}
+use Rattle.persist_model.specs.Shape.{heap, IsBucketOf}
 use Rattle.persist_model.specs.Chain.{HEAD, Each, AreBuckets, IsLink, last_or}
 use Rattle.log_laws.proofs.AddressLists.{each_map, each_last}
 use Rattle.atomic_list.proofs.Parts.{whole_bucket_fits}

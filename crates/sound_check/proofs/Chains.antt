@@ -1,5 +1,5 @@
 -- Loops along a chain.
-use Rattle.std.proofs.Common.{◌≡◌, ◌≢◌, ◌⊎◌, ◌↔◌, inl, inr, ℕ, ◌+◌, ◌<◌, ◌≤◌, List, [], ◌∷◌, length, get_or, drop, refl, sym, ap, ◌∙◌, subst, arith}
+use Rattle.std.proofs.Common.{◌≡◌, ◌⊎◌, ◌↔◌, inl, inr, ℕ, ◌+◌, ◌<◌, ◌≤◌, List, [], ◌∷◌, length, get_or, drop, refl, subst}
 use Rattle.std.proofs.lemmas.List.{drop_all}
 use Rattle.persist_model.specs.Region.{Words}
 use Rattle.persist_model.specs.Chain.{IsBefore, LinksBackBut, IsExcepted, prev_of}

@@ -1,12 +1,11 @@
 -- A walk that goes on to the next bucket.
-use Rattle.std.proofs.Common.{◌≡◌, ℕ, suc, ◌+◌, ◌-◌, ◌<◌, ◌≤◌, List, [], ◌∷◌, ◌++◌, length, refl, sym, ap, ◌∙◌, subst, arith, length-append}
+use Rattle.std.proofs.Common.{◌≡◌, ℕ, suc, ◌+◌, ◌-◌, ◌<◌, List, [], ◌∷◌, ◌++◌, length, sym, ap, ◌∙◌, subst, arith, length-append}
 use Rattle.persist_model.specs.Region.{Words}
 use Rattle.persist_model.specs.Shape.{Shape, IsBucketOf, count_buckets}
 use Rattle.persist_model.specs.Chain.{IsAbsent}
-use Rattle.persist_model.specs.Visit.{IsVisit, link_behind}
 use Rattle.log_laws.proofs.Visits.{no_bucket_0}
-use Rattle.log_laws.proofs.Visiting.{IsGoing, going_on, going_ends, few_visited}
-use Rattle.sound_check.specs.Walks.{GoesTo, HasStopped}
+use Rattle.log_laws.proofs.Visiting.{IsGoing, going_on, few_visited}
+use Rattle.sound_check.specs.Walks.{GoesTo}
 
 pub going_push : (shape : Shape) (p : ℕ) (w : Words) (visited later : List ℕ) (b : ℕ) → IsGoing (IsBucketOf shape p) w visited → GoesTo (IsBucketOf shape p) w visited b → later ≡ visited ++ b ∷ [] →
     IsGoing (IsBucketOf shape p) w later

@@ -1,6 +1,5 @@
 -- An image of which each part was tried.
-use Rattle.std.proofs.Common.{◌≡◌, ◌≢◌, ◌⊎◌, inl, inr, ℕ, ◌+◌, ◌*◌, ◌-◌, ◌<◌, ◌≤◌, List, [], ◌∷◌, length, refl, sym, ap, ◌∙◌, subst, arith}
-use Rattle.std.specs.Prelude.{slice_index}
+use Rattle.std.proofs.Common.{◌≡◌, ℕ, ◌+◌, ◌<◌, List, refl, sym, ap, ◌∙◌, subst, arith}
 use Rattle.persist_model.specs.Region.{Words}
 use Rattle.persist_model.specs.Records.{Log}
 use Rattle.persist_model.specs.Shape.{Shape, shape_of, heap, words_of_shape, log_words, IsBucketOf, IsShape}
@@ -8,7 +7,7 @@ use Rattle.persist_model.specs.Chain.{view, ListRules}
 use Rattle.persist_model.specs.Visit.{chain_from}
 use Rattle.persist_model.specs.State.{State}
 use Rattle.persist_model.specs.Sound.{IsListOf, HaveChains, HasState, IsSound}
-use Rattle.persist_model.specs.Faults.{FaultSet, IsListFault, IsFirstFault, in_lists, in_log}
+use Rattle.persist_model.specs.Faults.{IsListFault, IsFirstFault, in_lists, in_log}
 use Rattle.log_laws.proofs.SameLists.{rules_same, view_same}
 use Rattle.log_laws.proofs.Visits.{visit_some, visit_one}
 use Rattle.sound_check.specs.declared.fault.CheckFault.{CheckFault}

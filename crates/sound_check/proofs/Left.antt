@@ -1,8 +1,7 @@
 -- A loop that tries rules in order: what is left to be tried completes the whole.
-use Rattle.std.proofs.Common.{◌≡◌, inl, inr, ℕ, ◌+◌, ◌<◌, ◌≤◌, List, [], ◌∷◌, ◌++◌, length, get_or, drop, refl, sym, ap, ◌∙◌, subst, arith}
+use Rattle.std.proofs.Common.{◌≡◌, inl, inr, ℕ, ◌+◌, ◌<◌, ◌≤◌, List, [], ◌∷◌, ◌++◌, length, get_or, drop, refl, sym, subst}
 use Rattle.persist_model.specs.Chain.{Each}
 use Rattle.persist_model.specs.Faults.{FaultSet, TriedEach, NoFault}
-use Rattle.log_laws.proofs.Trying.{each_past}
 use Rattle.std.proofs.lemmas.List.{drop_all}
 use Rattle.sound_check.proofs.BucketLists.{drop_next}
 

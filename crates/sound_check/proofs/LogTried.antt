@@ -1,5 +1,5 @@
 -- The rules of a log, put together.
-use Rattle.std.proofs.Common.{◌≡◌, ◌⊎◌, inl, inr, ℕ, ◌+◌, ◌-◌, ◌<◌, ◌≤◌, List, [], ◌∷◌, ◌++◌, suc, refl, sym, ap, ◌∙◌, subst, arith}
+use Rattle.std.proofs.Common.{inl, inr, ℕ, ◌+◌, ◌-◌, ◌<◌, List, [], ◌∷◌, suc, refl, sym, subst, arith}
 use Rattle.std.specs.List.{range_with_len}
 use Rattle.std.proofs.lemmas.Bool.Decides.{eqb_tells}
 use Rattle.persist_model.specs.Region.{Words}
@@ -10,7 +10,7 @@ use Rattle.persist_model.specs.ImageRecords.{IsWellFormed, AreWellFormed}
 use Rattle.persist_model.specs.State.{State, HasRoom, HasNumbers}
 use Rattle.persist_model.specs.Sound.{HasState}
 use Rattle.persist_model.specs.Chain.{Each}
-use Rattle.persist_model.specs.Faults.{FaultSet, Tried, TriedEach, TriedOldest, NoFault, parts, IsLogFault}
+use Rattle.persist_model.specs.Faults.{FaultSet, Tried, TriedEach, TriedOldest, NoFault, parts}
 use Rattle.log_laws.proofs.AddressLists.{each_in_range}
 use Rattle.log_laws.proofs.Trying.{each_here, each_past, oldest_past}
 use Rattle.log_laws.proofs.LogFaults.{formed_all, follow_all}

@@ -1,11 +1,11 @@
 -- What the tests of rows say of needs.
-use Rattle.std.proofs.Common.{◌≡◌, inl, inr, ℕ, suc, ◌+◌, ◌-◌, ◌<◌, ◌≤◌, ◌^◌, min, Bool, true, false, not, cond, ◌==◌, ◌&&◌, ◌||◌, List, [], ◌∷◌, ◌++◌, length, map, reverse, refl, sym, ap, ◌∙◌, subst, arith}
+use Rattle.std.proofs.Common.{◌≡◌, inl, inr, ℕ, ◌+◌, ◌<◌, ◌^◌, min, Bool, true, false, not, ◌==◌, ◌&&◌, ◌||◌, List, [], ◌∷◌, map, reverse, refl, sym, ap, ◌∙◌, arith}
 use Rattle.std.specs.List.{list_any}
 use Rattle.std.proofs.lemmas.List.Folds.{list_any-append}
 use Rattle.persist_model.specs.Records.{Record, Log}
 use Rattle.persist_model.specs.Order.{is_kind_of}
 use Rattle.persist_model.specs.Need.{is_of, has_of, has_kind_of}
-use Rattle.std.specs.Prelude.{◌≢◌, ◌↔◌, ◌⊎◌, nat_lt}
+use Rattle.std.specs.Prelude.{◌≢◌, ◌↔◌, nat_lt}
 use Rattle.std.proofs.lemmas.Bool.Decides.{nat_tests}
 use Rattle.std.proofs.lemmas.Bool.{ltb-true}
 use Rattle.persist_model.specs.Records.{IsAmong, Has, IsSkipped}
@@ -15,7 +15,7 @@ use Rattle.bucket_log.specs.declared.scanning.Placed.{Placed}
 use Rattle.bucket_log.specs.Scans.{record_of_placed}
 use Rattle.bucket_log.proofs.Scans.{reverse-cons}
 use Rattle.sound_check.specs.Rows.{log_of_rows, is_skipped_row, IsDrawn}
-use Rattle.sound_check.proofs.Asking.{any_has, both_true, equal_true, not_true, as_told, told_none}
+use Rattle.sound_check.proofs.Asking.{any_has, both_true, equal_true, not_true, as_told}
 use Rattle.sound_check.proofs.Ordering.{has_as}
 
 or_comm : (s t : Bool) → (s || t) ≡ (t || s)

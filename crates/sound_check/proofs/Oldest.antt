@@ -1,5 +1,5 @@
 -- A loop over rows, from the oldest on.
-use Rattle.std.proofs.Common.{◌≡◌, ◌⊎◌, inl, inr, ℕ, zero, suc, ◌+◌, ◌<◌, ◌≤◌, List, [], ◌∷◌, ◌++◌, length, map, reverse, get_or, take, drop, refl, sym, ap, ◌∙◌, subst, arith, append_assoc, add-one}
+use Rattle.std.proofs.Common.{◌≡◌, ℕ, ◌+◌, ◌<◌, List, [], ◌∷◌, ◌++◌, length, map, reverse, get_or, take, drop, sym, ap, ◌∙◌, subst, append_assoc, add-one}
 use Rattle.std.proofs.Math.Seq.{split_at}
 use Rattle.std.proofs.lemmas.List.{map-append, reverse-append, take_more}
 use Rattle.persist_model.specs.Records.{Record, Log}
@@ -8,7 +8,6 @@ use Rattle.log_laws.proofs.Tries.{AllGood}
 use Rattle.log_laws.proofs.Trying.{oldest_here}
 use Rattle.bucket_log.specs.declared.scanning.Placed.{Placed}
 use Rattle.bucket_log.specs.Scans.{record_of_placed}
-use Rattle.bucket_log.proofs.Scans.{reverse-cons}
 use Rattle.sound_check.specs.Rows.{log_of_rows}
 
 pub log-append : (xs ys : List Placed) → log_of_rows (xs ++ ys) ≡ log_of_rows ys ++ log_of_rows xs

@@ -1,13 +1,13 @@
 -- What the tests of rows say of the order rule.
-use Rattle.std.proofs.Common.{◌≡◌, ◌≢◌, ◌⊎◌, ◌↔◌, inl, inr, ℕ, ◌+◌, ◌<◌, ◌≤◌, Bool, true, false, not, ◌==◌, ◌&&◌, ◌||◌, List, [], ◌∷◌, ◌++◌, length, map, refl, sym, ap, ◌∙◌, subst, arith}
+use Rattle.std.proofs.Common.{◌≡◌, ◌≢◌, ◌⊎◌, ◌↔◌, inl, inr, ℕ, Bool, true, not, ◌==◌, ◌&&◌, ◌||◌, List, [], ◌∷◌, map, refl, sym, ap, ◌∙◌, subst, arith}
 use Rattle.std.specs.List.{list_any, zip}
-use Rattle.persist_model.specs.Records.{Record, Log, IsAmong, Has, HasNo, IsUpdate, IsCompensation, IsRollback, IsEnd, IsDeletion, NamesWord, IsOf, IsEndOf, IsRunning, IsEnded, IsCommitted}
+use Rattle.persist_model.specs.Records.{Record, Log, Has, HasNo, IsRollback, NamesWord, IsOf, IsEndOf, IsRunning, IsEnded, IsCommitted}
 use Rattle.persist_model.specs.Order.{undo_point, last_new, Compensates, IsNextToUndo, UndoesWell, Bars, Follows}
 use Rattle.log_laws.proofs.LogFaults.{next_on, next_back}
 use Rattle.bucket_log.specs.declared.scanning.Placed.{Placed}
 use Rattle.bucket_log.specs.Scans.{record_of_placed}
 use Rattle.sound_check.specs.Rows.{log_of_rows, is_barring_row}
-use Rattle.sound_check.proofs.Asking.{any_has, both_true, either_true, equal_true, not_true, as_told, told_none}
+use Rattle.sound_check.proofs.Asking.{any_has, both_true, either_true, equal_true, not_true, as_told}
 
 -- ---- single questions
 

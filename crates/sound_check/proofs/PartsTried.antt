@@ -1,5 +1,5 @@
 -- The partitions, one after another.
-use Rattle.std.proofs.Common.{◌≡◌, ◌⊎◌, inl, inr, ℕ, zero, suc, ◌+◌, ◌-◌, ◌<◌, ◌≤◌, Bool, true, false, cond, nat_lt, min, List, [], ◌∷◌, ◌++◌, length, take, refl, sym, ap, ◌∙◌, subst, arith, add-zero, zero-add, add-suc, append-nil}
+use Rattle.std.proofs.Common.{◌≡◌, ◌⊎◌, inl, inr, ℕ, zero, suc, ◌+◌, ◌-◌, ◌<◌, ◌≤◌, true, false, cond, nat_lt, min, List, [], ◌∷◌, ◌++◌, length, take, refl, sym, ap, ◌∙◌, subst, arith, append-nil}
 use Rattle.std.specs.Prelude.{slice_index}
 use Rattle.std.specs.List.{range_with_len}
 use Rattle.std.proofs.lemmas.Bool.Decides.{nat_tests, eqb_tells}
@@ -7,9 +7,9 @@ use Rattle.std.proofs.lemmas.Bool.{cases_lt}
 use Rattle.std.proofs.lemmas.List.{get_or-take, length-take}
 use Rattle.persist_model.specs.Region.{Words}
 use Rattle.persist_model.specs.Shape.{Shape, heap, log_words, list_words, IsBucketOf}
-use Rattle.persist_model.specs.Chain.{TAIL, view, out_address, Each, IsLink, last_or, IsExcepted}
-use Rattle.persist_model.specs.Visit.{IsVisit, chain_from, address_words}
-use Rattle.persist_model.specs.Faults.{FaultSet, Tried, TriedEach, TryLinksBack, TryPoints, TryAddressesOf, TryListOf, TryAddresses, TryLists, NoFault, parts, IsListFault}
+use Rattle.persist_model.specs.Chain.{TAIL, view, out_address, IsLink, last_or, IsExcepted}
+use Rattle.persist_model.specs.Visit.{chain_from, address_words}
+use Rattle.persist_model.specs.Faults.{FaultSet, Tried, TriedEach, TryLinksBack, TryPoints, TryAddresses, TryLists, NoFault, parts, IsListFault}
 use Rattle.persist_model.specs.Sound.{IsListOf}
 use Rattle.log_laws.proofs.AddressLists.{each_in_range}
 use Rattle.log_laws.proofs.Trying.{HasGoodAddresses, HasGoodPoints, addresses_here, addresses_past, lists_here}

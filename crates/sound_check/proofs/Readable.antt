@@ -1,8 +1,8 @@
 -- What may be read of a partition's view whose address rule holds.
-use Rattle.std.proofs.Common.{◌≡◌, ◌≢◌, ◌⊎◌, inl, inr, ℕ, ◌+◌, ◌*◌, ◌<◌, ◌≤◌, List, [], ◌∷◌, ◌++◌, refl, sym, ap, ◌∙◌, subst, arith}
+use Rattle.std.proofs.Common.{◌≡◌, ◌≢◌, inl, inr, ℕ, ◌+◌, ◌*◌, ◌<◌, ◌≤◌, List, [], ◌∷◌, ◌++◌, sym, subst, arith}
 use Rattle.std.proofs.lemmas.Bool.Decides.{eqb_tells}
 use Rattle.persist_model.specs.Region.{Words}
-use Rattle.persist_model.specs.Shape.{heap, bucket_size, IsBucketOf}
+use Rattle.persist_model.specs.Shape.{IsBucketOf}
 use Rattle.persist_model.specs.Chain.{TO_APPEND, LAST_TAIL, TO_REMOVE, next_of, prev_of, Each, AreBuckets, IsLink, last_or, without}
 use Rattle.persist_model.specs.Visit.{walk_from, chain_from, links_of, links_at}
 use Rattle.log_laws.proofs.AddressLists.{each_right, each_join}
@@ -12,7 +12,7 @@ use Rattle.atomic_list.proofs.Parts.{whole_bucket_fits}
 use Rattle.region_layout.specs.declared.layout.Layout.{Layout}
 use Rattle.region_layout.specs.Layout.{layout_shape}
 use Rattle.sound_check.specs.Rules.{AreLinks, IsReadable, MayBeTried}
-use Rattle.sound_check.proofs.Buckets.{heap_small, bucket_readable, link_readable, buckets_readable, last_inside}
+use Rattle.sound_check.proofs.Buckets.{heap_small, link_readable, buckets_readable, last_inside}
 
 pub record CanRead (cells size : ℕ) (w : Words) (visited chain : List ℕ) : Type 0 where
   pub long : 32 ≤ size

@@ -1,14 +1,14 @@
 -- The room that is read of a partition's view.
-use Rattle.std.proofs.Common.{◌≡◌, ◌≢◌, ◌⊎◌, inl, inr, ℕ, zero, suc, ◌+◌, ◌*◌, ◌-◌, ◌<◌, ◌≤◌, ◌^◌, ◌==◌, List, [], ◌∷◌, length, refl, sym, ap, ◌∙◌, subst, arith}
+use Rattle.std.proofs.Common.{◌≡◌, ◌≢◌, inl, inr, ℕ, ◌+◌, ◌*◌, ◌-◌, ◌<◌, ◌≤◌, ◌^◌, List, length, refl, sym, ap, ◌∙◌, subst, arith}
 use Rattle.std.specs.Prelude.{slice_index}
 use Rattle.std.proofs.lemmas.Bool.Decides.{eqb_tells}
 use Rattle.std.proofs.Math.Nat.{mul-le-mul, mul-le-mul_left}
 use Rattle.persist_model.specs.Region.{Words}
-use Rattle.persist_model.specs.Shape.{Shape, shape_of, log_words, IsBucketOf, count_buckets}
-use Rattle.persist_model.specs.Chain.{view, IsLink, Each, last_or, ListRules}
+use Rattle.persist_model.specs.Shape.{Shape, log_words, IsBucketOf, count_buckets}
+use Rattle.persist_model.specs.Chain.{view, IsLink, last_or, ListRules}
 use Rattle.persist_model.specs.ImageRecords.{cell_address}
 use Rattle.persist_model.specs.State.{State}
-use Rattle.persist_model.specs.Sound.{room_of, closed_cells, HasState}
+use Rattle.persist_model.specs.Sound.{room_of, HasState}
 use Rattle.log_laws.proofs.AddressLists.{each_map, each_last}
 use Rattle.log_laws.proofs.ListFaults.{view_behind}
 use Rattle.log_laws.proofs.SameLists.{chain_buckets}

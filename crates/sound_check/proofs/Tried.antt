@@ -1,13 +1,13 @@
 -- The rules of a list, put together from their parts.
-use Rattle.std.proofs.Common.{◌≡◌, ◌≢◌, ◌⊎◌, inl, inr, ℕ, ◌+◌, ◌<◌, ◌≤◌, List, [], ◌∷◌, ◌++◌, length, get_or, drop, refl, sym, ap, ◌∙◌, subst, arith}
+use Rattle.std.proofs.Common.{◌≡◌, ◌≢◌, ◌⊎◌, inl, inr, ℕ, ◌+◌, ◌<◌, ◌≤◌, List, [], ◌∷◌, ◌++◌, length, get_or, drop, refl, sym, ap, ◌∙◌, subst}
 use Rattle.std.proofs.lemmas.List.{drop_all}
 use Rattle.persist_model.specs.Region.{Words}
-use Rattle.persist_model.specs.Shape.{Shape, IsBucketOf}
-use Rattle.persist_model.specs.Chain.{TAIL, out_address, next_of, prev_of, Each, IsLink, last_or, IsExcepted, LinksBackBut}
+use Rattle.persist_model.specs.Shape.{Shape}
+use Rattle.persist_model.specs.Chain.{TAIL, next_of, prev_of, Each, last_or, IsExcepted, LinksBackBut}
 use Rattle.persist_model.specs.Visit.{chain_from, links_of, links_at, address_words}
 use Rattle.persist_model.specs.Faults.{FaultSet, TriedEach, TryLinksBack, TryPoints, NoFault}
 use Rattle.log_laws.proofs.ListFaults.{PointsHold, links_at_none, links_at_some}
-use Rattle.sound_check.specs.Rules.{AreLinks, IsWrongLink, ChangesHold, IsWrongChange, ListHolds}
+use Rattle.sound_check.specs.Rules.{ChangesHold, IsWrongChange, ListHolds}
 use Rattle.sound_check.proofs.BucketLists.{drop_next}
 use Rattle.sound_check.proofs.Left.{IsLeft, left_all, left_goes_on, left_fails}
 

@@ -1,7 +1,5 @@
 -- What a check answers.
-use Rattle.std.specs.Prelude.{ℕ}
 use Rattle.persist_model.specs.Faults.{FaultSet}
-use Rattle.region_layout.specs.declared.reading.ImageFault.{ImageFault}
 use Rattle.sound_check.specs.declared.fault.CheckFault.{CheckFault}
 use Rattle.sound_check.specs.declared.fault.CheckFault.TheVariants.{Unsound, NoMemory}
 

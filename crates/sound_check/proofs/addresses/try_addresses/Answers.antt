@@ -1,5 +1,5 @@
-use Rattle.std.specs.Prelude.{slice_index, length}
-use Rattle.std.proofs.Common.{◌<◌, arith}
+use Rattle.std.specs.Prelude.{slice_index}
+use Rattle.std.proofs.Common.{arith}
 use Rattle.std.proofs.lemmas.Result.{err_from_is_err_and, on_ok_weaker, MatchResult-weaker}
 use Rattle.persist_model.specs.Shape.{IsBucketOf}
 use Rattle.persist_model.specs.Chain.{IsLink, out_address}

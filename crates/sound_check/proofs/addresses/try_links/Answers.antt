@@ -1,5 +1,5 @@
 use Rattle.std.specs.Prelude.{slice_index}
-use Rattle.std.proofs.Common.{refl, sym, subst, ◌∙◌, arith}
+use Rattle.std.proofs.Common.{refl, sym, subst, arith}
 use Rattle.persist_model.specs.Shape.{IsBucketOf}
 use Rattle.persist_model.specs.Chain.{IsLink, out_address}
 use Rattle.region_layout.specs.Layout.{layout_shape}

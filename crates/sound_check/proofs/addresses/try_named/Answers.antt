@@ -1,13 +1,8 @@
 use Rattle.std.specs.Prelude.{slice_index, length}
-use Rattle.std.proofs.Common.{sym, subst, ◌<◌, arith}
-use Rattle.std.proofs.lemmas.Result.{IfErr-at_err}
-use Rattle.persist_model.specs.Shape.{IsBucketOf}
-use Rattle.persist_model.specs.Chain.{IsLink, out_address}
-use Rattle.persist_model.specs.Visit.{links_at}
-use Rattle.region_layout.specs.Layout.{layout_shape}
-use Rattle.sound_check.specs.Rules.{AreLinks, IsWrongLink, IsReadable}
+use Rattle.std.proofs.Common.{sym, subst, arith}
+use Rattle.sound_check.specs.Rules.{IsReadable}
 use Rattle.sound_check.proofs.Buckets.{link_readable}
-use Rattle.sound_check.proofs.Tried.{named_is, named_none}
+use Rattle.sound_check.proofs.Tried.{named_is}
 use Rattle.sound_check.proofs.addresses.try_named.Goals as goal
 
 pub try_links-requires-clause-inside : goal.try_links-requires-clause-inside

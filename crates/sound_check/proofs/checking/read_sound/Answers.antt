@@ -1,7 +1,6 @@
 use Rattle.std.specs.Prelude.{slice_index, length}
-use Rattle.std.proofs.Common.{sym, ap, ◌∙◌, subst}
+use Rattle.std.proofs.Common.{ap, ◌∙◌}
 use Rattle.std.proofs.lemmas.Result.{err_from_is_err_and}
-use Rattle.persist_model.specs.Shape.{log_words}
 use Rattle.persist_model.specs.Faults.{in_header}
 use Rattle.region_layout.specs.Layout.{layout_shape}
 use Rattle.sound_check.specs.Rows.{log_of_rows}

@@ -1,4 +1,4 @@
-use Rattle.std.proofs.Common.{◌<◌, arith}
+use Rattle.std.proofs.Common.{arith}
 use Rattle.sound_check.proofs.formed.is_root_owner.Goals as goal
 
 pub returns-in-None : goal.returns-in-None

@@ -1,4 +1,4 @@
-use Rattle.std.proofs.Common.{take, length, subst, refl, arith}
+use Rattle.std.proofs.Common.{subst, refl, arith}
 use Rattle.std.proofs.lemmas.List.{take_all}
 use Rattle.persist_model.specs.ImageRecords.{IsWellFormed}
 use Rattle.log_laws.proofs.LogFaults.{all_formed}

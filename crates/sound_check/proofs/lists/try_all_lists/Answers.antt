@@ -3,8 +3,8 @@ use Rattle.std.proofs.Common.{arith}
 use Rattle.std.proofs.lemmas.Result.{err_from_is_err_and}
 use Rattle.persist_model.specs.Shape.{heap}
 use Rattle.region_layout.specs.Layout.{layout_shape}
-use Rattle.sound_check.specs.Rules.{HasGoodLinks, HasBadLink, HasGoodList, HasBadList}
-use Rattle.sound_check.proofs.PartsTried.{unsound_as, link_fault, points_fault, in_view, of_view, view_long, one_more}
+use Rattle.sound_check.specs.Rules.{HasGoodLinks, HasGoodList, HasBadList}
+use Rattle.sound_check.proofs.PartsTried.{unsound_as, points_fault, in_view, of_view, view_long, one_more}
 use Rattle.sound_check.proofs.lists.try_all_lists.Goals as goal
 
 pub try_list_of-requires-clause-long : goal.try_list_of-requires-clause-long

@@ -1,5 +1,5 @@
 use Rattle.std.specs.Prelude.{slice_index, length}
-use Rattle.std.proofs.Common.{◌<◌, sym, subst, ap, ◌∙◌, arith}
+use Rattle.std.proofs.Common.{sym, subst, ap, ◌∙◌, arith}
 use Rattle.std.proofs.lemmas.Result.{err_from_is_err_and}
 use Rattle.persist_model.specs.Shape.{list_words, IsBucketOf}
 use Rattle.persist_model.specs.Chain.{AreBuckets}
@@ -7,7 +7,7 @@ use Rattle.persist_model.specs.Visit.{chain_from, address_words}
 use Rattle.persist_model.specs.Faults.{TryPoints, NoFault}
 use Rattle.region_layout.specs.Layout.{layout_shape}
 use Rattle.log_laws.proofs.Visits.{visit_one}
-use Rattle.sound_check.specs.Rules.{AreLinks, MayBeTried, ListHolds}
+use Rattle.sound_check.specs.Rules.{AreLinks, ListHolds}
 use Rattle.sound_check.proofs.Buckets.{link_readable}
 use Rattle.sound_check.proofs.lists.try_list_of.Goals as goal
 

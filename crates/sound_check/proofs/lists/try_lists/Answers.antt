@@ -1,11 +1,8 @@
-use Rattle.std.specs.Prelude.{slice_index, length}
-use Rattle.std.proofs.Common.{◌≡◌, ◌≤◌, ◌∙◌, ap, sym, subst, take, List, ℕ, arith}
+use Rattle.std.proofs.Common.{arith}
 use Rattle.std.proofs.lemmas.Result.{err_from_is_err_and, on_ok_weaker, MatchResult-weaker}
-use Rattle.persist_model.specs.Shape.{heap, words_of_shape, log_words}
 use Rattle.persist_model.specs.Faults.{IsListFault}
 use Rattle.region_layout.specs.Layout.{layout_shape}
-use Rattle.sound_check.specs.Faulty.{IfUnsound}
-use Rattle.sound_check.specs.Rules.{HasGoodLinks, HasGoodList, EachPart}
+use Rattle.sound_check.specs.Rules.{HasGoodList, EachPart}
 use Rattle.sound_check.proofs.PartsTried.{unsound_as, before_long, before_heap}
 use Rattle.sound_check.proofs.lists.try_lists.Goals as goal
 

@@ -1,4 +1,3 @@
-use Rattle.std.specs.Prelude.{slice_index}
 use Rattle.sound_check.proofs.RoomRead.{log_of_part, room_is_state, room_small}
 use Rattle.sound_check.proofs.log_rules.room_of_part.Goals as goal
 

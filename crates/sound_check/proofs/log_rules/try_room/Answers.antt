@@ -1,4 +1,3 @@
-use Rattle.std.specs.Prelude.{slice_index}
 use Rattle.std.proofs.Common.{refl, sym, subst, ◌+◌, arith}
 use Rattle.persist_model.specs.State.{HasRoom}
 use Rattle.persist_model.specs.Shape.{list_words}

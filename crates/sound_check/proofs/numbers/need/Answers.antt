@@ -1,9 +1,8 @@
-use Rattle.std.proofs.Common.{◌≡◌, ◌+◌, ◌-◌, ◌^◌, min, take, sym, ap, ◌∙◌, subst, refl, arith}
+use Rattle.std.proofs.Common.{◌+◌, min, sym, ap, ◌∙◌, arith}
 use Rattle.std.proofs.lemmas.List.{take_all}
 use Rattle.persist_model.specs.Shape.{part_of}
-use Rattle.persist_model.specs.Need.{need_of, sum_over, counted}
+use Rattle.persist_model.specs.Need.{need_of, sum_over}
 use Rattle.region_layout.specs.Layout.{layout_shape}
-use Rattle.bucket_log.specs.Scans.{record_of_placed}
 use Rattle.sound_check.specs.Rows.{log_of_rows}
 use Rattle.sound_check.proofs.Oldest.{log_next}
 use Rattle.sound_check.proofs.Needing.{saturated}

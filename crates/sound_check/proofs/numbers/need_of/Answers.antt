@@ -1,5 +1,5 @@
-use Rattle.std.proofs.Common.{◌≡◌, ℕ, ◌+◌, Bool, true, false, cond, length, refl, sym, ap, ◌∙◌, arith}
-use Rattle.persist_model.specs.Need.{need_of, has_kind_of, to_undo}
+use Rattle.std.proofs.Common.{◌≡◌, true, false, refl, sym, ◌∙◌, arith}
+use Rattle.persist_model.specs.Need.{has_kind_of}
 use Rattle.sound_check.specs.Rows.{log_of_rows}
 use Rattle.sound_check.proofs.Needing.{has_kind_is}
 use Rattle.sound_check.proofs.numbers.need_of.Goals as goal

@@ -1,4 +1,4 @@
-use Rattle.std.proofs.Common.{◌≡◌, ◌+◌, ◌-◌, ◌^◌, min, sym, ap, ◌∙◌, add-one}
+use Rattle.std.proofs.Common.{add-one}
 use Rattle.persist_model.specs.Shape.{part_of}
 use Rattle.persist_model.specs.State.{total_need}
 use Rattle.persist_model.specs.Need.{need_in}

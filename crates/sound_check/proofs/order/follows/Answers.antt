@@ -1,6 +1,5 @@
-use Rattle.std.proofs.Common.{refl, sym, ◌∙◌, inl, inr}
+use Rattle.std.proofs.Common.{refl}
 use Rattle.persist_model.specs.Shape.{part_of}
-use Rattle.persist_model.specs.Records.{IsOf, IsEnded}
 use Rattle.region_layout.specs.Layout.{layout_shape}
 use Rattle.bucket_log.specs.Scans.{record_of_placed}
 use Rattle.sound_check.specs.Rows.{log_of_rows}

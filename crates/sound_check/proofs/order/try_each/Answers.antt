@@ -1,4 +1,4 @@
-use Rattle.std.proofs.Common.{take, map, length, ap, sym, ◌∙◌, subst, refl, arith}
+use Rattle.std.proofs.Common.{take, ap, ◌∙◌, subst, refl, arith}
 use Rattle.std.proofs.lemmas.List.{take_all, take-map}
 use Rattle.persist_model.specs.Shape.{part_of}
 use Rattle.persist_model.specs.Order.{Follows}

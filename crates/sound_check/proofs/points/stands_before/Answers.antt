@@ -1,4 +1,4 @@
-use Rattle.std.proofs.Common.{refl, sym, subst, inl, inr, get_or, drop, ◌+◌, ◌∙◌, arith}
+use Rattle.std.proofs.Common.{refl, sym, subst, inl, inr, drop, ◌+◌, ◌∙◌, arith}
 use Rattle.sound_check.proofs.Chains.{IsSplitLeft, split_all, split_next, split_here, split_end}
 use Rattle.persist_model.specs.Chain.{IsBefore}
 use Rattle.sound_check.proofs.Changes.{tested}

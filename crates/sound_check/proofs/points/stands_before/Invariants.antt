@@ -1,5 +1,4 @@
 use Rattle.std.proofs.Common.{drop}
-use Rattle.log_laws.proofs.ListFaults.{Splits}
 use Rattle.sound_check.proofs.Chains.{IsSplitLeft}
 use Rattle.sound_check.proofs.points.stands_before.Given as goal
 

@@ -1,8 +1,7 @@
 use Rattle.std.specs.Prelude.{slice_index, length}
-use Rattle.std.proofs.Common.{refl, inl, inr, ap, ◌+◌, ◌∙◌, arith}
+use Rattle.std.proofs.Common.{refl, inl, inr, ap, ◌+◌, ◌∙◌}
 use Rattle.persist_model.specs.Shape.{list_words}
 use Rattle.region_layout.specs.Layout.{layout_shape}
-use Rattle.log_partition.proofs.Views.{list_words_high}
 use Rattle.sound_check.specs.Rules.{IsWrongChange}
 use Rattle.sound_check.proofs.Left.{fault_at}
 use Rattle.sound_check.proofs.Readable.{can_read}

@@ -1,5 +1,5 @@
 use Rattle.std.specs.Prelude.{slice_index}
-use Rattle.std.proofs.Common.{length, refl, sym, ap, subst, ◌<◌, ◌∙◌, arith}
+use Rattle.std.proofs.Common.{length, refl, sym, ap, subst, ◌<◌, ◌∙◌}
 use Rattle.persist_model.specs.Visit.{IsCutAt}
 use Rattle.log_laws.proofs.Deciding.{absent_of}
 use Rattle.sound_check.proofs.Buckets.{last_inside}

@@ -1,4 +1,4 @@
-use Rattle.std.proofs.Common.{◌≡◌, not, ◌==◌, filter, rules}
+use Rattle.std.proofs.Common.{rules}
 use Rattle.sound_check.proofs.BucketLists.{filter_without}
 use Rattle.sound_check.proofs.walk.without.Goals as goal
 
