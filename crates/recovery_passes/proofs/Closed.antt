@@ -23,8 +23,8 @@ use Rattle.recovery_passes.specs.Passing.{gates_len, HasNoGates, IsReady, IsClos
 -- ---- how many events a closing has
 
 length_append : (es fs : List Event) → length (es ++ fs) ≡ length es + length fs
-length_append [] fs = refl
-length_append (e ∷ es) fs = ap suc (length_append es fs)
+length_append [] fs = omega arith
+length_append (e ∷ es) fs = let h = length_append es fs in omega (arith, h)
 
 length_zeroes : (gates : List ℕ) → length (zeroes gates) ≡ length gates
 length_zeroes [] = refl
