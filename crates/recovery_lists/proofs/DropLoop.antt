@@ -1,5 +1,5 @@
 -- How far the removals of closed buckets have come.
-use Rattle.std.proofs.Common.{◌≡◌, ◌⊎◌, ℕ, ◌+◌, ◌*◌, ◌<◌, ◌≤◌, [], length, Some, None, refl, ap, sym, ◌∙◌, subst, arith}
+use Rattle.std.proofs.Common.{◌≡◌, ℕ, ◌+◌, ◌*◌, ◌<◌, ◌≤◌, [], length, Some, None, refl, ap, ◌∙◌, arith}
 use Rattle.persist_model.specs.Region.{Region}
 use Rattle.persist_model.specs.Shape.{Shape, count_buckets}
 use Rattle.persist_model.specs.State.{State}

@@ -1,5 +1,5 @@
 -- The events of a plan on a partition's view, as events on the region.
-use Rattle.std.proofs.Common.{◌≡◌, ◌⊎◌, inl, inr, ℕ, zero, suc, ◌<◌, ◌≤◌, List, [], ◌∷◌, Some, length, map, refl, ap, sym, ◌∙◌, arith, sum_by, get_or}
+use Rattle.std.proofs.Common.{◌≡◌, inl, inr, ℕ, zero, suc, ◌<◌, ◌≤◌, List, [], ◌∷◌, Some, length, map, refl, ap, sym, ◌∙◌, arith, sum_by, get_or}
 use Rattle.std.specs.Prelude.{slice_get, option_map, All}
 use Rattle.std.proofs.lemmas.Option.{slice_get-map}
 use Rattle.persist_model.specs.declared.event.Event.{Event}
@@ -14,7 +14,7 @@ use Rattle.log_laws.proofs.Views.{IsStoreOn, AreStoresOn}
 use Rattle.atomic_list.specs.declared.plans.Remove.{Remove}
 use Rattle.atomic_list.specs.declared.repairing.Repair.{Repair}
 use Rattle.atomic_list.specs.declared.repairing.Repair.TheVariants.{Nothing, Append, Remove as TakeOut}
-use Rattle.atomic_list.specs.Plans.{removal, repair_plan}
+use Rattle.atomic_list.specs.Plans.{repair_plan}
 use Rattle.bucket_log.specs.Words.{IsPartWord}
 use Rattle.bucket_log.proofs.Partitions.{bucket_word_above}
 use Rattle.log_clearing.specs.Removals.{region_removal}

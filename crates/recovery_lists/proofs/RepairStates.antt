@@ -1,19 +1,18 @@
 -- The repair of a partition's list in the form of states.
-use Rattle.std.proofs.Common.{◌≡◌, ◌↔◌, inl, inr, ℕ, ◌+◌, ◌<◌, ◌≤◌, List, length, map, take, refl, sym, ◌∙◌, subst, arith}
+use Rattle.std.proofs.Common.{◌≡◌, inl, inr, ℕ, ◌+◌, ◌<◌, List, length, map, take, sym, ◌∙◌, subst, arith}
 use Rattle.std.proofs.lemmas.List.{take_all, length-map}
 use Rattle.persist_model.specs.declared.event.Event.{Event}
 use Rattle.persist_model.specs.Region.{Words}
-use Rattle.persist_model.specs.Progress.{Progress, Wrote, Reaches, start, advance_all}
+use Rattle.persist_model.specs.Progress.{Wrote, Reaches, start, advance_all}
 use Rattle.persist_model.specs.Runs.{progress_at}
-use Rattle.persist_model.specs.Records.{Record, IsAmong}
+use Rattle.persist_model.specs.Records.{IsAmong}
 use Rattle.persist_model.specs.Shape.{Shape, IsBucketOf, heap, heap_words, log_words, list_words}
 use Rattle.persist_model.specs.Chain.{out_event, last_or}
-use Rattle.persist_model.specs.ImageRecords.{IsRecordOf}
 use Rattle.persist_model.specs.State.{State}
-use Rattle.persist_model.specs.Sound.{IsListOf, IsClosedBucket, HasChain, HasState}
+use Rattle.persist_model.specs.Sound.{HasChain, HasState}
 use Rattle.log_laws.specs.Recovering.{with_heap}
 use Rattle.log_laws.proofs.Views.{AreStoresOn}
-use Rattle.atomic_list.specs.Plans.{repair_plan, repair_asked}
+use Rattle.atomic_list.specs.Plans.{repair_plan}
 use Rattle.atomic_list.specs.Repairing.{repaired, RepairLeaves}
 use Rattle.atomic_list.specs.Rules.{IsList, IsListWord, IsAtRest}
 use Rattle.atomic_list.specs.Views.{IsListWordOrGate, IsRemovedClosed}

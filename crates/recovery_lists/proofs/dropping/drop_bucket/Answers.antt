@@ -1,4 +1,4 @@
-use Rattle.std.proofs.Common.{◌≡◌, ◌≤◌, ◌+◌, sym, ap, subst, ◌∙◌, take, length, arith}
+use Rattle.std.proofs.Common.{◌≡◌, ◌+◌, sym, subst, length}
 use Rattle.persist_model.specs.Region.{Region}
 use Rattle.log_laws.specs.Parts.{EachKeeps}
 use Rattle.atomic_list.specs.Walk.{chain_of}
@@ -46,7 +46,7 @@ returns-clause-shorter g c = λ made.
     let cells = g.D.Device.cells c.args.device.now in
     let at = c.requires.empty.at in
     subst (λ (r : Region). length (chain_of (layout_shape c.args.layout) (seen (layout_shape c.args.layout) c.args.p (newest_at r))) + 1
-        ≡ length (chain_of (layout_shape c.args.layout) (seen (layout_shape c.args.layout) c.args.p (newest_at cells)))) (sym (c.run.ensures.made made))
+    ≡ length (chain_of (layout_shape c.args.layout) (seen (layout_shape c.args.layout) c.args.p (newest_at cells)))) (sym (c.run.ensures.made made))
     (drop_shortens (layout_shape c.args.layout) (allowed_at c.args.layout cells at) c.args.p c.requires.partition at.first at.state cells at.settled c.args.removal c.requires.closed c.requires.empty.empty)
 
 pub returns-clause-stopped : goal.returns-clause-stopped

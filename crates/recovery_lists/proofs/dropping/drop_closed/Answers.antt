@@ -1,12 +1,11 @@
-use Rattle.std.proofs.Common.{◌≡◌, ◌≤◌, ◌+◌, ◌*◌, None, refl, subst, arith, ap}
-use Rattle.persist_model.specs.Shape.{count_buckets}
+use Rattle.std.proofs.Common.{refl, subst, arith}
 use Rattle.atomic_list.specs.Walk.{chain_of}
 use Rattle.region_layout.specs.Layout.{layout_shape}
 use Rattle.log_clearing.specs.Dropping.{IsRemovalOf}
 use Rattle.recovery_run.specs.Reached.{newest_at}
 use Rattle.recovery_lists.specs.Repairs.{seen}
 use Rattle.recovery_lists.proofs.Reading.{allowed_at}
-use Rattle.recovery_lists.proofs.DropLoop.{buckets_in, dropping_begins, dropping_goes_on, not_few_before, room_for_one, stopped_counted, stopped_spare, few_at_first, read_may_drop, read_few_left, all_counted}
+use Rattle.recovery_lists.proofs.DropLoop.{dropping_begins, dropping_goes_on, not_few_before, room_for_one, stopped_counted, stopped_spare, few_at_first, read_may_drop, read_few_left, all_counted}
 use Rattle.recovery_lists.proofs.dropping.drop_closed.Goals as goal
 
 pub loop-removal-init : goal.loop-removal-init

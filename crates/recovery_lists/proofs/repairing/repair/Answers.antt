@@ -1,5 +1,5 @@
 use Rattle.std.specs.Prelude.{All}
-use Rattle.std.proofs.Common.{◌≡◌, ◌≤◌, sym, ap, subst, ◌∙◌, take, arith}
+use Rattle.std.proofs.Common.{sym, ap, subst, ◌∙◌, take, arith}
 use Rattle.persist_model.specs.Region.{Region}
 use Rattle.lane_traits.specs.Device.{IsWithin}
 use Rattle.log_laws.specs.Parts.{after_plan, EachKeeps}
