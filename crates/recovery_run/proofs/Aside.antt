@@ -1,10 +1,10 @@
 -- Words that no event of a plan stores to.
-use Rattle.std.proofs.Common.{◌≡◌, inl, inr, ℕ, zero, suc, ◌+◌, ◌==◌, Bool, true, false, if◌then◌else◌, List, [], ◌∷◌, take, sym, subst, arith}
+use Rattle.std.proofs.Common.{◌≡◌, inl, inr, ℕ, zero, suc, ◌+◌, ◌==◌, Bool, true, false, if◌then◌else◌, List, [], ◌∷◌, ◌++◌, take, sym, subst, arith}
 use Rattle.std.proofs.lemmas.Bool.Decides.{eqb_tells}
 use Rattle.persist_model.specs.declared.event.Event.{Event}
 use Rattle.persist_model.specs.declared.event.Event.TheVariants.{Store, PStore, WriteBack, Fence}
 use Rattle.persist_model.specs.declared.event.Candidate.{Candidate}
-use Rattle.persist_model.specs.Region.{Region, after, IsCandidate, mark_last}
+use Rattle.persist_model.specs.Region.{Region, after, IsCandidate, candidate, mark_last}
 use Rattle.persist_model.proofs.Candidates.{IsCandidate-fenced, IsCandidate_same_values, map-value_of-mark_last}
 use Rattle.log_laws.specs.Parts.{after_plan}
 use Rattle.recovery_run.specs.Edges.{StoresElsewhere, StoreElsewhere, HasOneValue}
@@ -13,11 +13,11 @@ use Rattle.recovery_run.specs.Edges.{StoresElsewhere, StoreElsewhere, HasOneValu
 pub candidate_before : (region : Region) (lane : ℕ) (e : Event) (a v : ℕ) → StoresElsewhere a e → IsCandidate ((after region lane e).at a) v → IsCandidate (region.at a) v
 candidate_before region lane (Store b x) a v off k = elim (eqb_tells a b) [
   | inl t ↦ absurd (off t.1)
-  | inr f ↦ subst (λ (q : Bool). IsCandidate (if q then _ else region.at a) v) f.0 k
+  | inr f ↦ subst (λ (q : Bool). IsCandidate (if q then region.at a ++ candidate x 0 ∷ [] else region.at a) v) f.0 k
 ]
 candidate_before region lane (PStore b x) a v off k = elim (eqb_tells a b) [
   | inl t ↦ absurd (off t.1)
-  | inr f ↦ subst (λ (q : Bool). IsCandidate (if q then _ else region.at a) v) f.0 k
+  | inr f ↦ subst (λ (q : Bool). IsCandidate (if q then region.at a ++ candidate x (lane + 1) ∷ [] else region.at a) v) f.0 k
 ]
 candidate_before region lane (WriteBack b) a v off k = by_test (a == b) k
   where

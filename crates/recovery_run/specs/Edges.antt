@@ -44,3 +44,7 @@ KeepsWords A before later = (a v : ℕ) → A a → HasOneValue v (before.at a) 
 pub record IsHeaderWord (shape : Shape) (a : ℕ) : Type 0 where
   pub below : a < 32
   pub apart : (p : ℕ) → p < shape.partitions → (a < list_words p) ⊎ (list_words p + 4 < a)
+
+-- no event of the plan stores to a word of the header
+abbrev pub AreOffHeader : Shape → List Event → Type 0
+AreOffHeader shape plan = (a : ℕ) → IsHeaderWord shape a → StoreElsewhere a plan

@@ -1,4 +1,5 @@
 pub mod Closing
+pub mod ClosingAll
 pub mod Appending
 pub mod Edges
 pub mod Groups

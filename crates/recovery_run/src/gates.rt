@@ -17,7 +17,12 @@ pub struct Gates {
 
 impl Gates {
     /// No gates yet, and memory for so many of each group.
-    pub fn with_memory(alloc: Global, gates: usize, ends: usize, checkpoints: usize) -> Result<Gates, NoMemory>
+    pub fn with_memory(
+        alloc: Global,
+        gates: usize,
+        ends: usize,
+        checkpoints: usize,
+    ) -> Result<Gates, NoMemory>
         ensures gates { IfOk result (λ made. (made.gates.items ≡ []) × (vec_capacity made.gates ≡ gates)) }
         ensures ends { IfOk result (λ made. (made.ends.items ≡ []) × (vec_capacity made.ends ≡ ends)) }
         ensures checkpoints { IfOk result (λ made. (made.checkpoints.items ≡ []) × (vec_capacity made.checkpoints ≡ checkpoints)) }
