@@ -1,10 +1,9 @@
 -- The region of the tests: two partitions of four buckets of one cell, without records. A bucket is being put behind the chain of the
 -- first partition, and one is being taken out of the chain of the second.
-use Rattle.std.specs.Prelude.{◌≡◌, ℕ, ◌==◌, if◌then◌else◌, List, [], ◌∷◌, map}
+use Rattle.std.specs.Prelude.{ℕ, ◌==◌, if◌then◌else◌, List, [], ◌∷◌, map}
 use Rattle.std.specs.List.{range_with_len}
-use Rattle.persist_model.specs.Region.{Words, Region}
+use Rattle.persist_model.specs.Region.{Words}
 use Rattle.persist_model.specs.Shape.{Shape, SECOND_MAGIC}
-use Rattle.recovery_lists.specs.Lists.{IsAtState}
 
 abbrev pub small : Shape
 small = record { policy = 1; cells = 1; buckets = 8; blocks = 16; structures = 1; format = 2; partitions = 2 }
@@ -26,9 +25,3 @@ abbrev pub unrepaired : List Pair
 unrepaired =
     (0, SECOND_MAGIC) ∷ (1, 1) ∷ (2, 1) ∷ (3, 8) ∷ (4, 16) ∷ (5, 1) ∷ (6, 2) ∷ (13, 1) ∷ (8, 32) ∷ (9, 32) ∷ (10, 48) ∷ (11, 32) ∷ (49, 32) ∷
     (21, 96) ∷ (22, 144) ∷ (25, 112) ∷ (96, 112) ∷ (112, 128) ∷ (113, 96) ∷ (128, 144) ∷ (129, 112) ∷ (145, 128) ∷ []
-
--- recovery is at a state of a region of two partitions, and no record is left
-pub record IsAtEmptied (shape : Shape) (region : Region) : Type 0 where
-  pub two : shape.partitions ≡ 2
-  pub at : IsAtState shape region
-  pub empty : at.state.log ≡ []

@@ -6,7 +6,7 @@ ghost use Rattle.log_laws.specs.Parts.{EachKeeps};
 ghost use Rattle.region_layout.specs.Layout.{layout_shape};
 ghost use Rattle.recovery_run.specs.Edges.{KeepsWords, IsHeaderWord};
 ghost use Rattle.recovery_run.specs.Reached.{newest_at, HasSettled, IsQuiet};
-ghost use Rattle.recovery_lists.specs.Images.{small, word_in, words_in, unrepaired, IsAtEmptied};
+ghost use Rattle.recovery_lists.specs.Images.{small, word_in, words_in, unrepaired};
 ghost use Rattle.recovery_lists.specs.Lists.{IsAtState};
 
 use crate::{drop_closed, repair};
@@ -122,12 +122,14 @@ fn check_words<W: Look>(rt: &impl Abort, words: &W, expected: &[(u32, u64)]) {
 }
 
 #[test]
-fn two_lists_are_repaired(rt: HostRuntime) -> Result<(), Fail> {
+fn two_lists_are_repaired_and_emptied(rt: HostRuntime) -> Result<(), Fail> {
     let alloc = rt.alloc();
     let layout = small_layout();
     let mut region = small_region(alloc)?;
-    let done = repair_both(&mut region, layout);
-    assert_eq!(rt; done, Done::Made);
+    match repair_both(&mut region, layout) {
+        Done::Stopped => return Err("stopped".into()),
+        Done::Made => {}
+    }
     check_words(
         &rt,
         &region,
@@ -154,5 +156,102 @@ fn two_lists_are_repaired(rt: HostRuntime) -> Result<(), Fail> {
             (145, 128),
         ],
     );
+    assert_eq!(rt; drop_closed(&mut region, layout, 1), Done::Made);
+    check_words(
+        &rt,
+        &region,
+        &[(21, 144), (22, 144), (25, 0), (144, 0), (145, 0)],
+    );
+    check_words(
+        &rt,
+        &region,
+        &[(8, 32), (9, 48), (32, 48), (48, 0), (49, 32)],
+    );
+    Ok(())
+}
+
+// A stop behind so many events of the repairs, and the repairs of what it left.
+fn stop_and_repair(rt: &impl Abort, alloc: Global, stop: u64, pick: Pick) -> Result<(), Fail> {
+    let layout = small_layout();
+    let mut cut = Cut::new(small_region(alloc)?, stop);
+    match repair_both(&mut cut, layout) {
+        Done::Made => return Err("no stop".into()),
+        Done::Stopped => {}
+    }
+    let mut region = cut.into_inner();
+    region.restart(pick);
+    assert_eq!(rt; repair_both(&mut region, layout), Done::Made);
+    check_words(
+        rt,
+        &region,
+        &[
+            (8, 32),
+            (9, 48),
+            (10, 0),
+            (32, 48),
+            (33, 0),
+            (48, 0),
+            (49, 32),
+        ],
+    );
+    check_words(
+        rt,
+        &region,
+        &[
+            (21, 96),
+            (22, 144),
+            (25, 0),
+            (96, 128),
+            (128, 144),
+            (129, 96),
+            (145, 128),
+        ],
+    );
+    Ok(())
+}
+
+#[test]
+fn a_stop_behind_any_event_is_repaired(rt: HostRuntime) -> Result<(), Fail> {
+    for stop in 0..10 {
+        for pick in &[Pick::Old, Pick::New, Pick::Mix(1)] {
+            stop_and_repair(&rt, rt.alloc(), stop, *pick)?;
+        }
+    }
+    Ok(())
+}
+
+// Repairs both lists, and then takes the closed buckets out of the second up to a stop.
+fn stop_and_drop(rt: &impl Abort, alloc: Global, stop: u64, pick: Pick) -> Result<(), Fail> {
+    let layout = small_layout();
+    let mut region = small_region(alloc)?;
+    match repair_both(&mut region, layout) {
+        Done::Stopped => return Err("stopped".into()),
+        Done::Made => {}
+    }
+    let mut cut = Cut::new(region, stop);
+    match drop_closed(&mut cut, layout, 1) {
+        Done::Made => return Err("no stop".into()),
+        Done::Stopped => {}
+    }
+    let mut region = cut.into_inner();
+    region.restart(pick);
+    assert_eq!(rt; repair_both(&mut region, layout), Done::Made);
+    check_words(
+        rt,
+        &region,
+        &[(8, 32), (9, 48), (22, 144), (25, 0), (144, 0)],
+    );
+    let first = word(&region, 21);
+    assert!(rt; first == 96 || first == 128 || first == 144);
+    Ok(())
+}
+
+#[test]
+fn a_stop_behind_any_event_of_a_removal_is_repaired(rt: HostRuntime) -> Result<(), Fail> {
+    for stop in 0..14 {
+        for pick in &[Pick::Old, Pick::New, Pick::Mix(1)] {
+            stop_and_drop(&rt, rt.alloc(), stop, *pick)?;
+        }
+    }
     Ok(())
 }
