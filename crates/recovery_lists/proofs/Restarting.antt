@@ -1,12 +1,12 @@
 -- What a stop leaves of a region in which recovery was at work is such a region again.
-use Rattle.std.proofs.Common.{◌≡◌, ◌⊎◌, inl, inr, ℕ, zero, suc, ◌+◌, ◌<◌, ◌≤◌, List, [], ◌∷◌, length, map, refl, sym, ◌∙◌, subst, arith}
+use Rattle.std.proofs.Common.{◌≡◌, ◌⊎◌, inl, inr, ℕ, zero, suc, ◌<◌, ◌≤◌, List, [], ◌∷◌, length, map, refl, sym, ◌∙◌, subst, arith}
 use Rattle.std.specs.Prelude.{slice_index}
 use Rattle.persist_model.specs.declared.event.Candidate.{Candidate}
 use Rattle.persist_model.specs.declared.pick.Pick.{Pick}
 use Rattle.persist_model.specs.declared.pick.Pick.TheVariants.{Old, New, Mix}
 use Rattle.persist_model.specs.Pick.{index_of_pick}
-use Rattle.persist_model.specs.Region.{Words, Region, IsImage, IsCandidate, value_of, picked, restarted, newest_words}
-use Rattle.persist_model.specs.Shape.{Shape, heap}
+use Rattle.persist_model.specs.Region.{Region, IsCandidate, value_of, picked, restarted, newest_words}
+use Rattle.persist_model.specs.Shape.{Shape}
 use Rattle.persist_model.specs.State.{State, IsSoundState}
 use Rattle.persist_model.proofs.Images.{length-newest_words}
 use Rattle.persist_model.specs.Sound.{HasState}

@@ -1,19 +1,16 @@
 -- The tests' region holds a state without records, and what a stop leaves of such a region.
-use Rattle.std.proofs.Common.{◌≡◌, ◌⊎◌, inl, inr, ℕ, zero, suc, ◌+◌, ◌*◌, ◌<◌, ◌≤◌, ◌==◌, if◌then◌else◌, List, [], ◌∷◌, length, map, refl, sym, ap, ◌∙◌, subst, arith}
-use Rattle.std.specs.Prelude.{slice_index}
-use Rattle.std.specs.List.{range_with_len}
+use Rattle.std.proofs.Common.{◌≡◌, inl, inr, ℕ, zero, suc, ◌+◌, ◌*◌, ◌<◌, ◌≤◌, ◌==◌, if◌then◌else◌, List, [], ◌∷◌, length, refl, sym, ap, ◌∙◌, subst, arith}
 use Rattle.std.proofs.lemmas.List.FromFn.{length-map-range_with_len, get_or-map-range_with_len}
-use Rattle.persist_model.specs.Region.{Words, Region, loaded, AreSettled, newest_words}
+use Rattle.persist_model.specs.Region.{Words, Region, loaded}
 use Rattle.persist_model.specs.Records.{Record, IsAmong}
 use Rattle.persist_model.specs.Shape.{Shape, SECOND_MAGIC, shape_of, IsShape, IsBucketOf, heap_words, log_words, words_of_shape}
 use Rattle.persist_model.specs.Chain.{view}
 use Rattle.persist_model.specs.ImageRecords.{IsRecordOf, AreRecords, cell_address}
 use Rattle.persist_model.specs.State.{State, IsSoundState}
-use Rattle.persist_model.specs.Sound.{HasState, HasChain, IsListOf, IsClosedBucket, room_of}
-use Rattle.region_layout.specs.Fresh.{empty_state}
-use Rattle.atomic_list.specs.Rules.{IsList, IsAppending, IsRemoving, appending, removing}
+use Rattle.persist_model.specs.Sound.{HasState, HasChain, IsListOf, room_of}
+use Rattle.atomic_list.specs.Rules.{IsList, appending, removing}
 use Rattle.atomic_list.proofs.Closings.{list_from_view}
-use Rattle.recovery_run.specs.Reached.{newest_at, HasHeader, HasSettled, IsQuiet}
+use Rattle.recovery_run.specs.Reached.{newest_at, HasSettled, IsQuiet}
 use Rattle.recovery_run.proofs.ClosingPart.{same_heap}
 use Rattle.recovery_run.proofs.Reaching.{read_newest, settled_begins}
 use Rattle.bucket_log.proofs.PartStates.{log_words_same}

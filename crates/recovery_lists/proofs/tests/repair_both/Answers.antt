@@ -1,4 +1,4 @@
-use Rattle.std.proofs.Common.{◌≡◌, ◌<◌, refl, arith}
+use Rattle.std.proofs.Common.{refl, arith}
 use Rattle.recovery_lists.proofs.tests.repair_both.Goals as goal
 
 pub returns-clause-quiet : goal.returns-clause-quiet

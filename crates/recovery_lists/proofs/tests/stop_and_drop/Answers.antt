@@ -1,4 +1,4 @@
-use Rattle.std.proofs.Common.{refl, sym, ap, ◌∙◌, subst, ◌<◌, length, arith}
+use Rattle.std.proofs.Common.{refl, sym, ap, ◌∙◌, subst, arith}
 use Rattle.persist_model.specs.Region.{Region, restarted}
 use Rattle.region_layout.specs.Layout.{layout_shape}
 use Rattle.word_region.specs.Places.{cells_of}
