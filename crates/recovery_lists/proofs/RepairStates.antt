@@ -18,7 +18,7 @@ use Rattle.atomic_list.specs.Rules.{IsList, IsListWord, IsAtRest}
 use Rattle.atomic_list.specs.Views.{IsListWordOrGate, IsRemovedClosed}
 use Rattle.atomic_list.proofs.Cases.{chain_is_buckets}
 use Rattle.atomic_list.proofs.Closings.{repaired_stays_closed, list_in_view, list_from_view}
-use Rattle.atomic_list.proofs.Repairs.{repair_images, repair_ends, repair_is_on_list}
+use Rattle.atomic_list.proofs.Repairs.{still, repair_images, repair_ends, repair_is_on_list}
 use Rattle.region_layout.specs.Layout.{IsAllowed}
 use Rattle.bucket_log.specs.Words.{IsLogWord, SameRecords}
 use Rattle.bucket_log.proofs.Addresses.{list_word_is_log_word, cell_word_is_log_word}
@@ -99,10 +99,8 @@ module _ (shape : Shape) (ok : IsAllowed shape) (p : ℕ) (inside : p < shape.pa
       (repair_ends shape p (seen shape p w) (has.chains p) (list_of (has.chains p) (has.lists p inside)).0)
 
   quiet_last : (v : Words) → Reaches (λ a. a < heap shape) (progress_at w (map (out_event p) plan) (length (map (out_event p) plan))) v → IsQuiet p v
-  quiet_last v h = (
-    sym (inside_log shape v (list_words p + 2) (part_word_below shape p (list_words p + 2) ok inside (inl (omega arith, omega arith)))) ∙ word 10 (inl (omega arith, omega arith)) ∙ leaves.at_rest.to_append,
-    sym (inside_log shape v (list_words p + 4) (part_word_below shape p (list_words p + 4) ok inside (inl (omega arith, omega arith)))) ∙ word 12 (inl (omega arith, omega arith)) ∙ leaves.at_rest.to_remove,
-  )
+  quiet_last v h = quiet_at_rest shape p v (has.chains p) ok inside
+      (still shape p (advance_all (start (seen shape p w)) plan).durable (seen shape p v) (has.chains p) leaves.at_rest (λ a m. word a m))
     where
       size : length (map (out_event p) plan) ≡ length plan
       size = length-map plan (out_event p)
