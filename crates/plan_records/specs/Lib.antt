@@ -1,0 +1,4 @@
+pub mod Cells
+pub mod Appends
+pub mod Conditions
+pub mod Laws

@@ -1,0 +1,58 @@
+//! What each append leaves to a stop, as functions that do nothing: the clause is the law.
+ghost use Rattle.plan_records.specs.Laws.{
+  UpdatesKeep,
+  DeletionsKeep,
+  RollbacksKeep,
+  CompensationsKeep,
+  UndoneEndsKeep,
+  CheckpointsKeep,
+  CommitEndsWrite,
+  StoresKeep,
+  DropsKeep,
+};
+
+/// At each prefix of an update's append each image is sound, with the standing words before.
+pub fn updates_keep()
+    ensures { UpdatesKeep }
+{}
+
+/// So it is at each prefix of a deferred deletion's append,
+pub fn deletions_keep()
+    ensures { DeletionsKeep }
+{}
+
+/// of a rollback record's,
+pub fn rollbacks_keep()
+    ensures { RollbacksKeep }
+{}
+
+/// of the compensation's of the newest update that none names,
+pub fn compensations_keep()
+    ensures { CompensationsKeep }
+{}
+
+/// of the end's of a transaction that is undone,
+pub fn undone_ends_keep()
+    ensures { UndoneEndsKeep }
+{}
+
+/// and of a checkpoint record's, where each word that nothing else decides has its standing value.
+pub fn checkpoints_keep()
+    ensures { CheckpointsKeep }
+{}
+
+/// At each prefix of the append of a commit's end each image has the standing words before, or those with what the transaction
+/// wrote, by whether it has the end.
+pub fn commit_ends_write()
+    ensures { CommitEndsWrite }
+{}
+
+/// Stores to words whose standing value a record decides keep all standing words.
+pub fn stores_keep()
+    ensures { StoresKeep }
+{}
+
+/// At each prefix of the removal of a closed bucket each image is sound, with the standing words before.
+pub fn drops_keep()
+    ensures { DropsKeep }
+{}
