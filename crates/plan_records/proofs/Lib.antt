@@ -1,3 +1,4 @@
+pub mod PartNumbers
 pub mod Appending
 pub mod Records
 pub mod UndoneEnds

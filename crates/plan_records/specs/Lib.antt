@@ -1,4 +1,5 @@
 pub mod Cells
+pub mod Sequences
 pub mod Appends
 pub mod Conditions
 pub mod Laws
