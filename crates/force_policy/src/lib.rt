@@ -2,6 +2,7 @@
 #![tactic(auto)]
 
 mod ending;
+pub mod laws;
 mod naming;
 
 pub use bucket_log::{Closing, Giving, Part, Undoing, Update};

@@ -2,3 +2,8 @@ pub mod PartNumbers
 pub mod Appending
 pub mod Records
 pub mod UndoneEnds
+pub mod OwnRecords
+pub mod Going
+pub mod AbortCourse
+pub mod CommitCourse
+pub mod WriteCourse

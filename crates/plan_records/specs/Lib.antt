@@ -3,3 +3,4 @@ pub mod Sequences
 pub mod Appends
 pub mod Conditions
 pub mod Laws
+pub mod Courses

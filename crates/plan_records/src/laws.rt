@@ -10,6 +10,7 @@ ghost use Rattle.plan_records.specs.Laws.{
   StoresKeep,
   DropsKeep,
 };
+ghost use Rattle.plan_records.specs.Courses.{WritesGoOn, GivesGoOn, CommitsGoOn, AbortsGoOn};
 
 /// At each prefix of an update's append each image is sound, with the standing words before.
 pub fn updates_keep()
@@ -55,4 +56,24 @@ pub fn stores_keep()
 /// At each prefix of the removal of a closed bucket each image is sound, with the standing words before.
 pub fn drops_keep()
     ensures { DropsKeep }
+{}
+
+/// Wherever a lane has come in the plan of a write, its next part may begin.
+pub fn writes_go_on()
+    ensures { WritesGoOn }
+{}
+
+/// So it is in the plan of a block that is given back,
+pub fn gives_go_on()
+    ensures { GivesGoOn }
+{}
+
+/// in that of a commit,
+pub fn commits_go_on()
+    ensures { CommitsGoOn }
+{}
+
+/// and in that of an abort.
+pub fn aborts_go_on()
+    ensures { AbortsGoOn }
 {}
