@@ -3,6 +3,7 @@
 
 mod calls;
 mod checkpoint;
+pub mod laws;
 
 pub use bucket_log::{Closing, Giving, Part, Undoing, Update};
 pub use calls::{abort_part, commit_part, give_part, write_part};

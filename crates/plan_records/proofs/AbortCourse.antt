@@ -19,7 +19,7 @@ use Rattle.plan_records.specs.Sequences.{store_of, undo_parts}
 use Rattle.plan_records.specs.Appends.{with_record}
 use Rattle.plan_records.specs.Courses.{own_records, IsAside, Course, begins, appends, makes, meanwhile, AppendServes, IsCoveredStore, MayBegin, IsGoing, AreCellsOf, CanAbort, undo_end, abort_parts, AbortsGoOn}
 use Rattle.plan_records.proofs.OwnRecords.{own_first, own_in, own_out, to_undo_own, to_undo_plain, to_undo_less, to_undo_among}
-use Rattle.plan_records.proofs.Going.{part_is, going_own, going_all, going_more, open_of, clear_own}
+use Rattle.plan_records.proofs.Going.{part_is, going_own, going_all, going_more, open_of, clear_serves}
 use Rattle.plan_records.proofs.Records.{rollbacks_keep, compensations_keep}
 use Rattle.plan_records.proofs.UndoneEnds.{undone_ends_keep}
 
@@ -171,8 +171,7 @@ module _ (policy : Policy) (shape : Shape) (p t : ℕ) where
   begin x _ _ (waits going left) = tt
   begin x _ _ (ends going left) = last x going left
   begin x _ _ (ends_to_clear going left) = last x going left
-  begin x _ _ (clears over) = λ h gates ends checkpoints force own zero.
-      clear_own shape x t h gates ends checkpoints force (over.0, (own_out t x.log over.0 over.1).0, over.2) own zero
+  begin x _ _ (clears over) = clear_serves shape t x (over.0, (own_out t x.log over.0 over.1).0, over.2)
 
 pub aborts_go_on : AbortsGoOn
 aborts_go_on policy shape p t s us can part others x course = by (fits policy shape p t s us x (part ∷ others) can course)

@@ -16,7 +16,7 @@ use Rattle.plan_records.specs.Cells.{cell_of_end, appended}
 use Rattle.plan_records.specs.Sequences.{zero_parts, owner_parts}
 use Rattle.plan_records.specs.Courses.{own_records, IsAside, Course, begins, appends, makes, meanwhile, MayBegin, IsGoing, AreGiven, CanCommit, commit_parts, CommitsGoOn}
 use Rattle.plan_records.proofs.OwnRecords.{own_first, own_in, own_out}
-use Rattle.plan_records.proofs.Going.{part_is, going_own, going_all, open_of, clear_own}
+use Rattle.plan_records.proofs.Going.{part_is, going_own, going_all, open_of, clear_serves}
 use Rattle.plan_records.proofs.Records.{commit_ends_write}
 
 -- The next part of the commit, and what follows it, fit these own records.
@@ -110,8 +110,7 @@ module _ (shape : Shape) (p t : ℕ) where
       let d = given a (inl refl) in
       inr (inl (d.0, (own_out t x.log d.0 d.1).0, (d.2.0, d.2.1, (ended.0, (own_out t x.log ended.0 ended.1).0, ((ended.2.0.0, ended.2.0.1 ∙ sym d.2.2), ended.2.1)))))
   begin x _ _ (waits_again ended) = tt
-  begin x _ _ (clears ended) = λ h gates ends checkpoints force own zero.
-      clear_own shape x t h gates ends checkpoints force (ended.0, (own_out t x.log ended.0 ended.1).0, ended.2) own zero
+  begin x _ _ (clears ended) = clear_serves shape t x (ended.0, (own_out t x.log ended.0 ended.1).0, ended.2)
 
 pub commits_go_on : CommitsGoOn
 commits_go_on policy shape p t s owners can part others x course = by (fits shape p t policy s owners x (part ∷ others) can course)

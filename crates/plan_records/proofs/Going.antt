@@ -3,7 +3,7 @@ use Rattle.std.proofs.Common.{◌≡◌, ◌≢◌, ◌⊎◌, inl, inr, ℕ, �
 use Rattle.std.proofs.lemmas.Bool.Decides.{eqb_tells}
 use Rattle.persist_model.specs.Region.{Words}
 use Rattle.persist_model.specs.Records.{Record, Log, IsAmong, Has, HasNo, IsOf, IsEnd, NamesWord, IsRunning, IsEnded}
-use Rattle.persist_model.specs.Shape.{Shape, part_of}
+use Rattle.persist_model.specs.Shape.{Shape, part_of, heap_words}
 use Rattle.persist_model.specs.Standing.{IsToUndo, Stands, undone, deleted, redone, kept}
 use Rattle.persist_model.specs.State.{State}
 use Rattle.log_laws.specs.Closing.{IsApplied, MayClear}
@@ -11,9 +11,10 @@ use Rattle.log_laws.proofs.Deciding.{has_or_none, decide_to_undo}
 use Rattle.bucket_log.specs.declared.append.Place.{Place}
 use Rattle.bucket_log.specs.States.{less_room}
 use Rattle.log_clearing.specs.Closed.{IsListed}
+use Rattle.log_clearing.proofs.ClearingStates.{closings_keep}
 use Rattle.plan_records.specs.Appends.{MayAppend}
 use Rattle.plan_records.specs.Conditions.{IsOfOpen}
-use Rattle.plan_records.specs.Courses.{own_records, AreDeleted, AreGatesOf, IsGoing}
+use Rattle.plan_records.specs.Courses.{own_records, AreDeleted, AreGatesOf, ClearServes, IsGoing}
 use Rattle.plan_records.proofs.Appending.{takes}
 use Rattle.plan_records.proofs.OwnRecords.{own_in, own_out}
 
@@ -62,7 +63,7 @@ open_of shape p t s r h own inside = record {
 
 -- ---- clearing
 
-pub clear_own : (shape : Shape) (s : State) (t : ℕ) (h : Words) (gates ends checkpoints : List ℕ) → shape.policy ≢ 2 → IsEnded s.log t →
+clear_own : (shape : Shape) (s : State) (t : ℕ) (h : Words) (gates ends checkpoints : List ℕ) → shape.policy ≢ 2 → IsEnded s.log t →
     AreGatesOf s.log t gates ends checkpoints → AreDeleted s.log t h → MayClear shape.policy s.log h (IsListed gates ends checkpoints)
 clear_own shape s t h gates ends checkpoints force over own zero = record {
   ended = λ r m on. inr (subst (λ x. IsEnded s.log x) (sym ((own r m).0 on).0) over);
@@ -80,3 +81,7 @@ clear_own shape s t h gates ends checkpoints force over own zero = record {
     value r m of names none v (deleted nu d e) = e ∙ sym (zero r m of names d)
     value r m of names none v (redone nu nd x last e) = absurd (force last.has.0)
     value r m of names none v (kept nu nd nr e) = e
+
+pub clear_serves : (shape : Shape) (t : ℕ) (x : State) → IsEnded x.log t → ClearServes shape t x
+clear_serves shape t x over z v gates ends checkpoints k force may zero reached = closings_keep shape z v x gates ends checkpoints k may.few may.has may.sound may.groups
+    (clear_own shape x t (heap_words shape v) gates ends checkpoints force over may.own zero) reached

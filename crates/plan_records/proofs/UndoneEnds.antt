@@ -3,23 +3,26 @@ use Rattle.std.proofs.Common.{◌≡◌, ◌⊎◌, inl, inr, ℕ, ◌<◌, [], 
 use Rattle.persist_model.specs.Region.{Words}
 use Rattle.persist_model.specs.Records.{Record, Log, IsAmong, HasNo, IsEnd, IsRunning, IsSkipped}
 use Rattle.persist_model.specs.Shape.{Shape, part_of}
-use Rattle.persist_model.specs.Standing.{IsToRedo, IsEarliest}
+use Rattle.persist_model.specs.Standing.{IsToRedo, IsEarliest, IsLatest}
+use Rattle.persist_model.specs.Records.{IsChange}
 use Rattle.persist_model.specs.Need.{to_undo}
 use Rattle.persist_model.specs.State.{State, IsSoundState}
-use Rattle.log_laws.specs.Moves.{Arrives, IsOfRunning, adds_rolled_end}
+use Rattle.log_laws.specs.Moves.{Arrives, IsOfRunning, IsChangeBy, adds_rolled_end}
 use Rattle.log_laws.specs.Recovering.{with_heap}
 use Rattle.log_laws.specs.Recovery.{grown, IsCovered, IsStored, KeepsStanding}
-use Rattle.log_laws.proofs.Deciding.{IsDecided, decide_equal}
+use Rattle.log_laws.proofs.Deciding.{IsDecided, decide_equal, decide_either}
+use Rattle.log_laws.proofs.Keeping.{good_of}
+use Rattle.log_laws.proofs.Undoing.{IsGood, last_new_is}
 use Rattle.log_laws.proofs.Growing.{has_back, numbered}
 use Rattle.log_laws.proofs.Moving.{moves_keep}
 use Rattle.log_laws.proofs.MoveRooms.{end_fits}
-use Rattle.log_laws.proofs.Stacks.{IsUpdateBy, update_test}
-use Rattle.log_laws.proofs.Standings.{AreNumbered, earliest_some, stands_stored}
+use Rattle.log_laws.proofs.Stacks.{IsUpdateBy, update_test, first_old, top_new, first_old_is, HasStack, has_stack}
+use Rattle.log_laws.proofs.Standings.{AreNumbered, earliest_some, latest_some, stands_stored}
 use Rattle.bucket_log.specs.States.{less_room}
 use Rattle.log_clearing.proofs.ClearingStates.{sound_with_heap}
 use Rattle.plan_records.specs.declared.cells.Outcome.TheVariants.{RolledBack}
 use Rattle.plan_records.specs.Cells.{cell_of_end, appended}
-use Rattle.plan_records.specs.Conditions.{AreBack}
+use Rattle.plan_records.specs.Conditions.{AreLast}
 use Rattle.plan_records.specs.Laws.{UndoneEndsKeep}
 use Rattle.plan_records.proofs.Appending.{takes, arrives, append_keeps}
 use Rattle.plan_records.proofs.Records.{plain_formed}
@@ -76,12 +79,35 @@ module _ (policy t : ℕ) (log : Log) (h : Words) (apart : AreNumbered log) (run
         by (inl x) = inr (inr (inr (x.0, inr x.1.among, redo x.0 x.1.has)))
         by (inr none) = inl refl
 
+-- Where nothing is left to undo, the last NEW of each word is the OLD of its earliest update.
+are_stored : (shape : Shape) (s : State) (t : ℕ) (h : Words) → IsSoundState shape s → IsRunning s.log t → to_undo t s.log ≡ [] →
+    ((a : ℕ) (r : Record) → IsLatest (IsChangeBy t a) s.log r → h a ≡ r.after) → IsStored t s.log h
+are_stored shape s t h sound running left last a u first = elim (latest_some (IsChangeBy t a) s.log decide_change) [
+  | inr none ↦ absurd (none u first.among (inl first.has.0, first.has.1, first.has.2))
+  | inl r ↦ last a r.0 r.1 ∙ sym (last_new_is t a 0 s.log r.0 good.falls r.1) ∙ stack.after a 0 ∙ ap (λ l. top_new a (first_old t a 0 s.log) l) left ∙ first_old_is t a 0 s.log u good.falls first
+]
+  where
+    good : IsGood (part_of shape) s.log
+    good = good_of shape s sound
+
+    stack : HasStack t s.log
+    stack = has_stack (part_of shape) t s.log s.log running (numbered (part_of shape) s.log s.log sound.order) sound.gates sound.order
+
+    decide_change : (r : Record) → IsDecided (IsChangeBy t a r)
+    decide_change r = decide_both3 (decide_either _ _ (decide_equal r.kind 1) (decide_equal r.kind 2)) (decide_equal r.word a) (decide_equal r.transaction t)
+      where
+        decide_both3 : IsDecided (IsChange r) → IsDecided (r.word ≡ a) → IsDecided (r.transaction ≡ t) → IsDecided (IsChangeBy t a r)
+        decide_both3 (inl x) (inl y) (inl z) = inl (x, y, z)
+        decide_both3 (inr x) y z = inr (λ k. x k.0)
+        decide_both3 (inl x) (inr y) z = inr (λ k. y k.1)
+        decide_both3 (inl x) (inl y) (inr z) = inr (λ k. z k.2)
+
 -- the end keeps a state sound, with its standing words
 undone_end_keeps : (shape : Shape) (s : State) (e : Record) (room : ℕ → ℕ) (h : Words) → IsSoundState shape s →
-    ((x : Words) → Arrives shape (with_heap s x) e room) → IsOfRunning shape s.log e → IsEnd e → e.outcome ≡ 2 → to_undo e.transaction s.log ≡ [] → AreBack shape s e.transaction h →
+    ((x : Words) → Arrives shape (with_heap s x) e room) → IsOfRunning shape s.log e → IsEnd e → e.outcome ≡ 2 → to_undo e.transaction s.log ≡ [] → AreLast shape s e.transaction h →
     IsSoundState shape (with_heap (grown s e room) h) × KeepsStanding shape.policy (with_heap s h) (with_heap (grown s e room) h)
 undone_end_keeps shape s e room h sound arriving of end outcome left back = elim (decide_equal shape.policy 2) [
-  | inr force ↦ by h (back force)
+  | inr force ↦ by h (are_stored shape s e.transaction h sound of.running left (back force))
   | inl two ↦ (
       let x : Words = undone_words shape.policy e.transaction s.log h apart of.running in
       let kept = by x (are_back shape.policy e.transaction s.log h apart of.running) in (
@@ -104,5 +130,5 @@ undone_ends_keep shape p w s chain place number transaction may can =
     let e : Record = appended place number (cell_of_end transaction RolledBack) in
     let formed = plain_formed shape e (omega arith) (omega arith) (inr (omega arith, can.open_one.transaction)) (inl (refl, inr refl)) in
     let fits = end_fits shape s e (less_room p s.room) may.sound refl can.open_one.running (takes shape p w s chain place e may) can.open_one.some in
-    append_keeps shape p w s chain place e may (AreBack shape s transaction) (λ h back sound.
+    append_keeps shape p w s chain place e may (AreLast shape s transaction) (λ h back sound.
     undone_end_keeps shape s e (less_room p s.room) h may.sound (arrives shape p w s chain place e may formed fits) can.open_one.running refl refl can.nothing_left back)

@@ -6,7 +6,6 @@ use Rattle.persist_model.specs.Shape.{Shape, IsHeapWord, IsRootOwner, IsPlainOwn
 use Rattle.persist_model.specs.Standing.{IsLatest}
 use Rattle.persist_model.specs.Need.{to_undo, has_of}
 use Rattle.persist_model.specs.State.{State}
-use Rattle.log_laws.specs.Recovery.{IsStored}
 use Rattle.log_laws.specs.Recovering.{with_heap}
 use Rattle.log_laws.specs.Moves.{IsOfRunning, MayName, MayUpdate, AreSwept, IsDeletionBy, IsChangeBy}
 use Rattle.log_laws.specs.MoveRoom.{HasCells}
@@ -62,9 +61,9 @@ pub record CanCheckpoint (shape : Shape) (s : State) (c : Record) : Type 0 where
 abbrev pub IsUpdateOf : Shape → State → Record → Words → Type 0
 IsUpdateOf shape s u h = MayUpdate shape.policy (with_heap s h) u
 
--- under force each word that t updated is back at the OLD of its earliest update
-abbrev pub AreBack : Shape → State → ℕ → Words → Type 0
-AreBack shape s t h = shape.policy ≢ 2 → IsStored t s.log h
+-- under force each word that t changed has the last NEW
+abbrev pub AreLast : Shape → State → ℕ → Words → Type 0
+AreLast shape s t h = shape.policy ≢ 2 → (a : ℕ) (r : Record) → IsLatest (IsChangeBy t a) s.log r → h a ≡ r.after
 
 -- each word that is neither to be undone nor deleted has its standing value
 abbrev pub AreSweptIn : Shape → State → Words → Type 0

@@ -4,11 +4,11 @@ use Rattle.persist_model.specs.declared.event.Event.{Event}
 use Rattle.persist_model.specs.declared.event.Event.TheVariants.{Store, PStore, WriteBack, Fence}
 use Rattle.persist_model.specs.Region.{Words}
 use Rattle.persist_model.specs.Records.{Record, Log, IsAmong, Has, HasNo, IsOf, IsUpdate, IsRollback, IsEnd, IsDeletion, IsCheckpoint, NamesWord, IsRunning, IsEnded}
-use Rattle.persist_model.specs.Shape.{Shape, part_of}
+use Rattle.persist_model.specs.Shape.{Shape, part_of, heap_words}
 use Rattle.persist_model.specs.Standing.{IsToDelete}
 use Rattle.persist_model.specs.Need.{is_of, to_undo}
-use Rattle.persist_model.specs.State.{State}
-use Rattle.log_laws.specs.Closing.{MayClear}
+use Rattle.persist_model.specs.State.{State, IsSoundState}
+use Rattle.persist_model.specs.Sound.{HasState}
 use Rattle.log_laws.specs.Recovery.{IsCovered}
 use Rattle.region_layout.specs.declared.cell.Cell.{Cell}
 use Rattle.region_layout.specs.declared.layout.Policy.{Policy}
@@ -19,12 +19,14 @@ use Rattle.bucket_log.specs.declared.parts.Giving.{Giving}
 use Rattle.bucket_log.specs.declared.parts.Part.{Part}
 use Rattle.bucket_log.specs.declared.parts.Part.TheVariants.{Append, Word, Fence as Wait, Clear}
 use Rattle.bucket_log.specs.Plans.{place_address}
-use Rattle.log_clearing.specs.Closed.{IsListed}
+use Rattle.log_clearing.specs.Plans.{closing_plan}
+use Rattle.log_clearing.specs.Closed.{AreGroups, IsListed}
+use Rattle.log_clearing.specs.Clearing.{IsClearing}
 use Rattle.plan_records.specs.declared.cells.Outcome.TheVariants.{Committed, RolledBack}
 use Rattle.plan_records.specs.Cells.{cell_of_update, cell_of_rollback, cell_of_end, cell_of_deletion, appended, IsCellOf}
 use Rattle.plan_records.specs.Sequences.{store_of, undo_parts, owner_parts}
-use Rattle.plan_records.specs.Appends.{MayAppend, with_record, AppendKeeps, AppendCommits}
-use Rattle.plan_records.specs.Conditions.{CanUpdate, CanDelete, CanCheckpoint, IsUpdateOf, AreBack, AreSweptIn, AreWritten}
+use Rattle.plan_records.specs.Appends.{MayAppend, MayStandAt, with_record, AppendKeeps, AppendCommits}
+use Rattle.plan_records.specs.Conditions.{CanUpdate, CanDelete, CanCheckpoint, IsUpdateOf, AreLast, AreSweptIn, AreWritten}
 
 -- the records of t, newest first
 abbrev pub own_records : ℕ → Log → Log
@@ -55,7 +57,7 @@ pub record AppendServes (shape : Shape) (p : ℕ) (w : Words) (x : State) (place
   pub updates : IsUpdate r → CanUpdate shape x r → AppendKeeps shape p w x place r (IsUpdateOf shape x r)
   pub deletes : IsDeletion r → CanDelete shape x r → AppendKeeps shape p w x place r (λ h. Unit {0})
   pub commits : IsEnd r → r.outcome ≡ 1 → AppendCommits shape p w x place r (AreWritten shape x r.transaction)
-  pub ends : IsEnd r → r.outcome ≡ 2 → AppendKeeps shape p w x place r (AreBack shape x r.transaction)
+  pub ends : IsEnd r → r.outcome ≡ 2 → AppendKeeps shape p w x place r (AreLast shape x r.transaction)
   pub keeps : r.kind ≢ 1 → r.kind ≢ 4 → r.kind ≢ 6 → AppendKeeps shape p w x place r (λ h. Unit {0})
 
 -- a store to a word whose standing value a record decides
@@ -73,15 +75,27 @@ AreDeleted log t h = (r : Record) → IsAmong log r → IsOf t r → NamesWord r
 abbrev pub AreGatesOf : Log → ℕ → List ℕ → List ℕ → List ℕ → Type 0
 AreGatesOf log t gates ends checkpoints = (r : Record) → IsAmong log r → IsListed gates ends checkpoints r ↔ IsOf t r
 
--- The next part may begin: at each prefix of an append each image is as its record's kind says; a store keeps the standing words; and
--- under force, where what is deleted is 0, the records of t may be cleared.
+-- The words z have the sound state x, and the lists have the gates of t's records, each in its group.
+pub record MayCloseOwn (shape : Shape) (t : ℕ) (z : Words) (x : State) (gates ends checkpoints : List ℕ) : Type 0 where
+  pub few : shape.partitions ≤ 3
+  pub has : HasState shape z x
+  pub sound : IsSoundState shape x
+  pub groups : AreGroups x.log gates ends checkpoints
+  pub own : AreGatesOf x.log t gates ends checkpoints
+
+-- Under force the records of t may be closed: at each prefix of the closing each image is sound, with the standing words before, where
+-- what is deleted is 0 in it.
+abbrev pub ClearServes : Shape → ℕ → State → Type 0
+ClearServes shape t x = (z v : Words) (gates ends checkpoints : List ℕ) (k : ℕ) → shape.policy ≢ 2 → MayCloseOwn shape t z x gates ends checkpoints →
+    AreDeleted x.log t (heap_words shape v) → MayStandAt shape z (closing_plan gates ends checkpoints) k v → IsClearing shape v x gates ends checkpoints
+
+-- The next part may begin: an append and the closing leave what they do, and a store keeps the standing words.
 abbrev pub MayBegin : Shape → ℕ → ℕ → State → Part → Type 0
 MayBegin shape p t x (Append cell) = (w : Words) (chain : List ℕ) (place : Place) (number : ℕ) →
     MayAppend shape p w x chain place (appended place number cell) → AppendServes shape p w x place (appended place number cell)
 MayBegin shape p t x (Word e) = IsCoveredStore shape.policy x.log e
 MayBegin shape p t x Wait = Unit {0}
-MayBegin shape p t x Clear = (h : Words) (gates ends checkpoints : List ℕ) → shape.policy ≢ 2 → AreGatesOf x.log t gates ends checkpoints →
-    AreDeleted x.log t h → MayClear shape.policy x.log h (IsListed gates ends checkpoints)
+MayBegin shape p t x Clear = ClearServes shape t x
 
 -- Wherever the lane has come in the plan, its next part may begin.
 abbrev pub GoesOn : Shape → ℕ → ℕ → State → List Part → Type 0

@@ -18,7 +18,7 @@ use Rattle.log_clearing.specs.Removals.{CanDrop, region_removal, more_room}
 use Rattle.plan_records.specs.declared.cells.Outcome.TheVariants.{Committed, RolledBack}
 use Rattle.plan_records.specs.Cells.{cell_of_update, cell_of_compensation, cell_of_rollback, cell_of_end, cell_of_checkpoint, cell_of_deletion, appended, IsCellOf}
 use Rattle.plan_records.specs.Appends.{MayAppend, MayStandAt, Keeps, AppendKeeps, AppendCommits}
-use Rattle.plan_records.specs.Conditions.{CanUpdate, CanDelete, CanRollBack, CanCompensate, CanEndUndone, CanCheckpoint, IsOfOpen, IsUpdateOf, AreBack, AreSweptIn, AreWritten}
+use Rattle.plan_records.specs.Conditions.{CanUpdate, CanDelete, CanRollBack, CanCompensate, CanEndUndone, CanCheckpoint, IsOfOpen, IsUpdateOf, AreLast, AreSweptIn, AreWritten}
 
 abbrev pub UpdatesKeep : Type 0
 UpdatesKeep = (shape : Shape) (p : ℕ) (w : Words) (s : State) (chain : List ℕ) (place : Place) (number : ℕ) (update : Update) →
@@ -44,7 +44,7 @@ CompensationsKeep = (shape : Shape) (p : ℕ) (w : Words) (s : State) (chain : L
 abbrev pub UndoneEndsKeep : Type 0
 UndoneEndsKeep = (shape : Shape) (p : ℕ) (w : Words) (s : State) (chain : List ℕ) (place : Place) (number transaction : ℕ) →
     let e = appended place number (cell_of_end transaction RolledBack) in
-    MayAppend shape p w s chain place e → CanEndUndone shape s e → AppendKeeps shape p w s place e (AreBack shape s transaction)
+    MayAppend shape p w s chain place e → CanEndUndone shape s e → AppendKeeps shape p w s place e (AreLast shape s transaction)
 
 abbrev pub CheckpointsKeep : Type 0
 CheckpointsKeep = (shape : Shape) (p : ℕ) (w : Words) (s : State) (chain : List ℕ) (place : Place) (number : ℕ) →

@@ -1,4 +1,4 @@
-use Rattle.std.proofs.Common.{◌≡◌, sym, ap, ◌∙◌, arith, Some}
+use Rattle.std.proofs.Common.{sym, ◌∙◌, arith}
 use Rattle.plan_records.proofs.PartNumbers.{owner_at, owner_fence, owner_past}
 use Rattle.plan_records.proofs.sequences.owner_part.Goals as goal
 use Rattle.plan_records.proofs.sequences.owner_part.Goals.{else-count-gt0-via-then-count-gt0+else-i-count, else-count-gt0-via-else-count-gt0}

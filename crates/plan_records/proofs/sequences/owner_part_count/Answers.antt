@@ -1,4 +1,4 @@
-use Rattle.std.proofs.Common.{◌≡◌, ap, sym, ◌∙◌, arith, length, refl}
+use Rattle.std.proofs.Common.{ap, sym, ◌∙◌, arith, length}
 use Rattle.plan_records.proofs.PartNumbers.{length-owner_parts, no_owners}
 use Rattle.plan_records.proofs.sequences.owner_part_count.Goals as goal
 
