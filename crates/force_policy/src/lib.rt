@@ -5,6 +5,9 @@ mod ending;
 pub mod laws;
 mod naming;
 
+#[cfg(test)]
+mod tests;
+
 pub use bucket_log::{Closing, Giving, Part, Undoing, Update};
 pub use ending::{abort_part, commit_part};
 pub use naming::{give_part, write_part};
