@@ -1,6 +1,5 @@
 -- Wherever a lane has come in an abort, its next part may begin: what is left of the plan fits the transaction's own records.
-use Rattle.std.proofs.Common.{◌≡◌, ◌≢◌, ◌⊎◌, inl, inr, ℕ, List, [], ◌∷◌, ◌++◌, refl, sym, ap, ◌∙◌, subst, arith}
-use Rattle.persist_model.specs.declared.event.Event.TheVariants.{Store, PStore}
+use Rattle.std.proofs.Common.{◌≡◌, ◌≢◌, inl, inr, ℕ, List, [], ◌∷◌, ◌++◌, refl, sym, ap, ◌∙◌, subst, arith}
 use Rattle.persist_model.specs.Records.{Record, Log, IsAmong, Has, HasNo, IsOf, IsUpdate, IsRollback, IsEnd, IsEnded, IsRunning}
 use Rattle.persist_model.specs.Shape.{Shape, part_of}
 use Rattle.persist_model.specs.Need.{rest, to_undo}
@@ -16,8 +15,7 @@ use Rattle.bucket_log.specs.Plans.{place_address}
 use Rattle.plan_records.specs.declared.cells.Outcome.TheVariants.{RolledBack}
 use Rattle.plan_records.specs.Cells.{cell_of_compensation, cell_of_rollback, cell_of_end, appended, IsCellOf}
 use Rattle.plan_records.specs.Sequences.{store_of, undo_parts}
-use Rattle.plan_records.specs.Appends.{with_record}
-use Rattle.plan_records.specs.Courses.{own_records, IsAside, Course, begins, appends, makes, meanwhile, AppendServes, IsCoveredStore, MayBegin, IsGoing, AreCellsOf, CanAbort, undo_end, abort_parts, AbortsGoOn}
+use Rattle.plan_records.specs.Courses.{own_records, IsAside, Course, begins, appends, makes, meanwhile, IsCoveredStore, MayBegin, IsGoing, AreCellsOf, CanAbort, undo_end, abort_parts, AbortsGoOn}
 use Rattle.plan_records.proofs.OwnRecords.{own_first, own_in, own_out, to_undo_own, to_undo_plain, to_undo_less, to_undo_among}
 use Rattle.plan_records.proofs.Going.{part_is, going_own, going_all, going_more, open_of, clear_serves}
 use Rattle.plan_records.proofs.Records.{rollbacks_keep, compensations_keep}

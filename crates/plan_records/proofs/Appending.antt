@@ -1,10 +1,12 @@
 -- An append of a record that may come keeps sound states and their standing words.
-use Rattle.std.proofs.Common.{inl, inr, ℕ, List}
+use Rattle.std.proofs.Common.{inl, inr, ℕ, zero, suc, ◌+◌, ◌^◌, ◌<◌, ◌≤◌, ◌∷◌, List, arith}
+use Rattle.std.proofs.lemmas.Bool.Decides.{eqb_tells}
+use Rattle.persist_model.specs.Need.{need_in}
 use Rattle.persist_model.specs.Region.{Words}
-use Rattle.persist_model.specs.Records.{Record}
-use Rattle.persist_model.specs.Shape.{Shape, heap_words}
+use Rattle.persist_model.specs.Records.{Record, Log}
+use Rattle.persist_model.specs.Shape.{Shape, part_of, heap_words}
 use Rattle.persist_model.specs.ImageRecords.{IsWellFormed}
-use Rattle.persist_model.specs.State.{State, IsSoundState}
+use Rattle.persist_model.specs.State.{State, total_need, HasNumbers, IsSoundState}
 use Rattle.persist_model.specs.Sound.{HasState}
 use Rattle.log_laws.specs.Appending.{IsAppend}
 use Rattle.log_laws.specs.Moves.{Arrives, StandsCommitted}
@@ -16,7 +18,21 @@ use Rattle.bucket_log.specs.Appends.{region_append}
 use Rattle.bucket_log.specs.States.{less_room}
 use Rattle.bucket_log.proofs.Appended.{appends_are_states, appends_take_cell}
 use Rattle.log_clearing.proofs.ClearingStates.{sound_with_heap}
-use Rattle.plan_records.specs.Appends.{MayAppend, seen, Keeps, Commits, with_record, AppendKeeps, AppendCommits}
+use Rattle.plan_records.specs.Appends.{MayAppend, seen, Keeps, Commits, with_record, AppendKeeps, AppendCommits, total_room}
+
+need_within : (part : ℕ → ℕ) (log : Log) (room : ℕ → ℕ) (n : ℕ) → ((p : ℕ) → p < n → need_in part p log ≤ room p) → total_need part n log ≤ total_room room n
+need_within part log room zero h = omega arith
+need_within part log room (suc n) h = let again = need_within part log room n (λ p lt. h p (omega (arith, lt))) in let here = h n (omega arith) in omega (arith, again, here)
+
+less_within : (p : ℕ) (room : ℕ → ℕ) (q : ℕ) → less_room p room q ≤ room q
+less_within p room q = elim (eqb_tells q p) [ inl e ↦ (rw e.0 (omega arith)) | inr ne ↦ (rw ne.0 (omega arith)) ]
+
+-- where the rule of room holds, a number for each free cell is enough
+enough_numbers : (shape : Shape) (s : State) (r : Record) (p : ℕ) → FitsWith shape s r (less_room p s.room) → r.lsn + total_room s.room shape.partitions + 1 ≤ 2 ^ 63 →
+    HasNumbers shape (r ∷ s.log) r
+enough_numbers shape s r p fits enough =
+    let need = need_within (part_of shape) (r ∷ s.log) s.room shape.partitions (λ q lt. (let h = (fits q lt).undo in let le = less_within p s.room q in omega (arith, h, le))) in
+    record { undo = omega (arith, need, enough); checkpoint = λ _ _. omega (arith, need, enough) }
 
 module _ (shape : Shape) (p : ℕ) (w : Words) (s : State) (chain : List ℕ) (place : Place) (r : Record) (may : MayAppend shape p w s chain place r) where
   pub takes : TakesCell shape s r (less_room p s.room)
@@ -27,7 +43,7 @@ module _ (shape : Shape) (p : ℕ) (w : Words) (s : State) (chain : List ℕ) (p
 
   -- with fields that are in order, and room for it, the record arrives
   pub arrives : IsWellFormed shape r → FitsWith shape s r (less_room p s.room) → (h : Words) → Arrives shape (with_heap s h) r (less_room p s.room)
-  arrives formed fits h = record { formed = formed; gate = may.can.gate; above = may.above; fits = fits; numbers = may.numbers }
+  arrives formed fits h = record { formed = formed; gate = may.can.gate; above = may.above; fits = fits; numbers = enough_numbers shape s r p fits may.numbers }
 
   before : (v : Words) → HasState shape v (seen shape v s) → Keeps shape v s s
   before v has = record { has = has; sound = sound_with_heap shape s (heap_words shape v) may.sound; standing = λ a x st. st }

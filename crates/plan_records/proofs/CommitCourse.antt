@@ -1,8 +1,8 @@
 -- Wherever a lane has come in a commit, its next part may begin: what is left of the plan fits the transaction's own records.
-use Rattle.std.proofs.Common.{◌≡◌, ◌≢◌, ◌⊎◌, inl, inr, ℕ, List, [], ◌∷◌, ◌++◌, refl, sym, ap, ◌∙◌, subst, arith}
+use Rattle.std.proofs.Common.{◌≡◌, ◌≢◌, inl, inr, ℕ, List, [], ◌∷◌, ◌++◌, refl, sym, ◌∙◌, subst, arith}
 use Rattle.persist_model.specs.declared.event.Event.TheVariants.{PStore}
-use Rattle.persist_model.specs.Records.{Record, Log, IsAmong, Has, IsOf, IsEnd, IsDeletion, IsCommitted, IsEnded}
-use Rattle.persist_model.specs.Shape.{Shape, part_of}
+use Rattle.persist_model.specs.Records.{Record, Log, IsCommitted, IsEnded}
+use Rattle.persist_model.specs.Shape.{Shape}
 use Rattle.persist_model.specs.State.{State}
 use Rattle.region_layout.specs.declared.cell.Cell.{Cell}
 use Rattle.region_layout.specs.declared.layout.Policy.{Policy}
@@ -10,7 +10,6 @@ use Rattle.region_layout.specs.declared.layout.Policy.TheVariants.{Force, NoForc
 use Rattle.bucket_log.specs.declared.append.Place.{Place}
 use Rattle.bucket_log.specs.declared.parts.Part.{Part}
 use Rattle.bucket_log.specs.declared.parts.Part.TheVariants.{Append, Word, Fence, Clear}
-use Rattle.bucket_log.specs.Plans.{place_address}
 use Rattle.plan_records.specs.declared.cells.Outcome.TheVariants.{Committed}
 use Rattle.plan_records.specs.Cells.{cell_of_end, appended}
 use Rattle.plan_records.specs.Sequences.{zero_parts, owner_parts}

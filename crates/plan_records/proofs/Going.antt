@@ -1,12 +1,12 @@
 -- What a running transaction's own records give to the conditions of its appends, and the clearing of its records under force.
-use Rattle.std.proofs.Common.{◌≡◌, ◌≢◌, ◌⊎◌, inl, inr, ℕ, ◌≤◌, List, [], ◌∷◌, refl, sym, ap, ◌∙◌, subst, arith}
+use Rattle.std.proofs.Common.{◌≡◌, ◌≢◌, inl, inr, ℕ, ◌≤◌, List, ◌∷◌, refl, sym, ap, ◌∙◌, subst, arith}
 use Rattle.std.proofs.lemmas.Bool.Decides.{eqb_tells}
 use Rattle.persist_model.specs.Region.{Words}
 use Rattle.persist_model.specs.Records.{Record, Log, IsAmong, Has, HasNo, IsOf, IsEnd, NamesWord, IsRunning, IsEnded}
 use Rattle.persist_model.specs.Shape.{Shape, part_of, heap_words}
 use Rattle.persist_model.specs.Standing.{IsToUndo, Stands, undone, deleted, redone, kept}
 use Rattle.persist_model.specs.State.{State}
-use Rattle.log_laws.specs.Closing.{IsApplied, MayClear}
+use Rattle.log_laws.specs.Closing.{MayClear}
 use Rattle.log_laws.proofs.Deciding.{has_or_none, decide_to_undo}
 use Rattle.bucket_log.specs.declared.append.Place.{Place}
 use Rattle.bucket_log.specs.States.{less_room}

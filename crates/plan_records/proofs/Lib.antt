@@ -4,6 +4,7 @@ pub mod Records
 pub mod UndoneEnds
 pub mod OwnRecords
 pub mod Going
+pub mod Beside
 pub mod AbortCourse
 pub mod CommitCourse
 pub mod WriteCourse

@@ -1,5 +1,5 @@
 -- What hangs on a transaction's own records alone.
-use Rattle.std.proofs.Common.{◌≡◌, ◌≢◌, ◌⊎◌, inl, inr, ℕ, true, false, if◌then◌else◌, [], ◌∷◌, refl, sym, ap, ◌∙◌, subst, arith}
+use Rattle.std.proofs.Common.{◌≡◌, ◌≢◌, ◌⊎◌, inl, inr, ℕ, true, false, [], ◌∷◌, refl, sym, ap, ◌∙◌, subst, arith}
 use Rattle.std.proofs.lemmas.Bool.{eqb-true}
 use Rattle.persist_model.specs.Records.{Record, Log, IsAmong, IsOf, IsUpdate}
 use Rattle.persist_model.specs.Need.{is_of, rest, to_undo}
@@ -89,3 +89,11 @@ to_undo_among t (r ∷ log) u m = by (is_to t r) (λ k. to_undo_among t log u k)
     by (updates one is own) again = newest is own (rw one at m) again
     by (compensates not_one two is own) again = let k : IsAmong (rest (to_undo t log)) u = rw (not_one, two) at m in more (again (rest_among (to_undo t log) k))
     by (neither not_one not_two k) again = more (again (rw (not_one, not_two) at m))
+
+-- ---- one record more
+
+pub own_other : (t : ℕ) (r : Record) (log : Log) → (IsOf t r → ⊥) → own_records t (r ∷ log) ≡ own_records t log
+own_other t r log off = elim (test t r) [ inl h ↦ absurd (off h.1) | inr h ↦ (rw h.0 refl) ]
+
+pub own_either : (t : ℕ) (r : Record) (later log : Log) → own_records t later ≡ own_records t log → own_records t (r ∷ later) ≡ own_records t (r ∷ log)
+own_either t r later log same = elim (test t r) [ inl h ↦ (rw h.0 (ap (λ l. r ∷ l) same)) | inr h ↦ (rw h.0 same) ]

@@ -1,6 +1,6 @@
 -- Wherever a lane has come in a write or in the giving back of a block, its next part may begin.
-use Rattle.std.proofs.Common.{◌≡◌, ◌≢◌, ◌⊎◌, inl, inr, ℕ, List, [], ◌∷◌, refl, sym, ap, ◌∙◌, subst, arith}
-use Rattle.persist_model.specs.Records.{Record, Log, IsAmong, Has, IsOf, IsUpdate, IsRunning}
+use Rattle.std.proofs.Common.{◌≡◌, ◌≢◌, inl, inr, ℕ, List, [], ◌∷◌, refl, sym, ap, subst, arith}
+use Rattle.persist_model.specs.Records.{Record, Log, Has, IsUpdate, IsRunning}
 use Rattle.persist_model.specs.Shape.{Shape}
 use Rattle.persist_model.specs.State.{State}
 use Rattle.log_laws.specs.Recovery.{IsCovered}
@@ -11,7 +11,7 @@ use Rattle.bucket_log.specs.declared.append.Place.{Place}
 use Rattle.bucket_log.specs.declared.parts.Update.{Update}
 use Rattle.bucket_log.specs.declared.parts.Giving.{Giving}
 use Rattle.bucket_log.specs.declared.parts.Part.{Part}
-use Rattle.bucket_log.specs.declared.parts.Part.TheVariants.{Append, Word, Fence, Clear}
+use Rattle.bucket_log.specs.declared.parts.Part.TheVariants.{Append, Word}
 use Rattle.plan_records.specs.Cells.{cell_of_update, cell_of_deletion, appended}
 use Rattle.plan_records.specs.Sequences.{store_of}
 use Rattle.plan_records.specs.Courses.{own_records, IsAside, Course, begins, appends, makes, meanwhile, IsCoveredStore, MayBegin, write_parts, give_parts, WritesGoOn, GivesGoOn}

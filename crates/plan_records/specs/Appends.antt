@@ -1,5 +1,5 @@
 -- What an append keeps: the images of its prefixes.
-use Rattle.std.specs.Prelude.{◌⊎◌, ℕ, ◌<◌, List, ◌∷◌, length}
+use Rattle.std.specs.Prelude.{◌⊎◌, ℕ, zero, suc, ◌+◌, ◌<◌, ◌≤◌, ◌^◌, List, length}
 use Rattle.persist_model.specs.declared.event.Event.{Event}
 use Rattle.persist_model.specs.Region.{Words}
 use Rattle.persist_model.specs.Progress.{Reaches}
@@ -7,7 +7,7 @@ use Rattle.persist_model.specs.Runs.{progress_at}
 use Rattle.persist_model.specs.Records.{Record}
 use Rattle.persist_model.specs.Shape.{Shape, heap, log_words, heap_words}
 use Rattle.persist_model.specs.Chain.{view}
-use Rattle.persist_model.specs.State.{State, HasNumbers, IsSoundState}
+use Rattle.persist_model.specs.State.{State, IsSoundState}
 use Rattle.persist_model.specs.Sound.{HasState}
 use Rattle.log_laws.specs.Recovery.{grown, KeepsStanding}
 use Rattle.log_laws.specs.Recovering.{with_heap}
@@ -17,7 +17,12 @@ use Rattle.bucket_log.specs.declared.append.Place.{Place}
 use Rattle.bucket_log.specs.Appends.{CanAppend, region_append}
 use Rattle.bucket_log.specs.States.{less_room, IsAbove}
 
--- The words w have a sound state, and the place may take r, which has the greatest number, and one that leaves enough numbers.
+-- the room of the first n partitions
+abbrev pub total_room : (ℕ → ℕ) → ℕ → ℕ
+total_room room zero = 0
+total_room room (suc n) = total_room room n + room n
+
+-- The words w have a sound state, and the place may take r, whose number is the greatest, and leaves one for each cell that is free, and one more.
 pub record MayAppend (shape : Shape) (p : ℕ) (w : Words) (s : State) (chain : List ℕ) (place : Place) (r : Record) : Type 0 where
   pub allowed : IsAllowed shape
   pub inside : p < shape.partitions
@@ -25,7 +30,7 @@ pub record MayAppend (shape : Shape) (p : ℕ) (w : Words) (s : State) (chain : 
   pub sound : IsSoundState shape s
   pub can : CanAppend shape p (view p (log_words shape w)) chain place r
   pub above : IsAbove s r
-  pub numbers : HasNumbers shape (r ∷ s.log) r
+  pub numbers : r.lsn + total_room s.room shape.partitions + 1 ≤ 2 ^ 63
 
 -- the log words of v may stand after the first k events of a plan on the log, from w
 abbrev pub MayStandAt : Shape → Words → List Event → ℕ → Words → Type 0

@@ -3,7 +3,7 @@ use Rattle.std.specs.Prelude.{◌≡◌, ◌≢◌, ◌↔◌, ℕ, ◌≤◌, i
 use Rattle.persist_model.specs.declared.event.Event.{Event}
 use Rattle.persist_model.specs.declared.event.Event.TheVariants.{Store, PStore, WriteBack, Fence}
 use Rattle.persist_model.specs.Region.{Words}
-use Rattle.persist_model.specs.Records.{Record, Log, IsAmong, Has, HasNo, IsOf, IsUpdate, IsRollback, IsEnd, IsDeletion, IsCheckpoint, NamesWord, IsRunning, IsEnded}
+use Rattle.persist_model.specs.Records.{Record, Log, IsAmong, Has, HasNo, IsOf, IsUpdate, IsRollback, IsEnd, IsDeletion, NamesWord, IsRunning}
 use Rattle.persist_model.specs.Shape.{Shape, part_of, heap_words}
 use Rattle.persist_model.specs.Standing.{IsToDelete}
 use Rattle.persist_model.specs.Need.{is_of, to_undo}
@@ -26,7 +26,7 @@ use Rattle.plan_records.specs.declared.cells.Outcome.TheVariants.{Committed, Rol
 use Rattle.plan_records.specs.Cells.{cell_of_update, cell_of_rollback, cell_of_end, cell_of_deletion, appended, IsCellOf}
 use Rattle.plan_records.specs.Sequences.{store_of, undo_parts, owner_parts}
 use Rattle.plan_records.specs.Appends.{MayAppend, MayStandAt, with_record, AppendKeeps, AppendCommits}
-use Rattle.plan_records.specs.Conditions.{CanUpdate, CanDelete, CanCheckpoint, IsUpdateOf, AreLast, AreSweptIn, AreWritten}
+use Rattle.plan_records.specs.Conditions.{CanUpdate, CanDelete, IsUpdateOf, AreLast, AreWritten}
 
 -- the records of t, newest first
 abbrev pub own_records : ℕ → Log → Log

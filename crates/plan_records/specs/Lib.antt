@@ -4,3 +4,4 @@ pub mod Appends
 pub mod Conditions
 pub mod Laws
 pub mod Courses
+pub mod Others

@@ -10,6 +10,7 @@ ghost use Rattle.plan_records.specs.Laws.{
   StoresKeep,
   DropsKeep,
 };
+ghost use Rattle.plan_records.specs.Others.{OthersKeepOwn, AppendsStandInPart, EndsLeaveDeleted, OwnersAreZero};
 ghost use Rattle.plan_records.specs.Courses.{WritesGoOn, GivesGoOn, CommitsGoOn, AbortsGoOn};
 
 /// At each prefix of an update's append each image is sound, with the standing words before.
@@ -76,4 +77,24 @@ pub fn commits_go_on()
 /// and in that of an abort.
 pub fn aborts_go_on()
     ensures { AbortsGoOn }
+{}
+
+/// What others do keeps a transaction's own records.
+pub fn others_keep_own()
+    ensures { OthersKeepOwn }
+{}
+
+/// A record that is appended in a partition stands there.
+pub fn appends_stand_in_part()
+    ensures { AppendsStandInPart }
+{}
+
+/// Right behind a transaction's end no word that it names is left for another's deletion.
+pub fn ends_leave_deleted()
+    ensures { EndsLeaveDeleted }
+{}
+
+/// The parts of deletions leave each owner word durably 0.
+pub fn owners_are_zero()
+    ensures { OwnersAreZero }
 {}
