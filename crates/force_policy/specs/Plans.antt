@@ -1,5 +1,5 @@
 -- The plans under force, part by part.
-use Rattle.std.specs.Prelude.{ℕ, List, [], ◌∷◌, ◌++◌}
+use Rattle.std.specs.Prelude.{List, [], ◌∷◌, ◌++◌}
 use Rattle.persist_model.specs.declared.event.Event.TheVariants.{PStore}
 use Rattle.region_layout.specs.declared.layout.Policy.TheVariants.{Force}
 use Rattle.bucket_log.specs.declared.parts.Part.{Part}

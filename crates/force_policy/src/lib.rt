@@ -4,7 +4,6 @@
 mod ending;
 pub mod laws;
 mod naming;
-
 #[cfg(test)]
 mod tests;
 

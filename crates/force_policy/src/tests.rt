@@ -1,7 +1,9 @@
 //! The events of plans on a small region of one cell a bucket, with the places of their records worked out by hand.
 ghost use Rattle.std.specs.Prelude.{◌≡◌, ◌<◌, ◌^◌};
 
-use crate::{Closing, Giving, Part, Undoing, Update, abort_part, commit_part, give_part, write_part};
+use crate::{
+    Closing, Giving, Part, Undoing, Update, abort_part, commit_part, give_part, write_part,
+};
 use atomic_list::{Remove, remove_event};
 use bucket_log::{Place, append_event};
 use log_clearing::{ClearList, clear_event};
@@ -145,9 +147,25 @@ fn a_write_and_its_commit_have_these_events(rt: HostRuntime) -> Result<(), Fail>
         checkpoints: List::new(rt.alloc()),
     };
     push_closing(&mut events, &records)?;
-    push_removal(&mut events, Remove { node: 32, prev: 0, next: 48 })?;
+    push_removal(
+        &mut events,
+        Remove {
+            node: 32,
+            prev: 0,
+            next: 48,
+        },
+    )?;
     assert!(rt; events.made.len() == 57);
-    let stores = [(1, 40, 0), (21, 40, 1), (23, 103, 7), (45, 56, 2), (47, 40, 0), (49, 56, 0), (51, 12, 32), (56, 12, 0)];
+    let stores = [
+        (1, 40, 0),
+        (21, 40, 1),
+        (23, 103, 7),
+        (45, 56, 2),
+        (47, 40, 0),
+        (49, 56, 0),
+        (51, 12, 32),
+        (56, 12, 0),
+    ];
     for (n, address, stored) in &stores {
         assert!(rt; is_store(&events, *n, *address, *stored));
     }

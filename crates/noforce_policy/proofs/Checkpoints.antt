@@ -1,16 +1,14 @@
 -- What a checkpoint's parts behind its sweep leave to a stop.
 use Rattle.std.proofs.Common.{◌≡◌, ◌≢◌, ◌⊎◌, ◌↔◌, inl, inr, ℕ, ◌<◌, List, ◌∷◌, refl, sym, ap, ◌∙◌, subst, arith}
 use Rattle.persist_model.specs.Region.{Words}
-use Rattle.persist_model.specs.Records.{Record, Log, IsAmong, Has, HasNo, IsOf, IsEnd, IsCheckpoint, NamesWord, IsEnded}
-use Rattle.persist_model.specs.Shape.{Shape, heap_words}
+use Rattle.persist_model.specs.Records.{Record, Log, IsAmong, Has, HasNo, IsCheckpoint, IsEnded}
+use Rattle.persist_model.specs.Shape.{heap_words}
 use Rattle.persist_model.specs.Standing.{IsToUndo, IsToDelete, IsToRedo, Stands, undone, deleted, redone, kept}
-use Rattle.persist_model.specs.State.{State}
 use Rattle.log_laws.specs.Closing.{MayClear}
 use Rattle.log_laws.proofs.Deciding.{has_or_none, decide_to_undo}
 use Rattle.log_laws.proofs.Growing.{has_on, has_back}
 use Rattle.log_clearing.specs.Closed.{IsListed}
 use Rattle.log_clearing.proofs.ClearingStates.{closings_keep}
-use Rattle.bucket_log.specs.declared.append.Place.{Place}
 use Rattle.plan_records.specs.Cells.{cell_of_checkpoint, appended}
 use Rattle.plan_records.proofs.Records.{checkpoints_keep}
 use Rattle.noforce_policy.specs.Laws.{AreAllDeletions, CheckpointsServe}

@@ -4,7 +4,9 @@ ghost use Rattle.plan_records.specs.Sequences.{HasAddress};
 ghost use Rattle.noforce_policy.specs.Plans.{write_plan, give_plan, commit_plan, abort_plan};
 
 use bucket_log::{Closing, Giving, Part, Undoing, Update};
-use plan_records::{Outcome, deletion_cell, end_cell, rollback_cell, undo_part, update_cell, word_store};
+use plan_records::{
+    Outcome, deletion_cell, end_cell, rollback_cell, undo_part, update_cell, word_store,
+};
 use region_layout::Policy;
 
 /// Part i of the write of a word: its record, and then the store, which nothing asks to be kept.

@@ -4,7 +4,6 @@
 mod calls;
 mod checkpoint;
 pub mod laws;
-
 #[cfg(test)]
 mod tests;
 

@@ -1,7 +1,10 @@
 //! The events of plans on a small region of one cell a bucket, with the places of their records worked out by hand.
 ghost use Rattle.std.specs.Prelude.{◌≡◌, ◌<◌, ◌^◌};
 
-use crate::{Closing, Giving, Part, Sweep, Undoing, Update, abort_part, checkpoint_part, commit_part, give_part, write_part};
+use crate::{
+    Closing, Giving, Part, Sweep, Undoing, Update, abort_part, checkpoint_part, commit_part,
+    give_part, write_part,
+};
 use atomic_list::{Remove, remove_event};
 use bucket_log::{Place, append_event};
 use log_clearing::{ClearList, clear_event};
@@ -197,9 +200,24 @@ fn a_checkpoint_has_these_events(rt: HostRuntime) -> Result<(), Fail> {
         checkpoints: list(rt.alloc(), &[104])?,
     };
     push_closing(&mut events, &records)?;
-    push_removal(&mut events, Remove { node: 32, prev: 0, next: 48 })?;
+    push_removal(
+        &mut events,
+        Remove {
+            node: 32,
+            prev: 0,
+            next: 48,
+        },
+    )?;
     assert!(rt; is_write_back(&events, 91, 294));
-    let stores = [(113, 104, 5), (115, 40, 0), (116, 72, 0), (118, 56, 0), (119, 88, 0), (121, 104, 0), (123, 12, 32)];
+    let stores = [
+        (113, 104, 5),
+        (115, 40, 0),
+        (116, 72, 0),
+        (118, 56, 0),
+        (119, 88, 0),
+        (121, 104, 0),
+        (123, 12, 32),
+    ];
     for (n, address, stored) in &stores {
         assert!(rt; is_store(&events, *n, *address, *stored));
     }
@@ -218,8 +236,18 @@ fn a_sweep_without_dirty_words_goes_on(rt: HostRuntime) -> Result<(), Fail> {
         deletions: list(rt.alloc(), &[304, 320])?,
     };
     assert!(rt; matches!(checkpoint_part(&swept, 0), Some(Part::Fence)));
-    assert!(rt; matches!(checkpoint_part(&swept, 2), Some(Part::Word(Event::PStore(304, 0)))));
-    assert!(rt; matches!(checkpoint_part(&swept, 3), Some(Part::Word(Event::PStore(320, 0)))));
+    assert!(rt;
+        matches!(
+            checkpoint_part(&swept, 2),
+            Some(Part::Word(Event::PStore(304, 0)))
+        )
+    );
+    assert!(rt;
+        matches!(
+            checkpoint_part(&swept, 3),
+            Some(Part::Word(Event::PStore(320, 0)))
+        )
+    );
     assert!(rt; matches!(checkpoint_part(&swept, 4), Some(Part::Fence)));
     assert!(rt; matches!(checkpoint_part(&swept, 5), Some(Part::Clear)));
     assert!(rt; checkpoint_part(&swept, 6).is_none());
@@ -231,7 +259,10 @@ fn an_abort_undoes_the_newest_first(rt: HostRuntime) -> Result<(), Fail> {
     let mut events = no_events(rt.alloc());
     let undoing = Undoing {
         transaction: 1,
-        updates: List::from_vec(vec![in rt.alloc(); update_cell(&change(1, 7, 8)), update_cell(&change(1, 0, 7))]?),
+        updates: List::from_vec(vec![in rt.alloc();
+            update_cell(&change(1, 7, 8)),
+            update_cell(&change(1, 0, 7)),
+        ]?),
     };
     for i in 0..7 {
         if let Some(part) = abort_part(&undoing, i) {

@@ -1,4 +1,5 @@
 pub mod PartNumbers
+mod Examples
 pub mod Appending
 pub mod Records
 pub mod UndoneEnds
