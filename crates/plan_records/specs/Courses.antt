@@ -51,7 +51,7 @@ pub data Course (shape : Shape) (p t : ℕ) (s : State) (plan : List Part) : Lis
 
 -- ---- what the next part leaves to a stop
 
--- What an append leaves, by the kind of its record. An update, a deletion and a checkpoint record have conditions that others decide with;
+-- What an append leaves, by the kind of its record. An update and a deletion have conditions on others' records too, which are asked here;
 -- the end of a commit has the standing words as the transaction wrote them where it is there; all else keeps the standing words.
 pub record AppendServes (shape : Shape) (p : ℕ) (w : Words) (x : State) (place : Place) (r : Record) : Type 0 where
   pub updates : IsUpdate r → CanUpdate shape x r → AppendKeeps shape p w x place r (IsUpdateOf shape x r)
@@ -114,6 +114,7 @@ pub record IsGoing (shape : Shape) (p t : ℕ) (log : Log) : Type 0 where
 abbrev pub AreGiven : ℕ → Log → List ℕ → Type 0
 AreGiven t log owners = (a : ℕ) → IsAmong owners a → Has (λ d. IsDeletion d × (d.word ≡ a) × (d.transaction ≡ t)) log
 
+-- t may commit, and these are owner words of blocks that it gave back
 pub record CanCommit (shape : Shape) (p t : ℕ) (log : Log) (owners : List ℕ) : Type 0 where
   pub going : IsGoing shape p t log
   pub given : AreGiven t log owners
