@@ -1,5 +1,6 @@
 pub mod PartNumbers
 mod Examples
+mod FirstAppend
 pub mod Appending
 pub mod Records
 pub mod UndoneEnds
