@@ -35,7 +35,7 @@ pub restarted_at : (shape : Shape) (pick : Pick) (first y : State) (before later
 restarted_at shape pick first y before later h keeps size full each = record { first = left.0; state = left.0; settled = settled_begins shape left.0 (restarted pick later) (λ a lt. refl) header left.1 }
   where
     left : (x : State) × HasState shape (newest_at (restarted pick later)) x × IsSoundState shape x × KeepsStanding shape.policy first x
-    left = each (newest_words (restarted pick later)) (record {
+    left = each.each (newest_words (restarted pick later)) (record {
       long = length-newest_words (restarted pick later);
       each = λ a lt. subst (IsCandidate (later.at a)) (sym (read_newest (restarted pick later) a lt)) (picked_candidate pick a (later.at a) (full a));
     })

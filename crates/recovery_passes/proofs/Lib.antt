@@ -4,3 +4,7 @@ pub mod Ends
 pub mod Redoing
 pub mod Undone
 pub mod Closed
+pub mod Readying
+pub mod Starting
+pub mod Bounds
+pub mod ClearBounds
