@@ -1,0 +1,5 @@
+pub mod Kept
+pub mod Contents
+pub mod CellMaps
+pub mod MapSteps
+
