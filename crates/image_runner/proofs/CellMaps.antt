@@ -1,16 +1,16 @@
 -- A map of cells in the words of a region, and what a reader of a structure may read.
-use Rattle.std.proofs.Common.{◌≡◌, ◌≢◌, ◌⊎◌, ◌↔◌, inl, inr, ℕ, ◌+◌, ◌-◌, ◌*◌, ◌<◌, ◌≤◌, ◌==◌, Bool, true, false, IsTrue, if◌then◌else◌, nat_lt, List, [], ◌∷◌, ◌++◌, length, map, refl, sym, ◌∙◌, ap, subst, arith, Option, Some, None, get_or, slice_index}
+use Rattle.std.proofs.Common.{◌≡◌, ◌≢◌, ◌⊎◌, inl, inr, ℕ, ◌+◌, ◌*◌, ◌<◌, ◌≤◌, ◌==◌, Bool, true, false, if◌then◌else◌, nat_lt, List, [], ◌∷◌, ◌++◌, length, refl, sym, ◌∙◌, ap, subst, arith, Option, Some, None, slice_index}
 use Rattle.std.proofs.lemmas.List.{get_or_past, map-append}
 use Rattle.std.proofs.lemmas.Bool.{lt-ltb, le-ltb, cases_lt, eq-eqb}
 use Rattle.std.proofs.lemmas.Bool.Decides.{eqb_tells}
 use Rattle.persist_model.specs.Region.{Words}
 use Rattle.lane_traits.specs.Device.{MAX_WORDS}
-use Rattle.lane_traits.specs.Space.{Land, IsOwn, IsDataWord}
+use Rattle.lane_traits.specs.Space.{IsOwn, IsDataWord}
 use Rattle.lane_traits.specs.declared.words.Pair.{Pair}
 use Rattle.region_layout.specs.declared.layout.Kind.TheVariants.{Cells}
 use Rattle.region_layout.specs.FiniteMap.{FiniteMap, AreAfter, IsAscending, lookup}
 use Rattle.region_layout.specs.HeapBlocks.{land_of, root_of}
-use Rattle.region_layout.specs.CellsMap.{cell_of, value_or_none, cell_value, IsCellsMap}
+use Rattle.region_layout.specs.CellsMap.{cell_of, value_or_none, IsCellsMap}
 use Rattle.persist_hash.specs.Map.{IsMap}
 use Rattle.image_runner.specs.Maps.{entries_of}
 use Rattle.image_runner.specs.Cells.{OwnsRootAlone, with_cell, AreKeysBelow, AreCellsBelow}

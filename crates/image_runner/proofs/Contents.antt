@@ -1,12 +1,12 @@
 -- Heaps with the same words hold the same maps.
-use Rattle.std.proofs.Common.{◌≡◌, ◌⊎◌, inl, inr, ℕ, ◌+◌, ◌*◌, ◌<◌, ◌≤◌, if◌then◌else◌, nat_lt, List, [], ◌∷◌, refl, sym, ◌∙◌, ap, subst, arith, None}
+use Rattle.std.proofs.Common.{◌≡◌, ℕ, ◌+◌, ◌≤◌, if◌then◌else◌, nat_lt, List, [], ◌∷◌, sym, ◌∙◌, ap, arith, None}
 use Rattle.persist_model.specs.Region.{Words}
-use Rattle.lane_traits.specs.Space.{Land, IsOwn}
+use Rattle.lane_traits.specs.Space.{IsOwn}
 use Rattle.region_layout.specs.declared.layout.Kind.{Kind}
 use Rattle.region_layout.specs.declared.layout.Kind.TheVariants.{Cells, Tree, Hash}
 use Rattle.region_layout.specs.FiniteMap.{FiniteMap}
 use Rattle.region_layout.specs.HeapBlocks.{land_of, root_of, OwnsAlike}
-use Rattle.region_layout.specs.CellsMap.{CELL_KEYS, cell_of, value_or_none, cell_value, IsCellsMap}
+use Rattle.region_layout.specs.CellsMap.{CELL_KEYS, cell_of, value_or_none, IsCellsMap}
 use Rattle.region_layout.specs.Contents.{IsMapOf}
 use Rattle.persist_hash.specs.Map.{IsMap}
 use Rattle.persist_tree.proofs.Lawful.{by_blocks}

@@ -1,14 +1,13 @@
 -- What stands in a device that was loaded with an image and recovered.
-use Rattle.std.proofs.Common.{◌≡◌, ◌⊎◌, inl, inr, ℕ, ◌+◌, ◌*◌, ◌<◌, ◌≤◌, ◌==◌, Bool, true, false, if◌then◌else◌, List, [], ◌∷◌, length, refl, sym, ◌∙◌, ap, subst, arith, nat_lt, get_or, slice_index}
+use Rattle.std.proofs.Common.{◌≡◌, inl, inr, ℕ, ◌+◌, ◌*◌, ◌<◌, ◌≤◌, ◌==◌, true, false, if◌then◌else◌, List, [], length, refl, sym, ◌∙◌, ap, subst, arith, nat_lt, slice_index}
 use Rattle.std.proofs.lemmas.List.{ext_get_or, get_or_past}
 use Rattle.std.proofs.lemmas.Bool.{lt-ltb, le-ltb, cases_lt}
-use Rattle.persist_model.specs.declared.event.Candidate.{Candidate}
-use Rattle.persist_model.specs.Region.{Words, Region, IsCandidate, IsImage, IsSettled, AreSettled, loaded, newest, newest_words}
-use Rattle.persist_model.specs.Records.{Record, Log, IsAmong}
+use Rattle.persist_model.specs.Region.{Words, Region, IsImage, AreSettled, loaded, newest_words}
+use Rattle.persist_model.specs.Records.{Log}
 use Rattle.persist_model.specs.Shape.{Shape, shape_of, heap, words_of_shape, list_words, heap_words, IsHeapWord, SECOND_MAGIC}
 use Rattle.persist_model.specs.Standing.{Stands, kept}
 use Rattle.persist_model.specs.State.{State}
-use Rattle.persist_model.specs.Sound.{HasState, IsSound, StandsIn}
+use Rattle.persist_model.specs.Sound.{HasState, IsSound}
 use Rattle.persist_model.proofs.Images.{AreFull, get_or-newest_words, length-newest_words, settled_is}
 use Rattle.log_laws.proofs.Soundness.{standing_is_one}
 use Rattle.recovery_run.specs.Edges.{HasOneValue, KeepsWords, IsHeaderWord}

@@ -2,4 +2,4 @@ pub mod Kept
 pub mod Contents
 pub mod CellMaps
 pub mod MapSteps
-
+pub mod Recovering

@@ -1,5 +1,5 @@
 -- The maps of a region's structures, and the first structure whose words are none.
-use Rattle.std.specs.Prelude.{◌≡◌, ℕ, ◌+◌, ◌<◌, ◌≤◌, List, [], ◌∷◌, length, take, map, Some}
+use Rattle.std.specs.Prelude.{◌≡◌, ℕ, ◌+◌, List, [], ◌∷◌, take, map, Some}
 use Rattle.std.specs.List.{slice_get}
 use Rattle.persist_model.specs.Region.{Words}
 use Rattle.lane_traits.specs.declared.words.Pair.{Pair}

@@ -1,5 +1,5 @@
 //! What the structures of a region hold.
-ghost use Rattle.std.specs.Prelude.{◌≡◌, ◌<◌, ◌≤◌, ℕ, Err, length, slice_index, IfOk};
+ghost use Rattle.std.specs.Prelude.{◌≡◌, ◌<◌, ◌≤◌, ◌++◌, ◌∷◌, [], ℕ, Err, length, slice_index, IfOk, OnOk};
 ghost use Rattle.persist_model.specs.Shape.{heap, block, words_of_shape};
 ghost use Rattle.region_layout.specs.Layout.{layout_shape};
 ghost use Rattle.region_layout.specs.Contents.{IsMapOf};
@@ -66,8 +66,9 @@ fn read_tree<L: Look>(
     ensures broken { (at : ℕ) → result ≡ Err (MapFault.At at) → IsMap kind.Tree (heap (layout_shape layout)) (slice_index (L.words words.now)) structure → ⊥ }
 {
     let root = layout.block(structure);
-    if persist_tree::sound(words, layout, structure).is_err() {
-        return Err(MapFault::At(root));
+    match persist_tree::sound(words, layout, structure) {
+        Err(_) => return Err(MapFault::At(root)),
+        Ok(()) => {}
     }
     let mut tree = words_of_structure(alloc, words, layout, structure);
     Ok(persist_tree::walk(alloc, &mut tree, root)?)
@@ -119,6 +120,15 @@ fn read_map<L: Look>(
     }
 }
 
+fn push_map(maps: &mut List<PairList>, pairs: List<Pair>) -> Result<(), NoMemory>
+    ensures { OnOk result (maps.new ≡ maps.old ++ record { pairs = pairs } ∷ []) }
+{
+    if let Err(refused) = maps.push(PairList { pairs }) {
+        return Err(refused.1);
+    }
+    Ok(())
+}
+
 /// The pairs of each structure, the first being structure 0, or the first that is no map.
 pub fn read_maps<L: Look>(
     alloc: Global,
@@ -134,9 +144,9 @@ pub fn read_maps<L: Look>(
     let mut maps = List::new(alloc);
     let mut structure: u32 = 0;
     for kind in kinds {
-        let pairs = read_map(alloc, words, layout, *kind, structure)?;
-        if maps.push(PairList { pairs }).is_err() {
-            return Err(MapFault::NoMemory);
+        match read_map(alloc, words, layout, *kind, structure) {
+            Err(fault) => return Err(fault),
+            Ok(pairs) => push_map(&mut maps, pairs)?,
         }
         structure += 1;
     }

@@ -6,7 +6,7 @@ ghost use Rattle.lane_traits.specs.Device.{Counts, since_load};
 ghost use Rattle.region_layout.specs.Layout.{layout_shape};
 ghost use Rattle.image_text.specs.Written.{IsWritable};
 ghost use Rattle.image_runner.specs.Ends.{words_of, IsAdmitted, IsRefusedBy, IsEndOfImage, IsEndOf};
-ghost use Rattle.image_runner.specs.Tells.{Tells};
+ghost use Rattle.image_runner.specs.Tells.{Tells, end_of_refusal, end_of_fault};
 
 use crate::checking::{CheckFault, check};
 use crate::map_lines::wrong_line;
@@ -72,13 +72,36 @@ fn recover_image<D: Device>(
     requires { IsWritable image.now.kinds image.now.words }
     ensures { IsEndOfImage wanted image.now (D.cells region.old) (D.counts region.old) (D.cells region.new) (D.counts region.new) result }
 {
-    if region.load(image.words.as_slice()).is_err() {
-        return Ended::NoMemory;
+    match region.load(image.words.as_slice()) {
+        Err(NoMemory) => Ended::NoMemory,
+        Ok(()) => try_image(alloc, image, wanted, region),
     }
+}
+
+/// Recovers a device that has been loaded with an image, where the image is sound and its `map` lines fit.
+fn try_image<D: Device>(
+    alloc: Global,
+    image: &Image,
+    wanted: Wanted,
+    region: &mut D,
+) -> Ended
+    requires loaded { D.cells region.old ≡ loaded image.now.words }
+    requires writable { IsWritable image.now.kinds image.now.words }
+    ensures { (before : Region) (counts : Counts) → D.counts region.old ≡ since_load counts
+        → IsEndOfImage wanted image.now before counts (D.cells region.new) (D.counts region.new) result }
+{
     match admit(alloc, &*region, image.kinds.as_slice()) {
-        Err(CheckFault::Unsound(found)) => Ended::Unsound(found),
-        Err(CheckFault::NoMemory) => Ended::NoMemory,
+        Err(refusal) => end_of_refusal(refusal),
         Ok(layout) => recover_loaded(alloc, layout, image, wanted, region),
+    }
+}
+
+fn end_of_refusal(refusal: CheckFault) -> Ended
+    ensures { result ≡ end_of_refusal refusal }
+{
+    match refusal {
+        CheckFault::Unsound(found) => Ended::Unsound(found),
+        CheckFault::NoMemory => Ended::NoMemory,
     }
 }
 
@@ -99,7 +122,7 @@ fn admit<W: Look>(alloc: Global, words: &W, kinds: &[Kind]) -> Result<Layout, Ch
     }
 }
 
-/// Recovers a device that has been loaded with an image, and tells what is wanted.
+/// Recovers a device that has been loaded with a sound image, and tells what is wanted.
 fn recover_loaded<D: Device>(
     alloc: Global,
     layout: Layout,
@@ -115,10 +138,18 @@ fn recover_loaded<D: Device>(
         → IsEndOfImage wanted image.now before counts (D.cells region.new) (D.counts region.new) result }
 {
     match recover(alloc, region) {
-        Err(RecoverFault::Unsound(found)) => Ended::Unsound(found),
-        Err(RecoverFault::Stopped) => Ended::Stopped,
-        Err(RecoverFault::NoMemory) => Ended::NoMemory,
+        Err(fault) => end_of_fault(fault),
         Ok(done) => tell(alloc, layout, image.kinds.as_slice(), done, wanted, &*region),
+    }
+}
+
+fn end_of_fault(fault: RecoverFault) -> Ended
+    ensures { result ≡ end_of_fault fault }
+{
+    match fault {
+        RecoverFault::Unsound(found) => Ended::Unsound(found),
+        RecoverFault::Stopped => Ended::Stopped,
+        RecoverFault::NoMemory => Ended::NoMemory,
     }
 }
 

@@ -1,4 +1,4 @@
-use Rattle.std.proofs.Common.{◌≡◌, ◌↔◌, ◌+◌, ◌*◌, ◌<◌, ℕ, slice_index}
+use Rattle.std.proofs.Common.{slice_index}
 use Rattle.persist_model.specs.Shape.{heap}
 use Rattle.region_layout.specs.Layout.{layout_shape}
 use Rattle.image_runner.specs.Cells.{OwnsRootAlone}
