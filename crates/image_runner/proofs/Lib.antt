@@ -3,3 +3,4 @@ pub mod Contents
 pub mod CellMaps
 pub mod MapSteps
 pub mod Recovering
+pub mod Bounds
