@@ -4,3 +4,4 @@ pub mod CellMaps
 pub mod MapSteps
 pub mod Recovering
 pub mod Bounds
+pub mod Excluding

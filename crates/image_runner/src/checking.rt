@@ -6,7 +6,7 @@ ghost use Rattle.persist_model.specs.Faults.{IsFirstFault};
 ghost use Rattle.region_layout.specs.Layout.{layout_shape};
 
 use persist_model::Look;
-use region_layout::{ImageFault, Layout};
+use region_layout::{ImageFault, Layout, read_layout};
 use std::alloc::Global;
 
 /// Why words aren't accepted.
@@ -25,5 +25,8 @@ pub(crate) fn check<W: Look>(alloc: Global, words: &W) -> Result<Layout, CheckFa
     ensures unsound { (found : ImageFault) → result ≡ Err (CheckFault.Unsound found)
         → IsFirstFault (length (W.words words.now)) (slice_index (W.words words.now)) found.fault found.addr }
 {
-    Err(CheckFault::NoMemory)
+    match read_layout(words) {
+        Err(found) => Err(CheckFault::Unsound(found)),
+        Ok(_) => Err(CheckFault::NoMemory),
+    }
 }

@@ -1,6 +1,6 @@
 -- What a call of the program did: what it took and wrote, the status with its cause, and what became of the region.
-use Rattle.std.specs.Prelude.{◌≡◌, ◌⊎◌, ℕ, ◌<◌, ◌≤◌, List, [], ◌∷◌, ◌++◌, length, Option, Some, None, codes, decimal, IfSome, if◌then◌else◌, nat_lt}
-use Rattle.persist_model.specs.Region.{Region}
+use Rattle.std.specs.Prelude.{◌≡◌, ◌⊎◌, ℕ, ◌<◌, ◌≤◌, List, [], ◌∷◌, ◌++◌, length, Option, Some, None, Ok, Err, codes, decimal, IfSome, if◌then◌else◌, nat_lt}
+use Rattle.persist_model.specs.Region.{Words, Region}
 use Rattle.lane_traits.specs.Stream.{HasRisen, TakesPart}
 use Rattle.lane_traits.specs.Device.{Counts, since_load}
 use Rattle.rewind.specs.declared.status.Status.{Status}
@@ -13,8 +13,14 @@ use Rattle.rewind.specs.declared.words.Job.TheVariants as job
 use Rattle.image_runner.specs.declared.runner.Wanted.{Wanted}
 use Rattle.image_runner.specs.declared.runner.Ended.{Ended}
 use Rattle.image_runner.specs.declared.runner.Ended.TheVariants as ended
-use Rattle.image_runner.specs.Ends.{IsEndOf}
-use Rattle.rewind.specs.Words.{AreRun, AreWordsOf, AreKnown, SCRIPT_LIMIT, limit_of}
+use Rattle.image_runner.specs.declared.runner.Wanted.TheVariants as want
+use Rattle.image_text.specs.declared.image.Image.{Image}
+use Rattle.image_text.specs.declared.image.TextFault.TheVariants.{Line}
+use Rattle.image_text.specs.Grammar.{image as image_of_text}
+use Rattle.persist_model.specs.Shape.{shape_of, heap}
+use Rattle.image_runner.specs.Ends.{words_of, AreStanding, IsAdmitted, IsRefusedBy, IsEndOf}
+use Rattle.image_runner.specs.Maps.{AreMaps, IsFirstBroken}
+use Rattle.rewind.specs.Words.{AreRun, AreWordsOf, AreKnown, SCRIPT_LIMIT, IMAGE_LIMIT, limit_of}
 use Rattle.rewind_script.specs.Grammar.{script as meaning_of_text}
 use Rattle.rewind.specs.declared.served.Wrong.{Wrong}
 use Rattle.rewind.specs.Served.{script as script_of_text, IsWrong, wrong_text, IsInLimits}
@@ -240,3 +246,15 @@ due_of_script (Some s) = status.Done
 -- The status of `run` whose input are these bytes, where no count of faults rises and the device doesn't stop.
 abbrev pub due : List ℕ → Status
 due bytes = if nat_lt SCRIPT_LIMIT (length bytes) then status.TooLong else due_of_script (script_of_text bytes)
+
+-- The status of `recover` and of `recover image` whose input are these bytes, where no count of faults rises and the device
+-- doesn't stop.
+pub data IsDue (wanted : Wanted) (bytes : List ℕ) (s : Status) : Type 0 where
+  long : IMAGE_LIMIT < length bytes → s ≡ status.TooLong → IsDue wanted bytes s
+  misread : length bytes ≤ IMAGE_LIMIT → (line : ℕ) → image_of_text bytes ≡ Err (Line line) → s ≡ status.Script → IsDue wanted bytes s
+  refused : length bytes ≤ IMAGE_LIMIT → (i : Image) → image_of_text bytes ≡ Ok i → (fault a : ℕ) → IsRefusedBy i fault a → s ≡ status.Unsound → IsDue wanted bytes s
+  broken : length bytes ≤ IMAGE_LIMIT → (i : Image) → image_of_text bytes ≡ Ok i → IsAdmitted i → wanted ≡ want.Report
+      → (z : Words) → AreStanding (words_of i) z → (a : ℕ) → IsFirstBroken (heap (shape_of (words_of i))) z i.kinds a → s ≡ status.Unsound → IsDue wanted bytes s
+  reported : length bytes ≤ IMAGE_LIMIT → (i : Image) → image_of_text bytes ≡ Ok i → IsAdmitted i
+      → (z : Words) → AreStanding (words_of i) z → AreMaps (heap (shape_of (words_of i))) z i.kinds → s ≡ status.Done → IsDue wanted bytes s
+  imaged : length bytes ≤ IMAGE_LIMIT → (i : Image) → image_of_text bytes ≡ Ok i → IsAdmitted i → wanted ≡ want.Image → s ≡ status.Done → IsDue wanted bytes s

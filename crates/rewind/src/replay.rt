@@ -1,11 +1,15 @@
 //! Replays the script of an input.
-ghost use Rattle.std.specs.Prelude.{◌≡◌, ◌≢◌, ◌⊎◌, ◌+◌, ◌≤◌, ℕ, List, Some, map, string_bytes, IfOk};
+ghost use Rattle.std.specs.Prelude.{◌≡◌, ◌≢◌, ◌⊎◌, ◌+◌, ◌^◌, ◌≤◌, ℕ, List, Some, Ok, length, map, string_bytes, IfOk};
 ghost use Rattle.lane_traits.specs.Stream.{HasRisen};
 ghost use Rattle.lane_traits.specs.Device.{since_load};
 ghost use Rattle.rewind.specs.Served.{script as script_of_text};
 ghost use Rattle.rewind.specs.Events.{event_count};
 ghost use Rattle.rewind.specs.Words.{AreRun, AreKnown, AreWordsOf};
-ghost use Rattle.rewind.specs.Call.{IsCauseOf, IsTextOutcome, AreLimitsOf, IsAnswerTo, HasRun, HasReadFor, status_of, status_of_end, text_of, text_of_end, due};
+ghost use Rattle.rewind.specs.Call.{IsCauseOf, IsTextOutcome, AreLimitsOf, IsAnswerTo, HasRun, HasReadFor, status_of, status_of_end, text_of, text_of_end, due, IsDue};
+ghost use Rattle.image_text.specs.declared.image.Image.{Image};
+ghost use Rattle.image_text.specs.Grammar.{image as image_of_text};
+ghost use Rattle.image_runner.specs.Ends.{words_of};
+ghost use Rattle.recovery_passes.specs.Recovered.{IsFinished};
 
 use crate::input::{Unread, read_input};
 use crate::image_report::end_text;
@@ -115,6 +119,17 @@ pub fn rewind_replay<S: Source, K: Sink, D: Device>(
     ensures one_event_each { AreRun (map string_bytes words.now) → (bytes : List ℕ) (s : Script) → S.left script.old ≡ Some bytes → script_of_text bytes ≡ Some s
         → (D.counts result.1).events ≤ (D.counts region).events + event_count s.transactions }
     ensures never_unsound { AreRun (map string_bytes words.now) → result.0 ≢ Status.Unsound }
+    ensures recover_due { (wanted : Wanted) (bytes : List ℕ) (due : Status) → AreWordsOf (Job.Recover wanted) (map string_bytes words.now)
+        → S.left script.old ≡ Some bytes → IsDue wanted bytes due
+        → ¬ (HasRisen (S.faults script.old) (S.faults script.new)) → ¬ (HasRisen (K.faults out.old) (K.faults out.new))
+        → ¬ (HasRisen (D.counts region).stopped (D.counts result.1).stopped) → (result.0 ≡ due) ⊎ (result.0 ≡ Status.NoMemory) }
+    // A recovery takes fewer events than this.
+    ensures enough { (wanted : Wanted) → AreWordsOf (Job.Recover wanted) (map string_bytes words.now)
+        → (D.counts region).events + 2 ^ 22 ≤ (D.counts region).budget → result.0 ≢ Status.Stopped }
+    // An image that a recovery left wants none.
+    ensures again { (wanted : Wanted) (bytes : List ℕ) (i : Image) → AreWordsOf (Job.Recover wanted) (map string_bytes words.now)
+        → S.left script.old ≡ Some bytes → image_of_text bytes ≡ Ok i → IsFinished (length i.words) (words_of i)
+        → result.0 ≡ Status.Done → (D.counts result.1).events ≡ (D.counts region).events }
     ensures ran { HasRun
         (record {
           words = map string_bytes words.now;
