@@ -167,10 +167,10 @@ module _ (size : ℕ) (w : Words) (sound : IsSound size w) where
       let most : ℕ = (shape_of w).cells + (shape_of w).buckets * (shape_of w).cells in
       let total = total_small (part_of (shape_of w)) sound.state.log ((shape_of w).cells + (shape_of w).buckets * (shape_of w).cells) (shape_of w).partitions
       (λ p lt.
-          let undo = (sound.sound.room p lt).undo in
-          let room = sound.has.room p lt in
-          let small = room_small (shape_of w) (log_words (shape_of w) w) p (sound.has.chains p) in
-          omega (arith, undo, room, small)) in
+      let undo = (sound.sound.room p lt).undo in
+      let room = sound.has.room p lt in
+      let small = room_small (shape_of w) (log_words (shape_of w) w) p (sound.has.chains p) in
+      omega (arith, undo, room, small)) in
       let parts = mul-le-mul_right {m = (shape_of w).partitions} {n = 3} ((shape_of w).cells + (shape_of w).buckets * (shape_of w).cells) (three_parts w size sound.shape) in
       omega (arith, total, parts)
 

@@ -89,7 +89,7 @@ image_settled : (words : List ℕ) (region : Region) → AreSettled region → I
 image_settled words region settled image =
     ext_get_or 0 words (newest_words region) (image.long ∙ sym (length-newest_words region))
     (λ a below. let within : a < region.size = omega (arith, image.long) in
-        settled_is (region.at a) (slice_index words a) (settled a within) (image.each a within) ∙ sym (get_or-newest_words region a within))
+    settled_is (region.at a) (slice_index words a) (settled a within) (image.each a within) ∙ sym (get_or-newest_words region a within))
 
 heap_word_is : (shape : Shape) (w : Words) (a : ℕ) → IsHeapWord shape a → heap_words shape w a ≡ w a
 heap_word_is shape w a within =

@@ -162,7 +162,7 @@ pub tells_by : (wanted : Wanted) (shape shape' : Shape) (kinds kinds' : List Kin
 tells_by wanted shape shape' kinds kinds' done words words' end same_shape same_kinds same_words h =
     subst (λ (ws : List ℕ). Tells wanted (heap shape') kinds' done ws end) same_words
     (subst (λ (ks : List Kind). Tells wanted (heap shape') ks done words end) same_kinds
-        (subst (λ (sh : Shape). Tells wanted (heap sh) kinds done words end) same_shape h))
+    (subst (λ (sh : Shape). Tells wanted (heap sh) kinds done words end) same_shape h))
 
 -- an image by its parts
 pub image_by : (i : Image) (kinds : List Kind) (words : List ℕ) → kinds ≡ i.kinds → words ≡ i.words → ◌≡◌ {A = Image} (record { kinds = kinds; words = words }) i

@@ -92,11 +92,7 @@ fn read_hash<L: Look>(
         Ok(()) => {}
     }
     let mut hash = words_of_structure(alloc, words, layout, structure);
-    Ok(persist_hash::walk(
-        alloc,
-        &mut hash,
-        layout.block(structure),
-    )?)
+    Ok(persist_hash::walk(alloc, &mut hash, layout.block(structure))?)
 }
 
 /// The pairs of a structure of this kind, ascending by key.

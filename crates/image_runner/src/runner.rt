@@ -48,12 +48,7 @@ pub enum Ended {
 ///
 /// The image is loaded first. Its words and then its `map` lines are tried before the first event, and the maps are read
 /// behind the last.
-pub fn recover_text<D: Device>(
-    alloc: Global,
-    text: &[u8],
-    wanted: Wanted,
-    region: &mut D,
-) -> Ended
+pub fn recover_text<D: Device>(alloc: Global, text: &[u8], wanted: Wanted, region: &mut D) -> Ended
     ensures { IsEndOf wanted text.now (D.cells region.old) (D.counts region.old) (D.cells region.new) (D.counts region.new) result }
 {
     match read_image(alloc, text) {
@@ -63,12 +58,7 @@ pub fn recover_text<D: Device>(
     }
 }
 
-fn recover_image<D: Device>(
-    alloc: Global,
-    image: &Image,
-    wanted: Wanted,
-    region: &mut D,
-) -> Ended
+fn recover_image<D: Device>(alloc: Global, image: &Image, wanted: Wanted, region: &mut D) -> Ended
     requires { IsWritable image.now.kinds image.now.words }
     ensures { IsEndOfImage wanted image.now (D.cells region.old) (D.counts region.old) (D.cells region.new) (D.counts region.new) result }
 {
@@ -79,12 +69,7 @@ fn recover_image<D: Device>(
 }
 
 /// Recovers a device that has been loaded with an image, where the image is sound and its `map` lines fit.
-fn try_image<D: Device>(
-    alloc: Global,
-    image: &Image,
-    wanted: Wanted,
-    region: &mut D,
-) -> Ended
+fn try_image<D: Device>(alloc: Global, image: &Image, wanted: Wanted, region: &mut D) -> Ended
     requires loaded { D.cells region.old ≡ loaded image.now.words }
     requires writable { IsWritable image.now.kinds image.now.words }
     ensures { (before : Region) (counts : Counts) → D.counts region.old ≡ since_load counts
@@ -139,7 +124,14 @@ fn recover_loaded<D: Device>(
 {
     match recover(alloc, region) {
         Err(fault) => end_of_fault(fault),
-        Ok(done) => tell(alloc, layout, image.kinds.as_slice(), done, wanted, &*region),
+        Ok(done) => tell(
+            alloc,
+            layout,
+            image.kinds.as_slice(),
+            done,
+            wanted,
+            &*region,
+        ),
     }
 }
 

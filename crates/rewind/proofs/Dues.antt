@@ -1,12 +1,12 @@
 -- The status of a call that recovers.
-use Rattle.std.proofs.Common.{◌≡◌, ◌≢◌, ◌⊎◌, inl, inr, ℕ, ◌+◌, ◌-◌, ◌<◌, ◌≤◌, ◌^◌, List, [], ◌∷◌, ◌++◌, length, refl, sym, ◌∙◌, ap, subst, arith, codes, if◌then◌else◌, Option, Some, None, Ok, Err}
+use Rattle.std.proofs.Common.{◌≡◌, ◌≢◌, ◌⊎◌, inl, inr, ℕ, ◌+◌, ◌-◌, ◌<◌, ◌≤◌, ◌^◌, List, ◌++◌, length, refl, sym, ◌∙◌, ap, subst, arith, codes, if◌then◌else◌, Option, Some, None, Ok}
 use Rattle.std.proofs.lemmas.Bool.{lt-ltb, le-ltb}
 use Rattle.rewind.specs.Served.{script as script_of_text}
 use Rattle.rewind.specs.Events.{with_events, has_stopped}
 use Rattle.std.proofs.lemmas.List.{length-append}
 use Rattle.persist_model.specs.Region.{Words, Region}
 use Rattle.persist_model.specs.Shape.{shape_of, heap}
-use Rattle.lane_traits.specs.Device.{Counts, since_load, counted}
+use Rattle.lane_traits.specs.Device.{Counts, since_load}
 use Rattle.lane_traits.specs.Stream.{HasRisen}
 use Rattle.image_text.specs.declared.image.Image.{Image}
 use Rattle.image_text.specs.Grammar.{image as image_of_text}
@@ -16,9 +16,9 @@ use Rattle.image_runner.specs.declared.runner.Wanted.TheVariants as want
 use Rattle.image_runner.specs.declared.runner.Ended.{Ended}
 use Rattle.image_runner.specs.declared.runner.Ended.TheVariants as ended
 use Rattle.image_runner.specs.Maps.{AreMaps}
-use Rattle.image_runner.specs.Ends.{words_of, AreStanding, IsHalted, IsDone, IsTold, IsReportOf, IsEndOf}
+use Rattle.image_runner.specs.Ends.{words_of, AreStanding, IsHalted, IsTold, IsEndOf}
 use Rattle.image_runner.proofs.MapSteps.{are_maps}
-use Rattle.image_runner.proofs.Bounds.{MOST, not_many}
+use Rattle.image_runner.proofs.Bounds.{not_many}
 use Rattle.rewind.specs.declared.status.Status.{Status}
 use Rattle.rewind.specs.declared.status.Status.TheVariants as status
 use Rattle.rewind.specs.declared.words.Job.{Job}

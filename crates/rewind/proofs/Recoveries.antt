@@ -1,31 +1,22 @@
 -- What the end of a recovery says of the status.
-use Rattle.std.proofs.Common.{◌≡◌, ◌≢◌, ◌⊎◌, inl, inr, ℕ, zero, suc, ◌+◌, ◌-◌, ◌<◌, ◌≤◌, ◌^◌, List, [], ◌∷◌, ◌++◌, length, take, refl, sym, ◌∙◌, ap, subst, arith, codes, Option, Some, None, Ok, Err, Result}
-use Rattle.std.proofs.lemmas.List.{length-append}
+use Rattle.std.proofs.Common.{◌≡◌, ◌⊎◌, inl, ℕ, ◌≤◌, List, length, sym, ◌∙◌, ap, subst, arith, Ok, Err, Result}
 use Rattle.persist_model.specs.Region.{Words, Region}
 use Rattle.persist_model.specs.Shape.{shape_of, heap}
-use Rattle.lane_traits.specs.Device.{Counts, since_load, counted}
+use Rattle.lane_traits.specs.Device.{Counts}
 use Rattle.lane_traits.specs.Stream.{HasRisen}
-use Rattle.region_layout.specs.declared.layout.Kind.{Kind}
 use Rattle.image_text.specs.declared.image.Image.{Image}
 use Rattle.image_text.specs.declared.image.TextFault.{TextFault}
 use Rattle.image_text.specs.declared.image.TextFault.TheVariants.{Line}
 use Rattle.image_text.specs.Grammar.{image as image_of_text}
-use Rattle.recovery_passes.specs.Recovered.{IsFinished}
 use Rattle.image_runner.specs.declared.runner.Wanted.{Wanted}
 use Rattle.image_runner.specs.declared.runner.Wanted.TheVariants as want
-use Rattle.image_runner.specs.declared.runner.Ended.{Ended}
-use Rattle.image_runner.specs.declared.runner.Ended.TheVariants as ended
-use Rattle.image_runner.specs.Maps.{AreMaps, AreMapsFrom, IsFirstBroken, HoldMaps}
-use Rattle.image_runner.specs.Ends.{words_of, AreStanding, IsAdmitted, IsRefusedBy, IsHalted, IsEndOf}
+use Rattle.image_runner.specs.Maps.{AreMaps, IsFirstBroken}
+use Rattle.image_runner.specs.Ends.{words_of, AreStanding, IsAdmitted, IsRefusedBy, IsHalted}
 use Rattle.image_runner.proofs.Excluding.{refused_admitted, maps_unbroken, report_image}
 use Rattle.rewind.specs.declared.status.Status.{Status}
 use Rattle.rewind.specs.declared.status.Status.TheVariants as status
-use Rattle.rewind.specs.declared.words.Job.{Job}
-use Rattle.rewind.specs.declared.words.Job.TheVariants as job
-use Rattle.rewind.specs.declared.replay.Outcome.{Outcome}
-use Rattle.rewind.specs.declared.replay.Outcome.TheVariants as outcome
-use Rattle.rewind.specs.Words.{AreRun, AreWordsOf, AreKnown, IMAGE_LIMIT, limit_of}
-use Rattle.rewind.specs.Call.{Call, Took, TookAll, HasReadFor, HasRecovered, IsCauseOf, IsAnswerTo, Written, HasRun, status_of, status_of_end, IsDue, long, misread, refused, broken, reported, imaged}
+use Rattle.rewind.specs.Words.{IMAGE_LIMIT}
+use Rattle.rewind.specs.Call.{IsDue, long, misread, refused, broken, reported, imaged}
 
 ok_err : (text : List ℕ) (i : Image) (line : ℕ) → image_of_text text ≡ Ok i → image_of_text text ≡ Err (Line line) → ⊥
 ok_err text i line here there = let e : ◌≡◌ {A = Result Image TextFault} (Ok i) (Err (Line line)) = sym here ∙ there in cc
@@ -64,7 +55,7 @@ module _ (wanted : Wanted) (text : List ℕ) (region region' : Region) (counts c
   broken_due i a due here report h (reported less j there k z standing maps is) =
       let same : j ≡ i = ok_same text j i there here in
       absurd (maps_unbroken (heap (shape_of (words_of i))) z i.kinds a (subst (λ (x : Image). AreMaps (heap (shape_of (words_of x))) z x.kinds) same maps)
-          (h z (subst (λ (x : Image). AreStanding (words_of x) z) same standing)))
+      (h z (subst (λ (x : Image). AreStanding (words_of x) z) same standing)))
   broken_due i a due here report h (imaged less j there k m is) = absurd (report_image wanted report m)
 
   pub done_due : (i : Image) (due : Status) → image_of_text text ≡ Ok i → IsAdmitted i
@@ -77,7 +68,7 @@ module _ (wanted : Wanted) (text : List ℕ) (region region' : Region) (counts c
   done_due i due here admitted maps (broken less j there k r z standing b first is) =
       let same : j ≡ i = ok_same text j i there here in
       absurd (maps_unbroken (heap (shape_of (words_of i))) z i.kinds b (maps r z (subst (λ (x : Image). AreStanding (words_of x) z) same standing))
-          (subst (λ (x : Image). IsFirstBroken (heap (shape_of (words_of x))) z x.kinds b) same first))
+      (subst (λ (x : Image). IsFirstBroken (heap (shape_of (words_of x))) z x.kinds b) same first))
   done_due i due here admitted maps (reported less j there k z standing all is) = inl (sym is)
   done_due i due here admitted maps (imaged less j there k m is) = inl (sym is)
 

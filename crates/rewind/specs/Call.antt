@@ -1,5 +1,5 @@
 -- What a call of the program did: what it took and wrote, the status with its cause, and what became of the region.
-use Rattle.std.specs.Prelude.{◌≡◌, ◌⊎◌, ℕ, ◌<◌, ◌≤◌, List, [], ◌∷◌, ◌++◌, length, Option, Some, None, Ok, Err, codes, decimal, IfSome, if◌then◌else◌, nat_lt}
+use Rattle.std.specs.Prelude.{◌≡◌, ◌⊎◌, ℕ, ◌<◌, ◌≤◌, List, [], ◌++◌, length, Option, Some, None, Ok, Err, codes, decimal, IfSome, if◌then◌else◌, nat_lt}
 use Rattle.persist_model.specs.Region.{Words, Region}
 use Rattle.lane_traits.specs.Stream.{HasRisen, TakesPart}
 use Rattle.lane_traits.specs.Device.{Counts, since_load}

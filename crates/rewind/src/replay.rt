@@ -11,8 +11,8 @@ ghost use Rattle.image_text.specs.Grammar.{image as image_of_text};
 ghost use Rattle.image_runner.specs.Ends.{words_of};
 ghost use Rattle.recovery_passes.specs.Recovered.{IsFinished};
 
-use crate::input::{Unread, read_input};
 use crate::image_report::end_text;
+use crate::input::{Unread, read_input};
 use crate::report::{report_text, stop_text, wrong_text};
 use crate::run::{Ran, run_script};
 use crate::script::Script;

@@ -12,12 +12,12 @@ returns-then-word-number_of_kind-clause-fault g c =
     let s = c.loop-s.s in
     other c.requires.count c.requires.second c.loop-s.s c.loop-s-test.true
     (λ fits. c.if-word-number_of_kind.true
-        (c.word.ensures ∙ fits (get_or c.args.kinds.now c.loop-s.s Cells) (slice_get-get_or c.args.kinds.now c.loop-s.s Cells c.loop-s-test.true)
-            ∙ sym c.number_of_kind.ensures))
+    (c.word.ensures ∙ fits (get_or c.args.kinds.now c.loop-s.s Cells) (slice_get-get_or c.args.kinds.now c.loop-s.s Cells c.loop-s-test.true)
+    ∙ sym c.number_of_kind.ensures))
     c.loop-s.invariant refl refl
 
 pub loop-s-preserved : goal.loop-s-preserved
 loop-s-preserved g c =
     below_more _ _ c.loop-s.invariant
     (λ kind is. sym c.word.ensures ∙ c.if-word-number_of_kind.false ∙ c.number_of_kind.ensures
-        ∙ ap kind_number (get_or_from_slice_get c.args.kinds.now c.loop-s.s kind Cells is))
+    ∙ ap kind_number (get_or_from_slice_get c.args.kinds.now c.loop-s.s kind Cells is))

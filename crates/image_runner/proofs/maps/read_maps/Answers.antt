@@ -36,6 +36,6 @@ loop-kind-preserved g c =
           (subst (λ (ks : List Kind). HoldMaps (heap (layout_shape c.args.layout)) (slice_index (g.L.Look.words c.args.words.now)) ks (c.loop-kind.maps ++ record { pairs = c.in-Ok.pairs } ∷ []))
           (sym (take_more c.args.kinds.now c.loop-kind.kind-index Cells c.loop-kind-test.true))
           (hold_push (heap (layout_shape c.args.layout)) (slice_index (g.L.Look.words c.args.words.now)) 0 c.loop-kind.structure (take c.loop-kind.kind-index c.args.kinds.now) c.loop-kind.maps
-              (get_or c.args.kinds.now c.loop-kind.kind-index Cells) m (omega (arith, long, structure)) c.loop-kind.invariant.hold c.in-Ok.ensures.read));
+          (get_or c.args.kinds.now c.loop-kind.kind-index Cells) m (omega (arith, long, structure)) c.loop-kind.invariant.hold c.in-Ok.ensures.read));
       structure = ap (λ n. n + 1) structure;
     }

@@ -24,5 +24,5 @@ returns-in-Err g c = λ before counts since.
     let image = image_by c.args.image.now c.as_slice.result.now (g.D.Look.words c.args.region.now) c.as_slice.ensures words in
     subst (λ (end : Ended). IsEndOfImage c.args.wanted c.args.image.now before counts (g.D.Device.cells c.args.region.now) (g.D.Device.counts c.args.region.now) end) (sym c.end_of_refusal.ensures)
     (refused_end c.args.wanted c.args.image.now before (g.D.Device.cells c.args.region.now) counts (g.D.Device.counts c.args.region.now) c.in-Err.refusal
-        (record { words = c.requires.loaded; unmade = since })
-        (λ found same. subst (λ (i : Image). IsRefusedBy i found.fault found.addr) image (c.in-Err.ensures.refused found (ap Err same))))
+    (record { words = c.requires.loaded; unmade = since })
+    (λ found same. subst (λ (i : Image). IsRefusedBy i found.fault found.addr) image (c.in-Err.ensures.refused found (ap Err same))))

@@ -1,4 +1,4 @@
-use Rattle.std.proofs.Common.{◌≡◌, ◌∙◌, ap, refl, Err}
+use Rattle.std.proofs.Common.{◌∙◌, ap, refl, Err}
 use Rattle.rewind.specs.declared.words.Job.TheVariants as job
 use Rattle.rewind.specs.Call.{unread}
 use Rattle.rewind.proofs.replay.replay_image.Goals as goal

@@ -1,4 +1,4 @@
-use Rattle.std.proofs.Common.{◌≡◌, map}
+use Rattle.std.proofs.Common.{map}
 use Rattle.std.specs.String.{string_bytes}
 use Rattle.rewind.specs.Call.{Call, Written, HasRun}
 use Rattle.rewind.proofs.Dues.{misused, run_due, recover_due, never_stopped, wants_none}
