@@ -16,7 +16,7 @@ use Rattle.image_runner.specs.declared.runner.Wanted.TheVariants as want
 use Rattle.image_runner.specs.declared.runner.Ended.{Ended}
 use Rattle.image_runner.specs.declared.runner.Ended.TheVariants as ended
 use Rattle.image_runner.specs.Maps.{AreMaps}
-use Rattle.image_runner.specs.Ends.{words_of, AreStanding, IsHalted, IsTold, IsEndOf}
+use Rattle.image_runner.specs.Ends.{words_of, AreStanding, IsHalted, IsTold, IsEndOf, WasRecovered, IsShort, unloaded, unmade as unmade_there, behind}
 use Rattle.image_runner.proofs.MapSteps.{are_maps}
 use Rattle.image_runner.proofs.Bounds.{not_many}
 use Rattle.rewind.specs.declared.status.Status.{Status}
@@ -26,7 +26,7 @@ use Rattle.rewind.specs.declared.words.Job.TheVariants as job
 use Rattle.rewind.specs.declared.replay.Outcome.{Outcome}
 use Rattle.rewind.specs.declared.replay.Outcome.TheVariants as outcome
 use Rattle.rewind.specs.Words.{AreRun, AreWordsOf, AreKnown, SCRIPT_LIMIT, IMAGE_LIMIT, limit_of}
-use Rattle.rewind.specs.Call.{Call, Took, TookAll, HasReadFor, HasRecovered, IsCauseOf, IsAnswerTo, Written, HasRun, status_of, status_of_end, due, due_of_script, IsDue, long, misread, refused, broken, reported, imaged}
+use Rattle.rewind.specs.Call.{Call, Took, TookAll, HasReadFor, HasRecovered, IsCauseOf, IsAnswerTo, Written, HasRun, status_of, status_of_end, due, due_of_script, IsDue, long, misread, refused, broken, reported, imaged, IsUntouched, IsExhausted, unread, unmade}
 use Rattle.rewind.proofs.Inputs.{one_word}
 use Rattle.rewind.proofs.Recoveries.{refused_due, misread_due, broken_due, done_due, halted_rose, ok_same}
 
@@ -85,7 +85,7 @@ took_long (Some xs) left' bytes text n tells took more =
     omega (arith, whole, same, length-append text took.0)
 
 module _ (wanted : Wanted) (call : Call) (bytes : List ℕ) (words : AreWordsOf (job.Recover wanted) call.words) (tells : call.left ≡ Some bytes)
-    (unread : HasRisen call.faults call.faults_after → ⊥) (unstopped : HasRisen call.counts.stopped call.counts_after.stopped → ⊥) where
+    (read_well : HasRisen call.faults call.faults_after → ⊥) (unstopped : HasRisen call.counts.stopped call.counts_after.stopped → ⊥) where
   limit_is : (j : Job) → AreWordsOf j call.words → limit_of j ≡ IMAGE_LIMIT
   limit_is job.Run run = absurd (recover_is_no_run wanted call.words run words)
   limit_is (job.Recover w) here = refl
@@ -108,7 +108,7 @@ module _ (wanted : Wanted) (call : Call) (bytes : List ℕ) (words : AreWordsOf 
 
   outcome_due : (o : Outcome) (due : Status) → IsCauseOf o call → IsDue wanted bytes due → IsDueOrShort (status_of o) due
   outcome_due outcome.Usage due cause d = absurd (cause.words (job.Recover wanted, words))
-  outcome_due outcome.ReadFault due cause d = absurd (unread cause.rose)
+  outcome_due outcome.ReadFault due cause d = absurd (read_well cause.rose)
   outcome_due outcome.TooLong due cause d =
       let limit = limit_is cause.job cause.words in
       long_due due (took_long call.left call.left_after bytes cause.text IMAGE_LIMIT tells cause.took (subst (λ n. n < length cause.text) limit cause.long)) d
@@ -148,7 +148,7 @@ misused call answer w unknown unfaulted run = by_told run.told
     by_told (inr (inr untold)) = inr untold.status
 
 module _ (call : Call) (bytes : List ℕ) (words : AreRun call.words) (tells : call.left ≡ Some bytes)
-    (unread : HasRisen call.faults call.faults_after → ⊥) (unstopped : HasRisen call.counts.stopped call.counts_after.stopped → ⊥) where
+    (read_well : HasRisen call.faults call.faults_after → ⊥) (unstopped : HasRisen call.counts.stopped call.counts_after.stopped → ⊥) where
   run_limit : (j : Job) → AreWordsOf j call.words → limit_of j ≡ SCRIPT_LIMIT
   run_limit job.Run here = refl
   run_limit (job.Recover w) there = absurd (recover_is_no_run w call.words words there)
@@ -169,7 +169,7 @@ module _ (call : Call) (bytes : List ℕ) (words : AreRun call.words) (tells : c
 
   run_outcome : (o : Outcome) → IsCauseOf o call → IsDueOrShort (status_of o) (due bytes)
   run_outcome outcome.Usage cause = absurd (cause.words (job.Run, words))
-  run_outcome outcome.ReadFault cause = absurd (unread cause.rose)
+  run_outcome outcome.ReadFault cause = absurd (read_well cause.rose)
   run_outcome outcome.TooLong cause =
       let limit = run_limit cause.job cause.words in
       inl (due_long (took_long call.left call.left_after bytes cause.text SCRIPT_LIMIT tells cause.took (subst (λ n. n < length cause.text) limit cause.long)))
@@ -225,38 +225,50 @@ module _ (wanted : Wanted) (call : Call) (words : AreWordsOf (job.Recover wanted
 
 module _ (wanted : Wanted) (call : Call) (bytes : List ℕ) (i : Image) (words : AreWordsOf (job.Recover wanted) call.words) (tells : call.left ≡ Some bytes)
     (is : image_of_text bytes ≡ Ok i) (finished : IsFinished (length i.words) (words_of i)) where
-  done_rests : (w : Wanted) (text out : List ℕ) → bytes ≡ text → IsEndOf w text call.region call.counts call.region_after call.counts_after (ended.Done out)
-      → call.counts_after.events ≡ call.counts.events
-  done_rests w text out same h =
-      let this : i ≡ h.0 = ok_same bytes i h.0 is (ap image_of_text same ∙ h.1) in
-      let none = h.2.recovery.made.again (subst (λ (x : Image). IsFinished (length x.words) (words_of x)) this finished) in
-      let counted_is = ap (λ (c : Counts). c.events) h.2.recovery.made.counted in
+  finished_there : (j : Image) → i ≡ j → IsFinished (length j.words) (words_of j)
+  finished_there j this = subst (λ (x : Image). IsFinished (length x.words) (words_of x)) this finished
+
+  recovered_rests : (j : Image) → i ≡ j → WasRecovered j call.counts call.region_after call.counts_after → call.counts_after.events ≡ call.counts.events
+  recovered_rests j this h =
+      let none = h.made.again (finished_there j this) in
+      let counted_is = ap (λ (c : Counts). c.events) h.made.counted in
       omega (arith, none, counted_is)
 
+  short_rests : (j : Image) → i ≡ j → IsShort j call.region call.counts call.region_after call.counts_after → call.counts_after.events ≡ call.counts.events
+  short_rests j this (unloaded region counts) = ap (λ (c : Counts). c.events) counts
+  short_rests j this (unmade_there h) = ap (λ (c : Counts). c.events) h.unmade
+  short_rests j this (behind h) = recovered_rests j this h
+
+  here_is : (text : List ℕ) (j : Image) → bytes ≡ text → image_of_text text ≡ Ok j → i ≡ j
+  here_is text j same there = ok_same bytes i j is (ap image_of_text same ∙ there)
+
   end_rests : (w : Wanted) (text : List ℕ) (end : Ended) → bytes ≡ text → IsEndOf w text call.region call.counts call.region_after call.counts_after end
-      → status_of_end end ≡ status.Done → call.counts_after.events ≡ call.counts.events
-  end_rests w text (ended.Misread line) same h e = absurd (cc)
-  end_rests w text (ended.Unsound found) same h e = absurd (cc)
-  end_rests w text ended.Stopped same h e = absurd (cc)
-  end_rests w text (ended.Broken root) same h e = absurd (cc)
-  end_rests w text ended.NoMemory same h e = absurd (cc)
-  end_rests w text (ended.Done out) same h e = done_rests w text out same h
+      → call.counts_after.events ≡ call.counts.events
+  end_rests w text (ended.Misread line) same h = ap (λ (c : Counts). c.events) h.2
+  end_rests w text (ended.Unsound found) same h = ap (λ (c : Counts). c.events) h.2.1.unmade
+  end_rests w text ended.Stopped same h = absurd (h.2.unfinished (finished_there h.0 (here_is text h.0 same h.1)))
+  end_rests w text (ended.Broken root) same h = recovered_rests h.0 (here_is text h.0 same h.1) h.2.recovery
+  end_rests w text ended.NoMemory same (inl h) = ap (λ (c : Counts). c.events) h.1
+  end_rests w text ended.NoMemory same (inr h) = short_rests h.0 (here_is text h.0 same h.1) h.2
+  end_rests w text (ended.Done out) same h = recovered_rests h.0 (here_is text h.0 same h.1) h.2.recovery
 
-  rests : (o : Outcome) → IsCauseOf o call → status_of o ≡ status.Done → call.counts_after.events ≡ call.counts.events
-  rests outcome.Usage cause e = absurd (cc)
-  rests outcome.ReadFault cause e = absurd (cc)
-  rests outcome.TooLong cause e = absurd (cc)
-  rests (outcome.Wrong wrong) cause e = absurd (cc)
-  rests outcome.NoMemory cause e = absurd (cc)
-  rests (outcome.Stopped commits) cause e = absurd (cc)
-  rests (outcome.Done s) cause e = absurd (recover_is_no_run wanted call.words cause.read.words words)
-  rests (outcome.Recovery end) cause e =
-      end_rests cause.wanted cause.text end (took_all_is call.left call.left_after bytes cause.text tells cause.read.input) cause.end_is e
+  untouched_rests : IsUntouched call → call.counts_after.events ≡ call.counts.events
+  untouched_rests h = ap (λ (c : Counts). c.events) h.counts
 
-  pub wants_none : (answer : Status) (w : Written) → HasRun call answer w → answer ≡ status.Done → call.counts_after.events ≡ call.counts.events
-  wants_none answer w run e = by_told run.told
-    where
-      by_told : IsAnswerTo run.outcome answer w → call.counts_after.events ≡ call.counts.events
-      by_told (inl full) = rests run.outcome run.cause (sym full.status ∙ e)
-      by_told (inr (inl cut)) = absurd (let x : ◌≡◌ {A = Status} status.WriteFault status.Done = sym cut.status ∙ e in cc)
-      by_told (inr (inr untold)) = absurd (let x : ◌≡◌ {A = Status} status.NoMemory status.Done = sym untold.status ∙ e in cc)
+  short_of_memory : IsExhausted call → call.counts_after.events ≡ call.counts.events
+  short_of_memory (unread known untouched) = untouched_rests untouched
+  short_of_memory (unmade run none) = absurd (recover_is_no_run wanted call.words run words)
+
+  rests : (o : Outcome) → IsCauseOf o call → call.counts_after.events ≡ call.counts.events
+  rests outcome.Usage cause = untouched_rests cause.untouched
+  rests outcome.ReadFault cause = untouched_rests cause.untouched
+  rests outcome.TooLong cause = untouched_rests cause.untouched
+  rests (outcome.Wrong wrong) cause = untouched_rests cause.untouched
+  rests outcome.NoMemory cause = short_of_memory cause
+  rests (outcome.Stopped commits) cause = absurd (recover_is_no_run wanted call.words cause.read.words words)
+  rests (outcome.Done s) cause = absurd (recover_is_no_run wanted call.words cause.read.words words)
+  rests (outcome.Recovery end) cause =
+      end_rests cause.wanted cause.text end (took_all_is call.left call.left_after bytes cause.text tells cause.read.input) cause.end_is
+
+  pub wants_none : (answer : Status) (w : Written) → HasRun call answer w → call.counts_after.events ≡ call.counts.events
+  wants_none answer w run = rests run.outcome run.cause

@@ -129,7 +129,7 @@ pub fn rewind_replay<S: Source, K: Sink, D: Device>(
     // An image that a recovery left wants none.
     ensures again { (wanted : Wanted) (bytes : List ℕ) (i : Image) → AreWordsOf (Job.Recover wanted) (map string_bytes words.now)
         → S.left script.old ≡ Some bytes → image_of_text bytes ≡ Ok i → IsFinished (length i.words) (words_of i)
-        → result.0 ≡ Status.Done → (D.counts result.1).events ≡ (D.counts region).events }
+        → (D.counts result.1).events ≡ (D.counts region).events }
     ensures ran { HasRun
         (record {
           words = map string_bytes words.now;

@@ -109,7 +109,7 @@ returns-clause-enough g c = λ wanted words room stopped.
     never_stopped wanted call words room c.write_outcome-status.result told run stopped
 
 pub returns-clause-again : goal.returns-clause-again
-returns-clause-again g c = λ wanted bytes i words tells is finished done.
+returns-clause-again g c = λ wanted bytes i words tells is finished.
     let call : Call = record {
       words = map string_bytes c.args.words.now;
       left = g.S.Source.left c.args.script.now;
@@ -132,4 +132,4 @@ returns-clause-again g c = λ wanted bytes i words tells is finished done.
       cause = c.replay-outcome.ensures.cause;
       told = c.write_outcome-status.ensures;
     } in
-    wants_none wanted call bytes i words tells is finished c.write_outcome-status.result told run done
+    wants_none wanted call bytes i words tells is finished c.write_outcome-status.result told run
