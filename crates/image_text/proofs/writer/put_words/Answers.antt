@@ -1,4 +1,4 @@
-use Rattle.std.proofs.Common.{◌≡◌, ℕ, ◌∙◌, ◌+◌, ◌<◌, ◌^◌, ◌++◌, refl, sym, ap, subst, arith, length, drop, below_more, slice_index}
+use Rattle.std.proofs.Common.{ℕ, ◌∙◌, ◌+◌, ◌<◌, ◌^◌, ◌++◌, sym, ap, subst, arith, length, drop, below_more}
 use Rattle.image_text.specs.Text.{text_of}
 use Rattle.image_text.specs.Written.{word_lines}
 use Rattle.image_text.proofs.Writing.{zero_passed, word_put, words_put}
