@@ -11,7 +11,7 @@ use Rattle.region_layout.specs.declared.layout.Kind.TheVariants.{Cells}
 use Rattle.region_layout.specs.FiniteMap.{FiniteMap, AreAfter, IsAscending, lookup}
 use Rattle.region_layout.specs.HeapBlocks.{land_of, root_of}
 use Rattle.region_layout.specs.CellsMap.{cell_of, value_or_none, IsCellsMap}
-use Rattle.persist_hash.specs.Map.{IsMap}
+use Rattle.region_layout.specs.Contents.{IsMap}
 use Rattle.image_runner.specs.Maps.{entries_of}
 use Rattle.image_runner.specs.Cells.{OwnsRootAlone, with_cell, AreKeysBelow, AreCellsBelow}
 

@@ -8,7 +8,7 @@ use Rattle.region_layout.specs.FiniteMap.{FiniteMap}
 use Rattle.region_layout.specs.HeapBlocks.{land_of, root_of, OwnsAlike}
 use Rattle.region_layout.specs.CellsMap.{CELL_KEYS, cell_of, value_or_none, IsCellsMap}
 use Rattle.region_layout.specs.Contents.{IsMapOf}
-use Rattle.persist_hash.specs.Map.{IsMap}
+use Rattle.region_layout.specs.Contents.{IsMap}
 use Rattle.persist_tree.proofs.Lawful.{by_blocks}
 use Rattle.persist_hash.proofs.OneMap.{depends}
 use Rattle.rewind_script.specs.declared.report.PairList.{PairList}

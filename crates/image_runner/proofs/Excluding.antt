@@ -4,7 +4,7 @@ use Rattle.std.specs.List.{slice_get}
 use Rattle.persist_model.specs.Region.{Words}
 use Rattle.log_laws.proofs.Soundness.{sound_has_no_fault}
 use Rattle.region_layout.specs.declared.layout.Kind.{Kind}
-use Rattle.persist_hash.specs.Map.{IsMap}
+use Rattle.region_layout.specs.Contents.{IsMap}
 use Rattle.image_text.specs.declared.image.Image.{Image}
 use Rattle.image_runner.specs.declared.runner.Wanted.{Wanted}
 use Rattle.image_runner.specs.declared.runner.Wanted.TheVariants as want

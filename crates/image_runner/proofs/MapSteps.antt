@@ -4,7 +4,7 @@ use Rattle.persist_model.specs.Region.{Words}
 use Rattle.region_layout.specs.declared.layout.Kind.{Kind}
 use Rattle.region_layout.specs.HeapBlocks.{root_of}
 use Rattle.region_layout.specs.Contents.{IsMapOf}
-use Rattle.persist_hash.specs.Map.{IsMap}
+use Rattle.region_layout.specs.Contents.{IsMap}
 use Rattle.rewind_script.specs.declared.report.PairList.{PairList}
 use Rattle.lane_traits.specs.Space.{Space}
 use Rattle.lane_traits.specs.Draft.{drafted}

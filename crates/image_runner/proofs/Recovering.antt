@@ -21,8 +21,8 @@ use Rattle.image_runner.specs.declared.runner.Ended.TheVariants as ended
 use Rattle.image_runner.specs.Ends.{AreStanding, words_of, IsAdmitted, IsRefusedBy, unsound, IsLoaded, IsRecovered, WasRecovered, IsTold, IsHalted, unmade, behind, IsEndOfImage}
 use Rattle.recovery_passes.specs.declared.recovering.RecoverFault.{RecoverFault}
 use Rattle.recovery_passes.specs.declared.recovering.RecoverFault.TheVariants as failed
-use Rattle.image_runner.specs.declared.checking.CheckFault.{CheckFault}
-use Rattle.image_runner.specs.declared.checking.CheckFault.TheVariants as refusal
+use Rattle.sound_check.specs.declared.fault.CheckFault.{CheckFault}
+use Rattle.sound_check.specs.declared.fault.CheckFault.TheVariants as refusal
 use Rattle.image_runner.specs.Tells.{end_of_refusal, end_of_fault, Tells, TellsText}
 use Rattle.image_runner.proofs.Kept.{reads_loaded, same_standing, recovered_by}
 use Rattle.image_runner.proofs.Contents.{AreSameFrom, hold_there, broken_there}

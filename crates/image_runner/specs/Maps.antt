@@ -7,7 +7,7 @@ use Rattle.region_layout.specs.declared.layout.Kind.{Kind}
 use Rattle.region_layout.specs.FiniteMap.{FiniteMap}
 use Rattle.region_layout.specs.HeapBlocks.{root_of}
 use Rattle.region_layout.specs.Contents.{IsMapOf}
-use Rattle.persist_hash.specs.Map.{IsMap}
+use Rattle.region_layout.specs.Contents.{IsMap}
 use Rattle.rewind_script.specs.declared.report.PairList.{PairList}
 
 abbrev pub entry_of : Pair → ℕ × ℕ

@@ -9,8 +9,8 @@ use Rattle.image_runner.specs.declared.runner.Wanted.{Wanted}
 use Rattle.image_runner.specs.declared.runner.Wanted.TheVariants as want
 use Rattle.image_runner.specs.declared.runner.Ended.{Ended}
 use Rattle.image_runner.specs.declared.runner.Ended.TheVariants as ended
-use Rattle.image_runner.specs.declared.checking.CheckFault.{CheckFault}
-use Rattle.image_runner.specs.declared.checking.CheckFault.TheVariants as refusal
+use Rattle.sound_check.specs.declared.fault.CheckFault.{CheckFault}
+use Rattle.sound_check.specs.declared.fault.CheckFault.TheVariants as refusal
 use Rattle.recovery_passes.specs.declared.recovering.RecoverFault.{RecoverFault}
 use Rattle.recovery_passes.specs.declared.recovering.RecoverFault.TheVariants as fault
 use Rattle.image_runner.specs.Maps.{HoldMaps, IsFirstBroken}

@@ -4,19 +4,13 @@ ghost use Rattle.persist_model.specs.Shape.{shape_of};
 ghost use Rattle.persist_model.specs.Sound.{IsSound};
 ghost use Rattle.persist_model.specs.Faults.{IsFirstFault};
 ghost use Rattle.region_layout.specs.Layout.{layout_shape};
+ghost use Rattle.region_layout.specs.declared.reading.ImageFault.{ImageFault};
+ghost use Rattle.sound_check.specs.declared.fault.CheckFault.{CheckFault};
 
 use persist_model::Look;
-use region_layout::{ImageFault, Layout, read_layout};
+use region_layout::Layout;
+use sound_check::CheckFault;
 use std::alloc::Global;
-
-/// Why words aren't accepted.
-#[derive(Clone, Copy, Debug, PartialEq, Eq)]
-pub enum CheckFault {
-    /// The first rule that fails, and its address.
-    Unsound(ImageFault),
-    /// Want of memory. It says nothing of the words.
-    NoMemory,
-}
 
 /// The layout of a sound image, or its first fault.
 pub(crate) fn check<W: Look>(alloc: Global, words: &W) -> Result<Layout, CheckFault>
@@ -25,8 +19,5 @@ pub(crate) fn check<W: Look>(alloc: Global, words: &W) -> Result<Layout, CheckFa
     ensures unsound { (found : ImageFault) → result ≡ Err (CheckFault.Unsound found)
         → IsFirstFault (length (W.words words.now)) (slice_index (W.words words.now)) found.fault found.addr }
 {
-    match read_layout(words) {
-        Err(found) => Err(CheckFault::Unsound(found)),
-        Ok(_) => Err(CheckFault::NoMemory),
-    }
+    sound_check::check(alloc, words)
 }

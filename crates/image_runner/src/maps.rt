@@ -4,7 +4,7 @@ ghost use Rattle.persist_model.specs.Shape.{heap, block, words_of_shape};
 ghost use Rattle.region_layout.specs.Layout.{layout_shape};
 ghost use Rattle.region_layout.specs.Contents.{IsMapOf};
 ghost use Rattle.region_layout.specs.declared.layout.Kind.TheVariants as kind;
-ghost use Rattle.persist_hash.specs.Map.{IsMap};
+ghost use Rattle.region_layout.specs.Contents.{IsMap};
 ghost use Rattle.image_runner.specs.Maps.{entries_of, HoldMaps, IsFirstBroken};
 
 use crate::cells::{owns_root_alone, pairs_of_cells};

@@ -8,7 +8,8 @@ ghost use Rattle.image_text.specs.Written.{IsWritable};
 ghost use Rattle.image_runner.specs.Ends.{words_of, IsAdmitted, IsRefusedBy, IsEndOfImage, IsEndOf};
 ghost use Rattle.image_runner.specs.Tells.{Tells, end_of_refusal, end_of_fault};
 
-use crate::checking::{CheckFault, check};
+use crate::checking::check;
+use sound_check::CheckFault;
 use crate::map_lines::wrong_line;
 use crate::maps::{MapFault, read_maps};
 use image_text::{Image, TextFault, read_image, write_image};

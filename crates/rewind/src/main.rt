@@ -13,6 +13,8 @@ mod streams;
 mod table;
 #[cfg(test)]
 mod tests;
+#[cfg(test)]
+mod tests_recover;
 mod words;
 
 use replay::rewind_replay;

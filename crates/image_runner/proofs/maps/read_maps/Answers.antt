@@ -5,7 +5,7 @@ use Rattle.persist_model.specs.Shape.{heap, block}
 use Rattle.region_layout.specs.declared.layout.Kind.{Kind}
 use Rattle.region_layout.specs.declared.layout.Kind.TheVariants.{Cells}
 use Rattle.region_layout.specs.Layout.{layout_shape}
-use Rattle.persist_hash.specs.Map.{IsMap}
+use Rattle.region_layout.specs.Contents.{IsMap}
 use Rattle.lane_traits.specs.declared.words.Pair.{Pair}
 use Rattle.rewind_script.specs.declared.report.PairList.{PairList}
 use Rattle.image_runner.specs.declared.maps.MapFault.{MapFault}

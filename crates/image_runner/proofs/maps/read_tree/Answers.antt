@@ -2,7 +2,7 @@ use Rattle.std.proofs.Common.{slice_index}
 use Rattle.persist_model.specs.Shape.{heap}
 use Rattle.region_layout.specs.Layout.{layout_shape}
 use Rattle.region_layout.specs.declared.layout.Kind.TheVariants.{Tree}
-use Rattle.persist_hash.specs.Map.{IsMap}
+use Rattle.region_layout.specs.Contents.{IsMap}
 use Rattle.image_runner.proofs.MapSteps.{has_tree, tree_read}
 use Rattle.image_runner.proofs.maps.read_tree.Goals as goal
 
