@@ -1,5 +1,5 @@
 //! Recoveries, and what is expected of them.
-ghost use Rattle.std.specs.Prelude.{◌≡◌, length};
+ghost use Rattle.std.specs.Prelude.{◌≡◌};
 ghost use Rattle.persist_model.specs.Region.{AreSettled};
 
 use crate::images::{Image, Word, words_of};
@@ -28,10 +28,10 @@ pub fn loaded(rt: &impl Abort, alloc: Global, words: &[u64]) -> PlainCells
 {
     let mut region = PlainCells::new(alloc, u64::MAX);
     assert!(rt; words.len() <= 1187872);
-    if region.load(words).is_err() {
-        panic!(rt; "no memory");
+    match region.load(words) {
+        Ok(()) => region,
+        Err(refused) => panic!(rt; "{refused:?}"),
     }
-    region
 }
 
 /// Recovers the device to the end.
