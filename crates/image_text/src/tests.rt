@@ -63,7 +63,7 @@ fn digits_are_read_in_either_case_and_written_in_one(rt: HostRuntime) -> Result<
 
 #[test]
 fn the_first_wrong_line_is_named(rt: HostRuntime) -> Result<(), Fail> {
-    let cases: [(&[u8], u64); 26] = [
+    let cases: [(&[u8], u64); 27] = [
         (b"", 1),
         (b"\n", 1),
         (b"image\n", 1),
@@ -95,6 +95,12 @@ fn the_first_wrong_line_is_named(rt: HostRuntime) -> Result<(), Fail> {
         (b"image 4\nmap cells\nend\n\n", 4),
         (b"image 4\nmap cells\nend\nend\n", 4),
         (b"image 4\nmap cells\nEnd\n", 3),
+        // the text of the half put, cut after its tenth line
+        (
+            b"image 352\nmap cells\n0 52574e4400000002\n1 0000000000000001\n2 0000000000000001\n3 0000000000000004\n\
+            4 0000000000000010\n5 0000000000000001\n6 0000000000000001\n8 0000000000000020\n",
+            11,
+        ),
         (
             b"image 4\nmap cells\nmap cells\nmap cells\nmap cells\nmap cells\nmap cells\nmap cells\nmap cells\nmap cells\nend\n",
             10,

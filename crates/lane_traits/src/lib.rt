@@ -18,6 +18,9 @@ pub use text_source::TextSource;
 pub use words::{Pair, Reads, Words, WordsRefusal};
 
 #[cfg(test)]
+mod draft_tests;
+
+#[cfg(test)]
 mod tests {
     use super::*;
     use persist_model::List;

@@ -193,20 +193,20 @@ log_some shape s =
     each_some (λ p. HasRoom shape s.log p (s.room p)) _ 9 (λ p. list_words p + 1) (parts shape) _ (λ p. decide_room shape s.log p (s.room p)) (λ h3.
     tried_some _ (Unit {0}) 9 9 _ (decide_each (HasNumbers shape s.log) s.log (decide_numbers shape s.log)) (λ h4. none_fails))))
 
-all_formed : (shape : Shape) (log : Log) → AllGood (λ earlier r. IsWellFormed shape r) log → AreWellFormed shape log
+pub all_formed : (shape : Shape) (log : Log) → AllGood (λ earlier r. IsWellFormed shape r) log → AreWellFormed shape log
 all_formed shape [] h r m = absurd m
 all_formed shape (s ∷ log) h r (inl e) = subst (λ x. IsWellFormed shape x) (sym e) h.0
 all_formed shape (s ∷ log) h r (inr m) = all_formed shape log h.1 r m
 
-formed_all : (shape : Shape) (log : Log) → AreWellFormed shape log → AllGood (λ earlier r. IsWellFormed shape r) log
+pub formed_all : (shape : Shape) (log : Log) → AreWellFormed shape log → AllGood (λ earlier r. IsWellFormed shape r) log
 formed_all shape [] h = tt
 formed_all shape (s ∷ log) h = (h s (inl refl), formed_all shape log (λ r m. h r (inr m)))
 
-all_follow : (part : ℕ → ℕ) (all log : Log) → AllGood (Follows part all) log → FollowEach part all log
+pub all_follow : (part : ℕ → ℕ) (all log : Log) → AllGood (Follows part all) log → FollowEach part all log
 all_follow part all [] h = tt
 all_follow part all (r ∷ log) h = (h.0, all_follow part all log h.1)
 
-follow_all : (part : ℕ → ℕ) (all log : Log) → FollowEach part all log → AllGood (Follows part all) log
+pub follow_all : (part : ℕ → ℕ) (all log : Log) → FollowEach part all log → AllGood (Follows part all) log
 follow_all part all [] h = tt
 follow_all part all (r ∷ log) h = (h.0, follow_all part all log h.1)
 

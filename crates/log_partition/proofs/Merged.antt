@@ -60,7 +60,7 @@ log_of_view layout p xs row lt logs is =
       has_layout = logs.has_layout;
     }
 
-log_word_below : (shape : Shape) (v : Words) (a : ℕ) → a < heap shape → log_words shape v a ≡ v a
+pub log_word_below : (shape : Shape) (v : Words) (a : ℕ) → a < heap shape → log_words shape v a ≡ v a
 log_word_below shape v a lt = let on : nat_lt a (heap shape) ≡ true = grind (arith, nat_tests, lt) in ap (λ t. cond t (v a) 0) on
 
 -- words with the same log show the same in the partition's view

@@ -5,7 +5,7 @@ use persist_model::Event;
 use persist_model::format::{HEAD, TO_REMOVE, list_words};
 
 /// The region's address for an address of a partition's view.
-pub(crate) fn out_address(p: u32, a: u32) -> u32
+pub fn out_address(p: u32, a: u32) -> u32
     requires { p < 3 }
     ensures { result ≡ region_address p a }
 {

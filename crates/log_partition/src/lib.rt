@@ -6,7 +6,7 @@ mod gathering;
 pub mod laws;
 mod view;
 
-pub use events::out;
+pub use events::{out, out_address};
 pub use gathering::merge;
 pub use view::PartView;
 

@@ -1,17 +1,16 @@
 -- From what the checks find to a log at rest.
-use Rattle.std.proofs.Common.{◌≡◌, ◌≢◌, ◌⊎◌, inl, inr, ℕ, ◌+◌, ◌*◌, ◌<◌, ◌≤◌, ◌^◌, Bool, true, false, not, List, [], ◌∷◌, ◌++◌, map, take, length, get_or, refl, ap, sym, ◌∙◌, arith, subst}
-use Rattle.std.specs.Prelude.{IsTrue}
+use Rattle.std.proofs.Common.{◌≡◌, ◌≢◌, ℕ, ◌+◌, ◌*◌, ◌<◌, ◌≤◌, List, [], ◌∷◌, ◌++◌, map, take, length, get_or, refl, ap, sym, ◌∙◌, arith, subst}
 use Rattle.std.proofs.lemmas.List.{map-append, take_more}
 use Rattle.persist_model.specs.Region.{Words}
 use Rattle.persist_model.specs.Shape.{Shape, shape_of, bucket, bucket_size, heap, IsBucketOf, IsShape}
-use Rattle.persist_model.specs.Chain.{HEAD, Each, IsLink, HasNoRepeats, last_or, Links, LinksBack, ListRules}
-use Rattle.atomic_list.specs.Rules.{IsAtRest, IsList, at_rest, RulesAreCases}
+use Rattle.persist_model.specs.Chain.{HEAD, IsLink, Links, ListRules}
+use Rattle.atomic_list.specs.Rules.{IsAtRest, at_rest, RulesAreCases}
 use Rattle.atomic_list.proofs.Chains.{Each-weaker, Each-push, HasNoRepeats-push, Links-push, LinksBack-push, last-push}
-use Rattle.atomic_list.proofs.Parts.{parts_fit, shape_fits}
+use Rattle.atomic_list.proofs.Parts.{parts_fit}
 use Rattle.region_layout.specs.declared.layout.Layout.{Layout}
 use Rattle.region_layout.specs.declared.layout.Buckets.{Buckets}
 use Rattle.region_layout.specs.Layout.{layout_shape, IsPart}
-use Rattle.bucket_log.specs.Reads.{IsLogOf, IsLogOfPart}
+use Rattle.bucket_log.specs.Reads.{IsLogOfPart}
 use Rattle.log_tests.specs.Rows.{IsRow}
 
 rows_fit : (j n s : ℕ) → j < n → j * s + s ≤ n * s

@@ -1,5 +1,5 @@
 -- What the checks of the log's tests find: a row of buckets linked both ways, in ascending order.
-use Rattle.std.specs.Prelude.{◌≡◌, ℕ, ◌<◌, ◌≤◌, List}
+use Rattle.std.specs.Prelude.{◌≡◌, ℕ, ◌≤◌, List}
 use Rattle.persist_model.specs.Region.{Words}
 use Rattle.persist_model.specs.Shape.{Shape, IsBucketOf}
 use Rattle.persist_model.specs.Chain.{HEAD, Each, AreBuckets, HasNoRepeats, last_or, Links, LinksBack}

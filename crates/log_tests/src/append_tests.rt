@@ -14,7 +14,7 @@ use word_region::PlainCells;
 
 /// Words in memory.
 #[derive(Drop)]
-struct Row {
+pub(crate) struct Row {
     words: Vec<u64>,
     ghost small: { length words.items < 2 ^ 32 },
 }
@@ -42,7 +42,7 @@ fn list_words(p: u32) -> u32
     }
 }
 
-fn word<W: Look>(words: &W, a: u32) -> u64 {
+pub(crate) fn word<W: Look>(words: &W, a: u32) -> u64 {
     if a < words.size() { words.word(a) } else { 0 }
 }
 
@@ -54,7 +54,7 @@ fn row_of(words: Vec<u64>) -> Result<Row, Fail> {
 }
 
 // The words as partition p sees them: its list words stand at 8 to 12.
-fn view<W: Look>(alloc: Global, words: &W, p: u32) -> Result<Row, Fail> {
+pub(crate) fn view<W: Look>(alloc: Global, words: &W, p: u32) -> Result<Row, Fail> {
     let mut seen = Vec::new(alloc);
     for a in 0..words.size() {
         let from = if 8 <= a && a <= 12 {
@@ -97,7 +97,7 @@ fn out(p: u32, event: Event) -> Event {
 }
 
 // A fresh region with one cells map.
-fn fresh(
+pub(crate) fn fresh(
     rt: &impl Abort,
     alloc: Global,
     cells: u32,
@@ -140,19 +140,18 @@ fn update(number: u64) -> Cell {
 }
 
 // Makes the append of a record at the place, and says how many events it had.
-fn make_append(
+pub(crate) fn make_append(
     rt: &impl Abort,
     region: &mut PlainCells,
     log: Log,
     p: u32,
     at: Place,
-    number: u64,
+    cell: &Cell,
 ) -> u32 {
     assert!(rt; at.bucket < 1187872 && at.cell < log.layout.cells);
-    let cell = update(number);
     let mut made = 0;
     for i in 0..100 {
-        if let Some(event) = append_event(log.layout, at, &cell, i) {
+        if let Some(event) = append_event(log.layout, at, cell, i) {
             make(rt, region, 0, out(p, event));
             made = i + 1;
         }
@@ -185,14 +184,14 @@ fn append(
     assert!(rt; at.cell < 16 && at.bucket < 1187872);
     assert_eq!(rt; at.bucket + 8 + 8 * at.cell, step.at, "{number}");
     assert_eq!(rt; at.fresh, step.fresh, "{number}");
-    let events = make_append(rt, region, log, step.p, at, number);
+    let events = make_append(rt, region, log, step.p, at, &update(number));
     let expected = if at.fresh { 21 + log.layout.cells } else { 10 };
     assert_eq!(rt; events, expected, "{number}");
     Ok(())
 }
 
 // What stands in the log: the addresses and the numbers, in order.
-fn check_scan<W: Look>(
+pub(crate) fn check_scan<W: Look>(
     rt: &impl Abort,
     alloc: Global,
     words: &W,

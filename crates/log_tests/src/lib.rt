@@ -1,4 +1,4 @@
-//! Lists on devices that stop, and logs that grow.
+//! Lists on devices that stop, logs that grow and are cleared, and parts of recovery.
 #![tactic(auto)]
 
 mod checks;
@@ -10,4 +10,8 @@ pub use log_checks::{Log, log_at_rest};
 #[cfg(test)]
 mod append_tests;
 #[cfg(test)]
+mod clearing_tests;
+#[cfg(test)]
 mod list_tests;
+#[cfg(test)]
+mod recovery_tests;

@@ -68,7 +68,7 @@ fn image(alloc: Global, chain: &[u32]) -> Result<Vec<u64>, Fail> {
     Ok(words)
 }
 
-fn is_inside(event: Event, size: u32) -> bool
+pub(crate) fn is_inside(event: Event, size: u32) -> bool
     ensures { IsTrue result → IsWithin size event }
 {
     match event {

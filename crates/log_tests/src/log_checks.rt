@@ -78,7 +78,7 @@ fn row_end<W: Look>(
     Some(end)
 }
 
-// Whether the list is at rest with this chain. LAST_TAIL names nothing, or one of its buckets.
+// Whether the list is at rest with this chain. LAST_TAIL names nothing, or a bucket of the part.
 fn is_at_rest<W: Look>(words: &W, layout: Layout, p: u32, part: Buckets, chain: &[u32]) -> bool
     requires below { p < layout.partitions }
     requires part { IsPart (layout_shape layout) p part }
@@ -100,21 +100,20 @@ fn is_at_rest<W: Look>(words: &W, layout: Layout, p: u32, part: Buckets, chain: 
     if words.word(TO_REMOVE) != 0 {
         return false;
     }
-    is_link(layout, part, chain, words.word(LAST_TAIL))
+    is_link(layout, part, words.word(LAST_TAIL))
 }
 
-// Whether the value is 0 or one of these buckets.
-fn is_link(layout: Layout, part: Buckets, chain: &[u32], value: u64) -> bool
+// Whether the value is 0 or a bucket of the part.
+fn is_link(layout: Layout, part: Buckets, value: u64) -> bool
     ensures { IsTrue result → (p : ℕ) → p < layout.partitions → IsPart (layout_shape layout) p part → IsLink (IsBucketOf (layout_shape layout) p) value }
 {
     if value == 0 {
         return true;
     }
-    for number in chain {
-        if *number < layout.buckets
-            && *number >= part.first
-            && *number - part.first < part.count
-            && u64::from(layout.bucket(*number)) == value
+    for number in 0..layout.buckets {
+        if number >= part.first
+            && number - part.first < part.count
+            && u64::from(layout.bucket(number)) == value
         {
             return true;
         }

@@ -4,11 +4,13 @@ use Rattle.persist_model.specs.Region.{Words}
 use Rattle.persist_model.specs.Records.{IsAmong}
 use Rattle.lane_traits.specs.Space.{Space, IsOwn, IsDataWord, taken, given}
 use Rattle.region_layout.specs.FiniteMap.{FiniteMap, lookup}
-use Rattle.region_layout.specs.HashMap.{chain_number, directory_of, IsHashMap}
+use Rattle.region_layout.specs.HashMap.{chain_number, directory_of}
+use Rattle.region_layout.specs.Contents.{IsMapIn}
+use Rattle.region_layout.specs.declared.layout.Kind.TheVariants.{Hash}
 
 -- the structure's words are a map with these entries
 abbrev pub Holds : Space → ℕ → FiniteMap → Type 0
-Holds s root contents = IsHashMap s.land s.word root contents
+Holds s root contents = IsMapIn Hash s.land s.word root contents
 
 pub record HasMap (s : Space) (root : ℕ) : Type 0 where
   pub contents : FiniteMap

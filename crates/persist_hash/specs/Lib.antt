@@ -4,4 +4,3 @@ pub mod Adding
 pub mod Walk
 pub mod Reading
 pub mod Laws
-pub mod Map

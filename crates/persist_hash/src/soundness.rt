@@ -4,7 +4,7 @@ ghost use Rattle.persist_model.specs.Shape.{words_of_shape, heap, block};
 ghost use Rattle.lane_traits.specs.Space.{IsOwn};
 ghost use Rattle.region_layout.specs.Layout.{layout_shape};
 ghost use Rattle.region_layout.specs.HashMap.{chain_number, first_link};
-ghost use Rattle.persist_hash.specs.Map.{IsMap};
+ghost use Rattle.region_layout.specs.Contents.{IsMap};
 ghost use Rattle.region_layout.specs.declared.layout.Kind.TheVariants.{Hash};
 ghost use Rattle.persist_hash.specs.Reading.{IsHeap, land_in, HasHashMap, IsNoHash, AreMarks, is_root, in_directories, in_chains, HasDirectories, HasChains};
 

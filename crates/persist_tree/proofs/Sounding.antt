@@ -10,8 +10,10 @@ use Rattle.persist_model.specs.Chain.{Each, HasNoRepeats}
 use Rattle.lane_traits.specs.Space.{Land, IsOwn}
 use Rattle.region_layout.specs.HeapBlocks.{land_of, root_of}
 use Rattle.region_layout.specs.TreeMap.{Tree, Leaf, Node, height, AreOwn, in_order, blocks, entries, IsTree}
+use Rattle.region_layout.specs.Contents.{IsMap}
+use Rattle.region_layout.specs.declared.layout.Kind.TheVariants as kind
 use Rattle.persist_tree.specs.Trees.{IsIn}
-use Rattle.persist_tree.specs.Sound.{HoldsTree, IsArea, IsWithin, IsOver, IsUnder, IsSoundNode, IsPart, HasPart, HasNoPart, owned_count, HasTreeOf}
+use Rattle.persist_tree.specs.Sound.{IsArea, IsWithin, IsOver, IsUnder, IsSoundNode, IsPart, HasPart, HasNoPart, owned_count, HasTreeOf}
 use Rattle.persist_tree.proofs.Nodes.{EachNode-weaker, EachNode-in, each_in}
 use Rattle.persist_tree.proofs.Counting.{blocks-each, few_blocks}
 use Rattle.persist_tree.proofs.Framing.{laid_keys, apart_of}
@@ -288,16 +290,16 @@ module _ (xs : List ℕ) (heap blocks_are structure root : ℕ) (area : IsArea x
         let most = count_most (slice_index xs) heap (structure + 1) blocks_are (root ∷ blocks h.tree) h.is.once (each_counted h.tree h.is.root_own h.is.own) in
         omega (arith, long, least, most, counted)
 
-pub holds_tree : (heap structure : ℕ) (w : Words) (root : ℕ) → root ≡ root_of heap structure → HasTreeOf (land_of heap w structure) w root → HoldsTree heap structure w
+pub holds_tree : (heap structure : ℕ) (w : Words) (root : ℕ) → root ≡ root_of heap structure → HasTreeOf (land_of heap w structure) w root → IsMap kind.Tree heap w structure
 holds_tree heap structure w root here h = record {
   contents = entries h.tree;
   is = record { tree = h.tree; is = subst (λ x. IsTree (land_of heap w structure) w x h.tree) here h.is; entries_are = refl };
 }
 
-pub tree_held : (heap structure : ℕ) (w : Words) (root : ℕ) → root ≡ root_of heap structure → HoldsTree heap structure w → HasTreeOf (land_of heap w structure) w root
+pub tree_held : (heap structure : ℕ) (w : Words) (root : ℕ) → root ≡ root_of heap structure → IsMap kind.Tree heap w structure → HasTreeOf (land_of heap w structure) w root
 tree_held heap structure w root here h = record { tree = h.is.tree; is = subst (λ x. IsTree (land_of heap w structure) w x h.is.tree) (sym here) h.is.is }
 
-pub holds_tree_at : (heap h structure : ℕ) (w : Words) (root : ℕ) → h ≡ heap → root ≡ root_of heap structure → HasTreeOf (land_of h w structure) w root → HoldsTree heap structure w
+pub holds_tree_at : (heap h structure : ℕ) (w : Words) (root : ℕ) → h ≡ heap → root ≡ root_of heap structure → HasTreeOf (land_of h w structure) w root → IsMap kind.Tree heap w structure
 holds_tree_at heap h structure w root same here has = holds_tree heap structure w root here (subst (λ x. HasTreeOf (land_of x w structure) w root) same has)
 
 -- a test of two numbers, by what both say

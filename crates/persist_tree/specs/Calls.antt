@@ -4,11 +4,13 @@ use Rattle.persist_model.specs.Records.{IsAmong}
 use Rattle.lane_traits.specs.Space.{Space, IsOwn, IsDataWord, taken, given}
 use Rattle.lane_traits.specs.declared.words.Pair.{Pair}
 use Rattle.region_layout.specs.FiniteMap.{FiniteMap, lookup}
-use Rattle.region_layout.specs.TreeMap.{Tree, height, IsTree, IsTreeMap}
+use Rattle.region_layout.specs.TreeMap.{Tree, height, IsTree}
+use Rattle.region_layout.specs.Contents.{IsMapIn}
+use Rattle.region_layout.specs.declared.layout.Kind.TheVariants as kind
 
 -- the words are this map
 abbrev pub Holds : Space → ℕ → FiniteMap → Type 0
-Holds s root contents = IsTreeMap s.land s.word root contents
+Holds s root contents = IsMapIn kind.Tree s.land s.word root contents
 
 -- the words are a map
 pub record IsMap (s : Space) (root : ℕ) : Type 0 where

@@ -3,13 +3,7 @@ use Rattle.std.specs.Prelude.{◌≡◌, ◌≢◌, ℕ, zero, suc, ◌+◌, ◌
 use Rattle.persist_model.specs.Region.{Words}
 use Rattle.lane_traits.specs.Device.{MAX_WORDS}
 use Rattle.lane_traits.specs.Space.{Land, IsOwn}
-use Rattle.region_layout.specs.FiniteMap.{FiniteMap}
-use Rattle.region_layout.specs.TreeMap.{Tree, top, height, IsLaid, EachNode, AreOwn, AreFilled, IsOrdered, IsBalanced, blocks, IsTree, IsTreeMapOf}
-
--- the words are a map of this structure
-pub record HoldsTree (heap structure : ℕ) (w : Words) : Type 0 where
-  pub contents : FiniteMap
-  pub is : IsTreeMapOf heap w structure contents
+use Rattle.region_layout.specs.TreeMap.{Tree, top, height, IsLaid, EachNode, AreOwn, AreFilled, IsOrdered, IsBalanced, blocks, IsTree}
 
 -- the words of a region end with so many blocks
 pub record IsArea (words : List ℕ) (heap blocks : ℕ) : Type 0 where

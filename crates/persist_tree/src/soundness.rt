@@ -4,7 +4,9 @@ ghost use Rattle.persist_model.specs.Shape.{heap, block, words_of_shape};
 ghost use Rattle.lane_traits.specs.Space.{IsOwn};
 ghost use Rattle.region_layout.specs.Layout.{layout_shape};
 ghost use Rattle.region_layout.specs.HeapBlocks.{land_of, root_of};
-ghost use Rattle.persist_tree.specs.Sound.{HoldsTree, IsArea, IsWithin, IsOver, IsUnder, IsSoundNode, HasPart, HasNoPart, owned_count, HasTreeOf};
+ghost use Rattle.region_layout.specs.Contents.{IsMap};
+ghost use Rattle.region_layout.specs.declared.layout.Kind.TheVariants.{Tree};
+ghost use Rattle.persist_tree.specs.Sound.{IsArea, IsWithin, IsOver, IsUnder, IsSoundNode, HasPart, HasNoPart, owned_count, HasTreeOf};
 
 use persist_model::Look;
 use region_layout::Layout;
@@ -210,9 +212,9 @@ fn is_tree<L: Look>(words: &L, area: Area, blocks: u32) -> bool
 pub fn sound<L: Look>(words: &L, layout: Layout, structure: u32) -> Result<(), Broken>
     requires size { length (L.words words.now) ≡ words_of_shape (layout_shape layout) }
     requires structure { structure < layout.structures }
-    ensures ok { OnOk result (HoldsTree (heap (layout_shape layout)) structure (slice_index (L.words words.now))) }
+    ensures ok { OnOk result (IsMap Tree (heap (layout_shape layout)) (slice_index (L.words words.now)) structure) }
     ensures broken { IfErr result (λ broken. broken ≡ Broken.At (block (layout_shape layout) structure)) }
-    ensures not_a_map { IfErr result (λ _. HoldsTree (heap (layout_shape layout)) structure (slice_index (L.words words.now)) → ⊥) }
+    ensures not_a_map { IfErr result (λ _. IsMap Tree (heap (layout_shape layout)) (slice_index (L.words words.now)) structure → ⊥) }
 {
     let root = layout.block(structure);
     let area = Area {

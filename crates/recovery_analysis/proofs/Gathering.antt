@@ -65,6 +65,49 @@ gates_more xs i d gates ends checkpoints gates' ends' checkpoints' lt h a b c = 
     turn true = refl
     turn false = refl
 
+-- a record is in one of the groups
+one_group : (k : ℕ) → (if not ((k == 4) || (k == 5)) then 1 else 0) + (if k == 4 then 1 else 0) + (if k == 5 then 1 else 0) ≡ 1
+one_group k = elim (eqb_tells k 4) [
+  | inl four ↦ (let on = four.0 in let off : (k == 5) ≡ false = four_not_five k four.1 in rw (on, off) refl)
+  | inr no_four ↦ elim (eqb_tells k 5) [
+    | inl five ↦ (let off = no_four.0 in let on = five.0 in rw (off, on) refl)
+    | inr no_five ↦ (let off = no_four.0 in let none = no_five.0 in rw (off, none) refl)
+  ]
+]
+  where
+    four_not_five : (k : ℕ) → k ≡ 4 → (k == 5) ≡ false
+    four_not_five k e = ap (λ n. n == 5) e
+
+filter_length : (p : Placed → Bool) (x : Placed) (xs : List Placed) → length (filter p (x ∷ xs)) ≡ (if p x then 1 else 0) + length (filter p xs)
+filter_length p x xs = by_test (p x)
+  where
+    by_test : (b : Bool) → length (if b then x ∷ filter p xs else filter p xs) ≡ (if b then 1 else 0) + length (filter p xs)
+    by_test true = omega arith
+    by_test false = omega arith
+
+groups_count : (xs : List Placed) → length (filter is_plain xs) + length (filter is_last xs) + length (filter is_mark xs) ≡ length xs
+groups_count [] = refl
+groups_count (x ∷ xs) =
+    let again = groups_count xs in
+    let a = filter_length is_plain x xs in
+    let b = filter_length is_last x xs in
+    let c = filter_length is_mark x xs in
+    let one = one_group x.cell.kind in
+    omega (arith, again, a, b, c, one)
+
+places_count : (xs : List Placed) → length (map place xs) ≡ length xs
+places_count [] = refl
+places_count (x ∷ xs) = ap suc (places_count xs)
+
+pub gates_count : (xs : List Placed) (i : ℕ) (gates ends checkpoints : List ℕ) → length xs ≤ i → HasGates (take i xs) gates ends checkpoints → length gates + length ends + length checkpoints ≡ length xs
+gates_count xs i gates ends checkpoints le h =
+    let whole = groups_count (take i xs) in
+    let all : length (take i xs) ≡ length xs = ap length (take_whole i xs le) in
+    let a : length gates ≡ length (filter is_plain (take i xs)) = ap length h.plain ∙ places_count (filter is_plain (take i xs)) in
+    let b : length ends ≡ length (filter is_last (take i xs)) = ap length h.last ∙ places_count (filter is_last (take i xs)) in
+    let c : length checkpoints ≡ length (filter is_mark (take i xs)) = ap length h.marks ∙ places_count (filter is_mark (take i xs)) in
+    omega (arith, whole, all, a, b, c)
+
 pub gates_begin : (xs : List Placed) (gates ends checkpoints : List ℕ) → gates ≡ [] → ends ≡ [] → checkpoints ≡ [] → HasGates (take 0 xs) gates ends checkpoints
 gates_begin xs gates ends checkpoints a b c = record { plain = a; last = b; marks = c }
 

@@ -1,6 +1,7 @@
 -- The parts of a recovery's work, put together.
 use Rattle.std.proofs.Common.{◌≡◌, ◌⊎◌, ◌↔◌, inl, inr, ℕ, zero, suc, ◌+◌, ◌*◌, ◌-◌, ◌<◌, ◌≤◌, ◌^◌, Bool, true, false, not, ◌==◌, ◌||◌, if◌then◌else◌, List, [], ◌∷◌, ◌++◌, length, map, reverse, refl, sym, ap, ◌∙◌, subst, arith}
 use Rattle.std.specs.Prelude.{IsTrue, sum_by}
+use Rattle.std.specs.Vec.{vec_len}
 use Rattle.std.specs.List.{filter, list_any}
 use Rattle.std.proofs.lemmas.List.{length-reverse, length-map, length-append}
 use Rattle.persist_model.specs.Region.{Words}
@@ -246,9 +247,10 @@ module _ (layout : Layout) (merged : List Placed) (h : IsSoundMerge layout merge
       work.redo ≡ map new_value (filter (is_redone (layout_shape layout).policy unskipped) merged) ++ map given_back (filter (is_deleted work.winners) merged) →
       work.undo ≡ filter runs all → (IsTrue work.checkpoint ↔ (((layout_shape layout).policy ≡ 2) × HasOpen (log_of merged))) →
       ListsAll (log_of merged) work.gates.gates.items work.gates.ends.items work.gates.checkpoints.items → HasSpare work.gates needed (length work.undo) 1 →
+      vec_len work.gates.gates + vec_len work.gates.ends + vec_len work.gates.checkpoints ≡ length merged →
       needed ≡ sum_by (need_in_log (log_of merged)) work.undo → work.next ≡ next_lsn (log_of merged) → appends ≡ needed + (if work.checkpoint then 1 else 0) →
       work.most ≡ 20 + 2 * length merged + (23 + layout.cells) * appends + 7 * layout.buckets → IsWorkOf (layout_shape layout) (log_of merged) work
-  work_done all unskipped needed appends work whole won lost ended changed is marks lists spare sum next more most =
+  work_done all unskipped needed appends work whole won lost ended changed is marks lists spare count sum next more most =
       let few = passes_few all work.undo unskipped work.winners work.redo whole is ended won changed in
       let those = undo_those (log_of merged) all work.undo whole is in
       let needs = needs_are (part_of (layout_shape layout)) layout.partitions (log_of merged) work.undo inside those in
@@ -265,6 +267,7 @@ module _ (layout : Layout) (merged : List Placed) (h : IsSoundMerge layout merge
         undo_records = undo_each (log_of merged) all work.undo whole is;
         checkpoint = marks;
         gates = lists;
+        count = count ∙ sym log_length;
         spare = record {
           of_gates = (let k = spare.of_gates in omega (arith, k, sum, less));
           of_ends = spare.of_ends;

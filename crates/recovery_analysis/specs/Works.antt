@@ -42,6 +42,7 @@ pub record IsWorkOf (shape : Shape) (log : Log) (work : Work) : Type 0 where
   pub undo_records : (t : Transaction) → IsAmong work.undo t → IsTransactionOf log t
   pub checkpoint : IsTrue work.checkpoint ↔ ((shape.policy ≡ 2) × HasOpen log)
   pub gates : ListsAll log work.gates.gates.items work.gates.ends.items work.gates.checkpoints.items
+  pub count : vec_len work.gates.gates + vec_len work.gates.ends + vec_len work.gates.checkpoints ≡ length log
   pub spare : HasSpare work.gates (sum_by (λ t. need_in_log log t - 1) work.undo) (length work.undo) 1
   pub next : work.next ≡ next_lsn log
   pub next_fits : work.next + (total_need (part_of shape) shape.partitions log + 1) < 2 ^ 64

@@ -118,6 +118,7 @@ pub(crate) fn gates_of(
     requires ends { ends < 2 ^ 60 }
     ensures lists { IfOk result (λ made. ListsAll (reverse (map record_of_placed merged.now)) made.gates.items made.ends.items made.checkpoints.items) }
     ensures spare { IfOk result (λ made. HasSpare made more ends 1) }
+    ensures count { IfOk result (λ made. vec_len made.gates + vec_len made.ends + vec_len made.checkpoints ≡ length merged.now) }
 {
     let count = merged.len();
     let mut made = Gates::with_memory(alloc, count + more, count + ends, count + 1)?;

@@ -1,5 +1,5 @@
 -- How far the removals of closed buckets have come.
-use Rattle.std.proofs.Common.{◌≡◌, ◌⊎◌, ℕ, ◌+◌, ◌*◌, ◌<◌, ◌≤◌, [], length, Some, None, refl, ap, sym, ◌∙◌, subst, arith}
+use Rattle.std.proofs.Common.{◌≡◌, ℕ, ◌+◌, ◌*◌, ◌<◌, ◌≤◌, [], length, Some, None, refl, ap, ◌∙◌, arith}
 use Rattle.persist_model.specs.Region.{Region}
 use Rattle.persist_model.specs.Shape.{Shape, count_buckets}
 use Rattle.persist_model.specs.State.{State}
@@ -34,6 +34,7 @@ pub record IsDropping (shape : Shape) (p : ℕ) (before now : Region) (counts la
   pub few : events + 7 * buckets_in shape p now ≤ 7 * buckets_in shape p before
   pub spare_left : spare + 7 * buckets_in shape p now ≤ left + 7 * buckets_in shape p before
   pub header : KeepsWords (IsHeaderWord shape) before now
+  pub size : now.size ≡ before.size
   pub none_closed : HasFewBuckets shape p (newest_at before) → (now ≡ before) × (later ≡ counts)
 
 pub dropping_begins : (shape : Shape) (p : ℕ) (before : Region) (counts : Counts) (spare : ℕ) → IsAtEmptyLog shape p before → IsDropping shape p before before counts counts spare spare
@@ -46,6 +47,7 @@ dropping_begins shape p before counts spare at = record {
   few = omega arith;
   spare_left = omega arith;
   header = λ a v is one. one;
+  size = refl;
   none_closed = λ few. (refl, refl);
 }
 
@@ -67,8 +69,8 @@ module _ (shape : Shape) (ok : IsAllowed shape) (p : ℕ) (inside : p < shape.pa
   -- one bucket more
   pub dropping_goes_on : (next : Region) (after : Counts) (rest : ℕ) → ((first y : State) → HasSettled shape first y now → y.log ≡ [] → HasDropped shape first y next) →
       KeepsLists shape now next → buckets_in shape p next + 1 ≡ buckets_in shape p now → HasCounted 7 Made later after → left ≤ rest + 7 →
-      KeepsWords (IsHeaderWord shape) now next → IsDropping shape p before next counts after spare rest
-  dropping_goes_on next after rest made lists shorter counted less header = record {
+      KeepsWords (IsHeaderWord shape) now next → next.size ≡ now.size → IsDropping shape p before next counts after spare rest
+  dropping_goes_on next after rest made lists shorter counted less header size = record {
     at = (let d = made h.at.at.first h.at.at.state h.at.at.settled h.at.empty in record {
       at = record { first = h.at.at.first; state = d.state; settled = d.settled };
       empty = d.empty;
@@ -86,6 +88,7 @@ module _ (shape : Shape) (ok : IsAllowed shape) (p : ℕ) (inside : p < shape.pa
     few = (let so_far = h.few in let most = counted.few in omega (arith, so_far, most, shorter));
     spare_left = (let so_far = h.spare_left in omega (arith, so_far, less, shorter));
     header = λ a v is one. header a v is (h.header a v is one);
+    size = size ∙ h.size;
     none_closed = λ few. absurd (not_few_before few);
   }
 

@@ -1,23 +1,23 @@
 -- The chain of a partition where no record is left.
-use Rattle.std.proofs.Common.{◌≡◌, ◌≢◌, inl, inr, ℕ, ◌+◌, ◌<◌, ◌≤◌, List, [], ◌∷◌, length, Option, Some, None, refl, ap, sym, ◌∙◌, subst, arith}
+use Rattle.std.proofs.Common.{◌≡◌, ◌≢◌, inl, inr, ℕ, ◌<◌, ◌≤◌, List, [], ◌∷◌, length, Some, None, refl, sym, ◌∙◌, subst, arith}
 use Rattle.std.proofs.lemmas.Bool.Decides.{eqb_tells}
 use Rattle.persist_model.specs.Region.{Words}
-use Rattle.persist_model.specs.Records.{Record, Log, IsAmong}
+use Rattle.persist_model.specs.Records.{Log, IsAmong}
 use Rattle.persist_model.specs.Shape.{Shape, IsBucketOf, log_words}
-use Rattle.persist_model.specs.Chain.{IsAbsent, HasNoRepeats, last_or}
+use Rattle.persist_model.specs.Chain.{HasNoRepeats, last_or}
 use Rattle.persist_model.specs.ImageRecords.{cell_address, record_at}
 use Rattle.persist_model.specs.State.{State}
 use Rattle.persist_model.specs.Sound.{IsClosedBucket, HasState}
 use Rattle.log_laws.proofs.Views.{view_behind}
 use Rattle.atomic_list.specs.declared.plans.Remove.{Remove}
-use Rattle.atomic_list.specs.Rules.{IsAtRest, IsAppending, IsRemoving, IsList, at_rest, appending, removing}
+use Rattle.atomic_list.specs.Rules.{IsAtRest, IsList, at_rest, appending, removing}
 use Rattle.atomic_list.specs.Walk.{chain_of}
 use Rattle.atomic_list.proofs.Cases.{chain_is_buckets, chain_has_no_repeats}
 use Rattle.atomic_list.proofs.Walks.{chain_of_list}
 use Rattle.region_layout.specs.Layout.{IsAllowed}
 use Rattle.bucket_log.proofs.Addresses.{bucket_above}
 use Rattle.bucket_log.proofs.Appending.{Each-among}
-use Rattle.log_clearing.specs.Dropping.{IsFirstClosed, IsRemovalOf}
+use Rattle.log_clearing.specs.Dropping.{IsRemovalOf}
 use Rattle.log_clearing.specs.Removals.{CanDrop}
 use Rattle.log_clearing.proofs.RemovalStates.{read_removals_may_be_made}
 use Rattle.recovery_run.specs.Reached.{IsQuiet, HasFewBuckets}

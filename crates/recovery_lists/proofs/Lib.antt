@@ -10,3 +10,5 @@ pub mod RepairPart
 pub mod DropPart
 pub mod Emptied
 pub mod DropLoop
+pub mod Small
+pub mod Restarting

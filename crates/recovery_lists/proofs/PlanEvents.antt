@@ -1,20 +1,24 @@
 -- The events of a plan on a partition's view, as events on the region.
-use Rattle.std.proofs.Common.{◌≡◌, ◌⊎◌, inl, inr, ℕ, zero, suc, ◌<◌, ◌≤◌, List, [], ◌∷◌, Some, length, map, refl, ap, sym, ◌∙◌, arith, sum_by, get_or}
+use Rattle.std.proofs.Common.{◌≡◌, inl, inr, ℕ, zero, suc, ◌<◌, ◌≤◌, List, [], ◌∷◌, Some, length, map, take, refl, ap, sym, ◌∙◌, arith, sum_by, get_or}
 use Rattle.std.specs.Prelude.{slice_get, option_map, All}
 use Rattle.std.proofs.lemmas.Option.{slice_get-map}
 use Rattle.persist_model.specs.declared.event.Event.{Event}
 use Rattle.persist_model.specs.declared.event.Event.TheVariants.{Store, PStore, WriteBack, Fence}
-use Rattle.persist_model.specs.Region.{Words}
+use Rattle.persist_model.specs.Region.{Words, Region}
+use Rattle.lane_traits.specs.declared.device.Done.{Done}
+use Rattle.lane_traits.specs.declared.device.Done.TheVariants.{Made, Stopped}
+use Rattle.log_laws.specs.Recovering.{RECOVERY}
+use Rattle.recovery_run.proofs.Composing.{size_plan}
 use Rattle.persist_model.specs.Progress.{start, advance_all}
 use Rattle.persist_model.specs.Shape.{Shape}
 use Rattle.persist_model.specs.Chain.{out_event}
 use Rattle.lane_traits.specs.Device.{IsWithin, stores_of}
-use Rattle.log_laws.specs.Parts.{AreDurable}
+use Rattle.log_laws.specs.Parts.{after_plan, AreDurable}
 use Rattle.log_laws.proofs.Views.{IsStoreOn, AreStoresOn}
 use Rattle.atomic_list.specs.declared.plans.Remove.{Remove}
 use Rattle.atomic_list.specs.declared.repairing.Repair.{Repair}
 use Rattle.atomic_list.specs.declared.repairing.Repair.TheVariants.{Nothing, Append, Remove as TakeOut}
-use Rattle.atomic_list.specs.Plans.{removal, repair_plan}
+use Rattle.atomic_list.specs.Plans.{repair_plan}
 use Rattle.bucket_log.specs.Words.{IsPartWord}
 use Rattle.bucket_log.proofs.Partitions.{bucket_word_above}
 use Rattle.log_clearing.specs.Removals.{region_removal}
@@ -90,3 +94,10 @@ repair_settles p w (TakeOut r) = refl
 
 pub removal_settles : (p : ℕ) (w : Words) (r : Remove) → advance_all (start w) (region_removal p r) ≡ start (advance_all (start w) (region_removal p r)).durable
 removal_settles p w r = refl
+
+-- ---- the region's size behind a plan that was made as far as it was
+
+pub size_made : (done : Done) (region later : Region) (plan : List Event) → (done ≡ Made → later ≡ after_plan RECOVERY region plan) →
+    (done ≡ Stopped → (k : ℕ) × (later ≡ after_plan RECOVERY region (take k plan))) → later.size ≡ region.size
+size_made Made region later plan made stopped = ap (λ (r : Region). r.size) (made refl) ∙ size_plan RECOVERY region plan
+size_made Stopped region later plan made stopped = ap (λ (r : Region). r.size) (stopped refl).1 ∙ size_plan RECOVERY region (take (stopped refl).0 plan)

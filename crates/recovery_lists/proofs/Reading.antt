@@ -8,7 +8,6 @@ use Rattle.persist_model.specs.State.{State}
 use Rattle.persist_model.specs.Sound.{HasState}
 use Rattle.persist_model.proofs.Images.{length-newest_words}
 use Rattle.log_laws.proofs.Views.{view-out}
-use Rattle.atomic_list.specs.Plans.{repair_asked}
 use Rattle.atomic_list.specs.Reads.{SameLog}
 use Rattle.atomic_list.specs.Rules.{IsListWord}
 use Rattle.atomic_list.proofs.Agreeing.{lists_agree}

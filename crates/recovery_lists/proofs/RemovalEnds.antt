@@ -1,18 +1,18 @@
 -- What the removal of a closed bucket leaves of the lists.
-use Rattle.std.proofs.Common.{◌≡◌, ◌≢◌, inl, inr, ℕ, ◌+◌, ◌<◌, ◌≤◌, List, [], ◌∷◌, ◌++◌, length, map, refl, ap, sym, ◌∙◌, subst, arith, length-append}
+use Rattle.std.proofs.Common.{◌≡◌, ◌≢◌, inl, inr, ℕ, ◌+◌, ◌<◌, ◌≤◌, List, [], ◌∷◌, ◌++◌, length, refl, ap, sym, subst, arith, length-append}
 use Rattle.persist_model.specs.Region.{Words}
 use Rattle.persist_model.specs.Progress.{Wrote, Reaches}
 use Rattle.persist_model.specs.Runs.{progress_at}
 use Rattle.persist_model.specs.Records.{IsAmong}
-use Rattle.persist_model.specs.Shape.{Shape, IsBucketOf, heap, log_words}
+use Rattle.persist_model.specs.Shape.{Shape, IsBucketOf, heap}
 use Rattle.persist_model.specs.Chain.{first_or}
 use Rattle.persist_model.specs.State.{State}
 use Rattle.persist_model.specs.Sound.{HasState}
 use Rattle.log_laws.proofs.Views.{AreStoresOn}
 use Rattle.atomic_list.specs.declared.plans.Remove.{Remove}
 use Rattle.atomic_list.specs.Plans.{removal}
-use Rattle.atomic_list.specs.Removal.{removed, RemovalLeaves}
-use Rattle.atomic_list.specs.Rules.{IsAtRest, IsList, IsListWord, at_rest}
+use Rattle.atomic_list.specs.Removal.{removed}
+use Rattle.atomic_list.specs.Rules.{IsAtRest, IsListWord, at_rest}
 use Rattle.atomic_list.specs.Walk.{chain_of}
 use Rattle.atomic_list.proofs.Removals.{removal_is_on_list, removal_ends}
 use Rattle.atomic_list.proofs.Repairs.{still}
@@ -28,7 +28,7 @@ use Rattle.recovery_run.specs.Reached.{IsQuiet, HasFewBuckets}
 use Rattle.recovery_lists.specs.Repairs.{seen}
 use Rattle.recovery_lists.proofs.PartPlans.{seen_reached}
 use Rattle.recovery_lists.proofs.RepairStates.{quiet_at_rest}
-use Rattle.recovery_lists.proofs.KeptLists.{list_seen, lists_one, few_of}
+use Rattle.recovery_lists.proofs.KeptLists.{list_seen, lists_one}
 
 -- the plan stores to list words of the partition
 pub removal_on_list : (shape : Shape) (p : ℕ) (w : Words) (r : Remove) → CanDrop shape p (seen shape p w) r → AreStoresOn (IsListWord shape p) (removal r)

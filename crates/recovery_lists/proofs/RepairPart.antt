@@ -1,23 +1,21 @@
 -- A repair as a part of recovery.
 use Rattle.std.specs.Prelude.{All}
-use Rattle.std.proofs.Common.{◌≡◌, inl, inr, ℕ, ◌+◌, ◌<◌, ◌≤◌, List, length, take, map, refl, sym, ◌∙◌, subst, arith}
+use Rattle.std.proofs.Common.{◌≡◌, ℕ, ◌<◌, List, length, take, refl, sym, ◌∙◌, subst, arith}
 use Rattle.persist_model.specs.declared.event.Event.{Event}
 use Rattle.persist_model.specs.Region.{Words, Region}
 use Rattle.persist_model.specs.Progress.{Reaches, start, advance_all}
 use Rattle.persist_model.specs.Runs.{progress_at}
 use Rattle.persist_model.specs.Shape.{Shape, heap, words_of_shape, heap_words}
-use Rattle.persist_model.specs.Chain.{out_event}
 use Rattle.persist_model.specs.State.{State, IsSoundState}
 use Rattle.persist_model.specs.Sound.{HasState}
 use Rattle.lane_traits.specs.Device.{IsWithin}
-use Rattle.log_laws.specs.Recovery.{Steps, start as begins, makes}
+use Rattle.log_laws.specs.Recovery.{start as begins, makes}
 use Rattle.log_laws.specs.Recovering.{RECOVERY, with_heap, AreOnLog}
 use Rattle.log_laws.specs.Parts.{after_plan, Leads, EachKeeps}
 use Rattle.log_laws.proofs.Parts.{part_image, part_image_settled}
 use Rattle.log_laws.proofs.Recovering.{heap_step}
 use Rattle.log_laws.proofs.Views.{AreStoresOn}
 use Rattle.atomic_list.specs.Plans.{repair_plan}
-use Rattle.atomic_list.specs.Rules.{IsListWord}
 use Rattle.atomic_list.proofs.Repairs.{repair_is_on_list}
 use Rattle.region_layout.specs.Layout.{IsAllowed}
 use Rattle.bucket_log.specs.Words.{IsPartWord}

@@ -1,25 +1,24 @@
 -- The repair of a partition's list in the form of states.
-use Rattle.std.proofs.Common.{◌≡◌, ◌↔◌, inl, inr, ℕ, ◌+◌, ◌<◌, ◌≤◌, List, length, map, take, refl, sym, ◌∙◌, subst, arith}
+use Rattle.std.proofs.Common.{◌≡◌, inl, inr, ℕ, ◌+◌, ◌<◌, List, length, map, take, sym, ◌∙◌, subst, arith}
 use Rattle.std.proofs.lemmas.List.{take_all, length-map}
 use Rattle.persist_model.specs.declared.event.Event.{Event}
 use Rattle.persist_model.specs.Region.{Words}
-use Rattle.persist_model.specs.Progress.{Progress, Wrote, Reaches, start, advance_all}
+use Rattle.persist_model.specs.Progress.{Wrote, Reaches, start, advance_all}
 use Rattle.persist_model.specs.Runs.{progress_at}
-use Rattle.persist_model.specs.Records.{Record, IsAmong}
+use Rattle.persist_model.specs.Records.{IsAmong}
 use Rattle.persist_model.specs.Shape.{Shape, IsBucketOf, heap, heap_words, log_words, list_words}
 use Rattle.persist_model.specs.Chain.{out_event, last_or}
-use Rattle.persist_model.specs.ImageRecords.{IsRecordOf}
 use Rattle.persist_model.specs.State.{State}
-use Rattle.persist_model.specs.Sound.{IsListOf, IsClosedBucket, HasChain, HasState}
+use Rattle.persist_model.specs.Sound.{HasChain, HasState}
 use Rattle.log_laws.specs.Recovering.{with_heap}
 use Rattle.log_laws.proofs.Views.{AreStoresOn}
-use Rattle.atomic_list.specs.Plans.{repair_plan, repair_asked}
+use Rattle.atomic_list.specs.Plans.{repair_plan}
 use Rattle.atomic_list.specs.Repairing.{repaired, RepairLeaves}
 use Rattle.atomic_list.specs.Rules.{IsList, IsListWord, IsAtRest}
 use Rattle.atomic_list.specs.Views.{IsListWordOrGate, IsRemovedClosed}
 use Rattle.atomic_list.proofs.Cases.{chain_is_buckets}
 use Rattle.atomic_list.proofs.Closings.{repaired_stays_closed, list_in_view, list_from_view}
-use Rattle.atomic_list.proofs.Repairs.{repair_images, repair_ends, repair_is_on_list}
+use Rattle.atomic_list.proofs.Repairs.{still, repair_images, repair_ends, repair_is_on_list}
 use Rattle.region_layout.specs.Layout.{IsAllowed}
 use Rattle.bucket_log.specs.Words.{IsLogWord, SameRecords}
 use Rattle.bucket_log.proofs.Addresses.{list_word_is_log_word, cell_word_is_log_word}
@@ -100,10 +99,8 @@ module _ (shape : Shape) (ok : IsAllowed shape) (p : ℕ) (inside : p < shape.pa
       (repair_ends shape p (seen shape p w) (has.chains p) (list_of (has.chains p) (has.lists p inside)).0)
 
   quiet_last : (v : Words) → Reaches (λ a. a < heap shape) (progress_at w (map (out_event p) plan) (length (map (out_event p) plan))) v → IsQuiet p v
-  quiet_last v h = (
-    sym (inside_log shape v (list_words p + 2) (part_word_below shape p (list_words p + 2) ok inside (inl (omega arith, omega arith)))) ∙ word 10 (inl (omega arith, omega arith)) ∙ leaves.at_rest.to_append,
-    sym (inside_log shape v (list_words p + 4) (part_word_below shape p (list_words p + 4) ok inside (inl (omega arith, omega arith)))) ∙ word 12 (inl (omega arith, omega arith)) ∙ leaves.at_rest.to_remove,
-  )
+  quiet_last v h = quiet_at_rest shape p v (has.chains p) ok inside
+      (still shape p (advance_all (start (seen shape p w)) plan).durable (seen shape p v) (has.chains p) leaves.at_rest (λ a m. word a m))
     where
       size : length (map (out_event p) plan) ≡ length plan
       size = length-map plan (out_event p)

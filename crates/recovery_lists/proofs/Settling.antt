@@ -1,8 +1,8 @@
 -- From one settled state to the next, in the region's newest words.
-use Rattle.std.proofs.Common.{◌≡◌, inl, inr, ℕ, ◌+◌, ◌<◌, ◌≤◌, List, [], length, take, refl, sym, ap, ◌∙◌, subst, arith}
+use Rattle.std.proofs.Common.{◌≡◌, inl, ℕ, ◌+◌, ◌<◌, List, [], length, refl, sym, ◌∙◌, subst, arith}
 use Rattle.persist_model.specs.declared.event.Event.{Event}
 use Rattle.persist_model.specs.Region.{Words, Region, AreSettled}
-use Rattle.persist_model.specs.Progress.{Progress, Wrote, Reaches, Tracks, start, advance_all}
+use Rattle.persist_model.specs.Progress.{Progress, Wrote, Reaches, start, advance_all}
 use Rattle.persist_model.specs.Runs.{progress_at}
 use Rattle.persist_model.specs.Shape.{Shape, words_of_shape}
 use Rattle.persist_model.specs.State.{State}
@@ -12,7 +12,7 @@ use Rattle.persist_model.proofs.Tracking.{Tracks-settled}
 use Rattle.log_laws.specs.Recovery.{Steps}
 use Rattle.log_laws.specs.Recovering.{RECOVERY, IsAtRest}
 use Rattle.log_laws.specs.Parts.{after_plan, HasCome, Leads}
-use Rattle.recovery_run.specs.Edges.{KeepsWords, IsHeaderWord, AreOffHeader}
+use Rattle.recovery_run.specs.Edges.{AreOffHeader}
 use Rattle.recovery_run.specs.Reached.{newest_at, HasSettled}
 use Rattle.recovery_run.proofs.Aside.{plan_keeps}
 use Rattle.recovery_run.proofs.Composing.{parts_go_on}

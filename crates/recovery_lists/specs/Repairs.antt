@@ -1,5 +1,5 @@
 -- The repair of the list of one partition, in the form of states.
-use Rattle.std.specs.Prelude.{◌≡◌, ◌⊎◌, ℕ, ◌<◌, List, length, map}
+use Rattle.std.specs.Prelude.{◌≡◌, ℕ, ◌<◌, List, length, map}
 use Rattle.persist_model.specs.declared.event.Event.{Event}
 use Rattle.persist_model.specs.Region.{Words}
 use Rattle.persist_model.specs.Progress.{Reaches}
@@ -10,7 +10,6 @@ use Rattle.persist_model.specs.State.{State}
 use Rattle.persist_model.specs.Sound.{HasChain, HasState}
 use Rattle.log_laws.specs.Parts.{AreDurable}
 use Rattle.log_laws.specs.Recovering.{with_heap, AreOnLog}
-use Rattle.atomic_list.specs.declared.plans.Remove.{Remove}
 use Rattle.atomic_list.specs.declared.repairing.Repair.{Repair}
 use Rattle.atomic_list.specs.Plans.{repair_plan, repair_asked}
 use Rattle.region_layout.specs.Layout.{IsAllowed}

@@ -67,6 +67,7 @@ fn drop_bucket<D: Device>(device: &mut D, layout: Layout, p: u32, removal: Remov
     ensures counted { HasCounted 7 result (D.counts device.old) (D.counts device.new) }
     ensures spare_left { D.spare device.old ≤ D.spare device.new + 7 }
     ensures header { KeepsWords (IsHeaderWord (layout_shape layout)) (D.cells device.old) (D.cells device.new) }
+    ensures size { (D.cells device.new).size ≡ (D.cells device.old).size }
 {
     run(device, &RemovalPlan { p, removal })
 }
@@ -87,6 +88,7 @@ pub fn drop_closed<D: Device>(device: &mut D, layout: Layout, p: u32) -> Done
     ensures counted { HasCounted (7 * count_buckets (layout_shape layout) p) result (D.counts device.old) (D.counts device.new) }
     ensures spare_left { D.spare device.old ≤ D.spare device.new + 7 * count_buckets (layout_shape layout) p }
     ensures header { KeepsWords (IsHeaderWord (layout_shape layout)) (D.cells device.old) (D.cells device.new) }
+    ensures size { (D.cells device.new).size ≡ (D.cells device.old).size }
     ensures none_closed { HasFewBuckets (layout_shape layout) p (newest_at (D.cells device.old)) → (result ≡ Done.Made)
         × (D.cells device.new ≡ D.cells device.old) × (D.counts device.new ≡ D.counts device.old) }
 {

@@ -8,3 +8,6 @@ mod repairing;
 
 pub use dropping::drop_closed;
 pub use repairing::repair;
+
+#[cfg(test)]
+mod tests;

@@ -64,6 +64,7 @@ pub fn repair<D: Device>(device: &mut D, layout: Layout, p: u32) -> Done
     ensures counted { HasCounted 5 result (D.counts device.old) (D.counts device.new) }
     ensures spare_left { D.spare device.old ≤ D.spare device.new + 5 }
     ensures header { KeepsWords (IsHeaderWord (layout_shape layout)) (D.cells device.old) (D.cells device.new) }
+    ensures size { (D.cells device.new).size ≡ (D.cells device.old).size }
     ensures none_asked { IsQuiet p (newest_at (D.cells device.old)) → (result ≡ Done.Made) × (D.cells device.new ≡ D.cells device.old)
         × (D.counts device.new ≡ D.counts device.old) }
 {

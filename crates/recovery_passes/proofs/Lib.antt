@@ -3,3 +3,8 @@ pub mod Buckets
 pub mod Ends
 pub mod Redoing
 pub mod Undone
+pub mod Closed
+pub mod Readying
+pub mod Starting
+pub mod Bounds
+pub mod ClearBounds

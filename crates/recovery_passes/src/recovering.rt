@@ -8,11 +8,15 @@ ghost use Rattle.lane_traits.specs.Device.{counted};
 ghost use Rattle.recovery_run.specs.Edges.{KeepsWords, IsHeaderWord};
 ghost use Rattle.recovery_run.specs.Reached.{newest_at};
 ghost use Rattle.recovery_passes.specs.Recovered.{IsFinished, Restores, EachStands, AreFates, AreFew};
+ghost use Rattle.recovery_passes.specs.Refusals.{recover_fault};
 ghost use Rattle.recovery_passes.specs.declared.recovering.RecoverFault.{RecoverFault};
 
-use lane_traits::Device;
+use crate::making::make_events;
+use lane_traits::{Device, Done};
 use persist_model::{List, NoMemory};
+use recovery_analysis::{Work, work_of};
 use region_layout::ImageFault;
+use sound_check::{CheckFault, check};
 use std::alloc::Global;
 
 /// Why a recovery wasn't finished.
@@ -31,6 +35,17 @@ impl From<NoMemory> for RecoverFault {
 
     fn from(_: NoMemory) -> Self {
         RecoverFault::NoMemory
+    }
+}
+
+impl From<CheckFault> for RecoverFault {
+    ghost from_gives = { λ fault given. given ≡ recover_fault fault };
+
+    fn from(fault: CheckFault) -> Self {
+        match fault {
+            CheckFault::Unsound(found) => RecoverFault::Unsound(found),
+            CheckFault::NoMemory => RecoverFault::NoMemory,
+        }
     }
 }
 
@@ -82,5 +97,35 @@ pub fn recover<D: Device>(alloc: Global, device: &mut D) -> Result<Recovered, Re
     // Whatever it answers
     ensures header { KeepsWords (IsHeaderWord (shape_of (newest_at (D.cells device.old)))) (D.cells device.old) (D.cells device.new) }
 {
-    Err(RecoverFault::NoMemory)
+    let layout = check(alloc, device)?;
+    let work = work_of(alloc, device, layout)?;
+    let Work {
+        winners,
+        losers,
+        redo,
+        undo,
+        checkpoint,
+        gates,
+        next,
+        most,
+    } = work;
+    device.reserve(most)?;
+    let before = device.events();
+    let done = make_events(
+        device,
+        layout,
+        redo.as_slice(),
+        undo.as_slice(),
+        checkpoint,
+        next,
+        gates,
+    );
+    match done {
+        Done::Stopped => Err(RecoverFault::Stopped),
+        Done::Made => Ok(Recovered {
+            winners,
+            losers,
+            events: device.events() - before,
+        }),
+    }
 }

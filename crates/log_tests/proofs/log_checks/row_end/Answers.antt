@@ -1,5 +1,5 @@
 use Rattle.std.specs.Prelude.{slice_index}
-use Rattle.std.proofs.Common.{◌+◌, ◌<◌, map, take, get_or, refl, sym, subst, arith}
+use Rattle.std.proofs.Common.{◌+◌, map, take, get_or, refl, sym, subst, arith}
 use Rattle.persist_model.specs.Shape.{bucket}
 use Rattle.region_layout.specs.Layout.{layout_shape}
 use Rattle.log_tests.specs.Rows.{IsRow}

@@ -1,5 +1,5 @@
 use Rattle.std.proofs.Common.{◌+◌, ◌-◌, length, ap, arith}
-use Rattle.recovery_analysis.proofs.Gathering.{gates_begin, gates_more, gates_whole}
+use Rattle.recovery_analysis.proofs.Gathering.{gates_begin, gates_more, gates_whole, gates_count}
 use Rattle.recovery_analysis.proofs.working.gates_of.Goals as goal
 
 pub loop-placed-init : goal.loop-placed-init
@@ -49,3 +49,9 @@ returns-clause-spare c =
       of_ends = omega (arith, spare.of_ends);
       of_checkpoints = omega (arith, spare.of_checkpoints);
     }
+
+pub returns-clause-count : goal.returns-clause-count
+returns-clause-count c =
+    let made = c.loop-placed.made in
+    let count = gates_count c.args.merged.now c.loop-placed.placed-index made.gates.items made.ends.items made.checkpoints.items (omega arith) c.loop-placed.invariant.gates in
+    omega (arith, count, made.gates.ok.0, made.ends.ok.0, made.checkpoints.ok.0)

@@ -75,7 +75,7 @@ returns c =
     c.running_of-undo.ensures
     (c.has_checkpoint-checkpoint.ensures log (subst (AreTransactionsOf log) (sym c.as_slice-6.ensures) whole) c.newest_checkpoint-newest.ensures)
     c.in_ok-gates.ensures.lists
-    (subst (λ ts. HasSpare c.in_ok-gates.gates c.total_need-needed.result (length ts) 1) c.as_slice-8.ensures c.in_ok-gates.ensures.spare)
+    (subst (λ ts. HasSpare c.in_ok-gates.gates c.total_need-needed.result (length ts) 1) c.as_slice-8.ensures c.in_ok-gates.ensures.spare) c.in_ok-gates.ensures.count
     (needed_is c.args.layout merged c.requires c.in_ok-all.all c.running_of-undo.result c.as_slice-7.result.now c.total_need-needed.result whole c.running_of-undo.ensures
     c.as_slice-7.ensures c.total_need-needed.ensures)
     c.next_number.ensures c.appends_with-appends.ensures c.most_events.ensures

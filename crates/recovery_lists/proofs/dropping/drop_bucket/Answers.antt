@@ -1,4 +1,4 @@
-use Rattle.std.proofs.Common.{◌≡◌, ◌≤◌, ◌+◌, sym, ap, subst, ◌∙◌, take, length, arith}
+use Rattle.std.proofs.Common.{◌≡◌, ◌+◌, sym, subst, length}
 use Rattle.persist_model.specs.Region.{Region}
 use Rattle.log_laws.specs.Parts.{EachKeeps}
 use Rattle.atomic_list.specs.Walk.{chain_of}
@@ -7,6 +7,8 @@ use Rattle.bucket_log.proofs.Partitions.{few_parts}
 use Rattle.recovery_run.specs.Reached.{newest_at}
 use Rattle.recovery_lists.specs.Repairs.{seen}
 use Rattle.recovery_lists.specs.Lists.{KeepsLists, HasDropped}
+use Rattle.log_clearing.specs.Removals.{region_removal}
+use Rattle.recovery_lists.proofs.PlanEvents.{size_made}
 use Rattle.recovery_lists.proofs.Reading.{allowed_at}
 use Rattle.recovery_lists.proofs.RemovalEnds.{next_small}
 use Rattle.recovery_lists.proofs.DropPart.{drop_within, drop_off_header, drop_done, drop_keeps, drop_lists, drop_shortens}
@@ -46,7 +48,7 @@ returns-clause-shorter g c = λ made.
     let cells = g.D.Device.cells c.args.device.now in
     let at = c.requires.empty.at in
     subst (λ (r : Region). length (chain_of (layout_shape c.args.layout) (seen (layout_shape c.args.layout) c.args.p (newest_at r))) + 1
-        ≡ length (chain_of (layout_shape c.args.layout) (seen (layout_shape c.args.layout) c.args.p (newest_at cells)))) (sym (c.run.ensures.made made))
+    ≡ length (chain_of (layout_shape c.args.layout) (seen (layout_shape c.args.layout) c.args.p (newest_at cells)))) (sym (c.run.ensures.made made))
     (drop_shortens (layout_shape c.args.layout) (allowed_at c.args.layout cells at) c.args.p c.requires.partition at.first at.state cells at.settled c.args.removal c.requires.closed c.requires.empty.empty)
 
 pub returns-clause-stopped : goal.returns-clause-stopped
@@ -63,3 +65,6 @@ returns-clause-header g c = λ a v is one.
     let at = c.requires.empty.at in
     c.run.ensures.aside a v
     (drop_off_header (layout_shape c.args.layout) (allowed_at c.args.layout cells at) c.args.p c.requires.partition at.first at.state cells at.settled c.args.removal c.requires.closed a is) one
+
+pub returns-clause-size : goal.returns-clause-size
+returns-clause-size g c = size_made c.run.result (g.D.Device.cells c.args.device.now) (g.D.Device.cells c.run.new.device) (region_removal c.args.p c.args.removal) c.run.ensures.made c.run.ensures.stopped

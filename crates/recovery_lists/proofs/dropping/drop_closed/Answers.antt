@@ -1,12 +1,11 @@
-use Rattle.std.proofs.Common.{◌≡◌, ◌≤◌, ◌+◌, ◌*◌, None, refl, subst, arith, ap}
-use Rattle.persist_model.specs.Shape.{count_buckets}
+use Rattle.std.proofs.Common.{refl, ◌∙◌, subst, arith}
 use Rattle.atomic_list.specs.Walk.{chain_of}
 use Rattle.region_layout.specs.Layout.{layout_shape}
 use Rattle.log_clearing.specs.Dropping.{IsRemovalOf}
 use Rattle.recovery_run.specs.Reached.{newest_at}
 use Rattle.recovery_lists.specs.Repairs.{seen}
 use Rattle.recovery_lists.proofs.Reading.{allowed_at}
-use Rattle.recovery_lists.proofs.DropLoop.{buckets_in, dropping_begins, dropping_goes_on, not_few_before, room_for_one, stopped_counted, stopped_spare, few_at_first, read_may_drop, read_few_left, all_counted}
+use Rattle.recovery_lists.proofs.DropLoop.{dropping_begins, dropping_goes_on, not_few_before, room_for_one, stopped_counted, stopped_spare, few_at_first, read_may_drop, read_few_left, all_counted}
 use Rattle.recovery_lists.proofs.dropping.drop_closed.Goals as goal
 
 pub loop-removal-init : goal.loop-removal-init
@@ -32,7 +31,7 @@ loop-removal-preserved g c =
     let can = read_may_drop shape ok c.args.p (g.D.Device.cells c.loop-removal.device) c.in-Some.removal c.requires.partition c.loop-removal.invariant.at c.in-Some.ensures in
     dropping_goes_on shape ok c.args.p c.requires.partition _ _ _ _ _ _ c.loop-removal.invariant c.in-Some.removal can
     (g.D.Device.cells c.drop_bucket.new.device) (g.D.Device.counts c.drop_bucket.new.device) (g.D.Device.spare c.drop_bucket.new.device)
-    (c.in-Made.ensures.made refl) (c.in-Made.ensures.lists refl) (c.in-Made.ensures.shorter refl) c.in-Made.ensures.counted c.in-Made.ensures.spare_left c.in-Made.ensures.header
+    (c.in-Made.ensures.made refl) (c.in-Made.ensures.lists refl) (c.in-Made.ensures.shorter refl) c.in-Made.ensures.counted c.in-Made.ensures.spare_left c.in-Made.ensures.header c.in-Made.ensures.size
 
 pub returns-in-Stopped-clause-stopped : goal.returns-in-Stopped-clause-stopped
 returns-in-Stopped-clause-stopped g c = λ stopped first y sound h none.
@@ -85,3 +84,6 @@ returns-clause-spare_left g c =
     let most = few_at_first (layout_shape c.args.layout) ok c.args.p (g.D.Device.cells c.args.device.now) c.requires.partition c.requires.empty.at in
     let so_far = c.loop-removal.invariant.spare_left in
     omega (arith, so_far, most)
+
+pub returns-in-Stopped-clause-size : goal.returns-in-Stopped-clause-size
+returns-in-Stopped-clause-size g c = c.in-Stopped.ensures.size ∙ c.loop-removal.invariant.size

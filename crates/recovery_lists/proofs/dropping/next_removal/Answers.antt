@@ -1,5 +1,3 @@
-use Rattle.std.proofs.Common.{length}
-use Rattle.std.specs.Prelude.{slice_index}
 use Rattle.region_layout.specs.Layout.{layout_shape}
 use Rattle.recovery_run.specs.Reached.{newest_at}
 use Rattle.recovery_lists.specs.Repairs.{seen}

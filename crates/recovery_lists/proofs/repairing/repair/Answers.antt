@@ -1,5 +1,5 @@
 use Rattle.std.specs.Prelude.{All}
-use Rattle.std.proofs.Common.{◌≡◌, ◌≤◌, sym, ap, subst, ◌∙◌, take, arith}
+use Rattle.std.proofs.Common.{sym, ap, subst, ◌∙◌, take, arith}
 use Rattle.persist_model.specs.Region.{Region}
 use Rattle.lane_traits.specs.Device.{IsWithin}
 use Rattle.log_laws.specs.Parts.{after_plan, EachKeeps}
@@ -13,7 +13,7 @@ use Rattle.recovery_run.specs.Reached.{newest_at, HasSettled, IsQuiet}
 use Rattle.recovery_lists.specs.Repairs.{region_repair}
 use Rattle.recovery_lists.specs.Lists.{KeepsLists}
 use Rattle.recovery_lists.proofs.Asking.{can_repair, quiet_asks_none, none_is_quiet}
-use Rattle.recovery_lists.proofs.PlanEvents.{repair_stores, repair_few}
+use Rattle.recovery_lists.proofs.PlanEvents.{size_made, repair_stores, repair_few}
 use Rattle.recovery_lists.proofs.Reading.{settled_state, allowed_at}
 use Rattle.recovery_lists.proofs.RepairPart.{repair_within, repair_off_header, repair_done, repair_keeps, repair_quiet, repair_lists}
 use Rattle.recovery_lists.proofs.repairing.repair.Goals as goal
@@ -101,3 +101,6 @@ returns-in_default-clause-none_asked g c = λ quiet.
     let cells = g.D.Device.cells c.args.device.now in
     absurd (c.in_default.not-Nothing (c.asked-repair.ensures
     ∙ quiet_asks_none (layout_shape c.args.layout) (allowed_at c.args.layout cells c.requires.settled) c.args.p c.requires.partition (newest_at cells) quiet))
+
+pub returns-in_default-clause-size : goal.returns-in_default-clause-size
+returns-in_default-clause-size g c = size_made c.run.result (g.D.Device.cells c.args.device.now) (g.D.Device.cells c.run.new.device) (region_repair c.args.p c.asked-repair.result) c.run.ensures.made c.run.ensures.stopped

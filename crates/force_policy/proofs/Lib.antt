@@ -1,0 +1,2 @@
+pub mod Courses
+mod Examples

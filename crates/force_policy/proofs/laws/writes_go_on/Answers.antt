@@ -1,0 +1,5 @@
+use Rattle.force_policy.proofs.Courses as lemmas
+use Rattle.force_policy.proofs.laws.writes_go_on.Goals as goal
+
+pub returns : goal.returns
+returns c = lemmas.writes_go_on

@@ -1,0 +1,28 @@
+//! The calls by which a transaction names a word.
+ghost use Rattle.std.specs.Prelude.{◌≡◌, slice_get};
+ghost use Rattle.force_policy.specs.Plans.{write_plan, give_plan};
+
+use bucket_log::{Giving, Part, Update};
+use plan_records::{deletion_cell, update_cell, word_store};
+use region_layout::Policy;
+
+/// Part i of the write of a word: its record, and then the store.
+pub fn write_part(update: &Update, i: u64) -> Option<Part>
+    ensures { result ≡ slice_get (write_plan update.now) i }
+{
+    match i {
+        0 => Some(Part::Append(update_cell(update))),
+        1 => Some(Part::Word(word_store(Policy::Force, update.word, update.after))),
+        _ => None,
+    }
+}
+
+/// Part i of the giving back of a block, which is deleted at the transaction's commit.
+pub fn give_part(giving: &Giving, i: u64) -> Option<Part>
+    ensures { result ≡ slice_get (give_plan giving.now) i }
+{
+    match i {
+        0 => Some(Part::Append(deletion_cell(giving))),
+        _ => None,
+    }
+}

@@ -1,0 +1,87 @@
+-- What a running transaction's own records give to the conditions of its appends, and the clearing of its records under force.
+use Rattle.std.proofs.Common.{◌≡◌, ◌≢◌, inl, inr, ℕ, ◌≤◌, List, ◌∷◌, refl, sym, ap, ◌∙◌, subst, arith}
+use Rattle.std.proofs.lemmas.Bool.Decides.{eqb_tells}
+use Rattle.persist_model.specs.Region.{Words}
+use Rattle.persist_model.specs.Records.{Record, Log, IsAmong, Has, HasNo, IsOf, IsEnd, NamesWord, IsRunning, IsEnded}
+use Rattle.persist_model.specs.Shape.{Shape, part_of, heap_words}
+use Rattle.persist_model.specs.Standing.{IsToUndo, Stands, undone, deleted, redone, kept}
+use Rattle.persist_model.specs.State.{State}
+use Rattle.log_laws.specs.Closing.{MayClear}
+use Rattle.log_laws.proofs.Deciding.{has_or_none, decide_to_undo}
+use Rattle.bucket_log.specs.declared.append.Place.{Place}
+use Rattle.bucket_log.specs.States.{less_room}
+use Rattle.log_clearing.specs.Closed.{IsListed}
+use Rattle.log_clearing.proofs.ClearingStates.{closings_keep}
+use Rattle.plan_records.specs.Appends.{MayAppend}
+use Rattle.plan_records.specs.Conditions.{IsOfOpen}
+use Rattle.plan_records.specs.Courses.{own_records, AreDeleted, AreGatesOf, ClearServes, IsGoing}
+use Rattle.plan_records.proofs.Appending.{takes}
+use Rattle.plan_records.proofs.OwnRecords.{own_in, own_out}
+
+-- the record of an append stands in its partition
+pub part_is : (shape : Shape) (p : ℕ) (w : Words) (s : State) (chain : List ℕ) (place : Place) (r : Record) → MayAppend shape p w s chain place r → part_of shape r.at ≡ p
+part_is shape p w s chain place r may = elim (eqb_tells (part_of shape r.at) p) [
+  | inl e ↦ e.1
+  | inr ne ↦ (let here = (takes shape p w s chain place r may).here in
+      let same : less_room p s.room (part_of shape r.at) ≡ s.room (part_of shape r.at) = (let off = ne.0 in rw off refl) in absurd (omega (arith, here, same)))
+]
+
+pub going_own : (shape : Shape) (p t : ℕ) (log : Log) → IsGoing shape p t log → IsGoing shape p t (own_records t log)
+going_own shape p t log h = record {
+  transaction = h.transaction;
+  some = (h.some.0, own_in t log h.some.0 h.some.1 h.some.2, h.some.2);
+  running = λ e m end. h.running e (own_out t log e m).0 end;
+  in_part = λ y m of. h.in_part y (own_out t log y m).0 of;
+}
+
+pub going_all : (shape : Shape) (p t : ℕ) (log : Log) → IsGoing shape p t (own_records t log) → IsGoing shape p t log
+going_all shape p t log h = record {
+  transaction = h.transaction;
+  some = (h.some.0, (own_out t log h.some.0 h.some.1).0, h.some.2);
+  running = λ e m end. h.running e (own_in t log e m (end.1, λ five. (let four = end.0 in absurd (omega (arith, four, five))))) end;
+  in_part = λ y m of. h.in_part y (own_in t log y m of) of;
+}
+
+pub going_more : (shape : Shape) (p t : ℕ) (log : Log) (r : Record) → IsGoing shape p t log → (IsEnd r → ⊥) → part_of shape r.at ≡ p → IsGoing shape p t (r ∷ log)
+going_more shape p t log r h no_end inside = record {
+  transaction = h.transaction;
+  some = (h.some.0, inr h.some.1, h.some.2);
+  running = λ e m end. elim m [ inl same ↦ no_end (ap (λ (x : Record). x.kind) (sym same) ∙ end.0) | inr k ↦ h.running e k end ];
+  in_part = λ y m of. elim m [ inl same ↦ ap (λ (x : Record). part_of shape x.at) same ∙ inside | inr k ↦ h.in_part y k of ];
+}
+
+-- so an append of t has its cells
+pub open_of : (shape : Shape) (p t : ℕ) (s : State) (r : Record) → IsGoing shape p t s.log → r.transaction ≡ t → part_of shape r.at ≡ p → IsOfOpen shape s r
+open_of shape p t s r h own inside = record {
+  transaction = subst (λ x. 1 ≤ x) (sym own) h.transaction;
+  some = subst (λ x. Has (IsOf x) s.log) (sym own) h.some;
+  running = record {
+    running = subst (λ x. IsRunning s.log x) (sym own) h.running;
+    one_part = λ y m of. h.in_part y m (of.0 ∙ own, of.1) ∙ sym inside;
+  };
+}
+
+-- ---- clearing
+
+clear_own : (shape : Shape) (s : State) (t : ℕ) (h : Words) (gates ends checkpoints : List ℕ) → shape.policy ≢ 2 → IsEnded s.log t →
+    AreGatesOf s.log t gates ends checkpoints → AreDeleted s.log t h → MayClear shape.policy s.log h (IsListed gates ends checkpoints)
+clear_own shape s t h gates ends checkpoints force over own zero = record {
+  ended = λ r m on. inr (subst (λ x. IsEnded s.log x) (sym ((own r m).0 on).0) over);
+  applied = λ r m on names. elim (has_or_none (IsToUndo s.log r.word) s.log (decide_to_undo s.log r.word)) [
+    | inl u ↦ inl u
+    | inr none ↦ inr (λ v st. value r m ((own r m).0 on) names none v st)
+  ];
+  whole = λ e m on end r k of. (own r k).1 (of.0 ∙ ((own e m).0 on).0, of.1);
+  skips = λ c m on check e k end lt r j of. absurd (((own c m).0 on).1 check);
+  redone = λ a r m k. force k.0;
+}
+  where
+    value : (r : Record) → IsAmong s.log r → IsOf t r → NamesWord r → HasNo (IsToUndo s.log r.word) s.log → (v : ℕ) → Stands shape.policy s.log h r.word v → v ≡ h r.word
+    value r m of names none v (undone u first e) = absurd (none u first.among first.has)
+    value r m of names none v (deleted nu d e) = e ∙ sym (zero r m of names d)
+    value r m of names none v (redone nu nd x last e) = absurd (force last.has.0)
+    value r m of names none v (kept nu nd nr e) = e
+
+pub clear_serves : (shape : Shape) (t : ℕ) (x : State) → IsEnded x.log t → ClearServes shape t x
+clear_serves shape t x over z v gates ends checkpoints k force may zero reached = closings_keep shape z v x gates ends checkpoints k may.few may.has may.sound may.groups
+    (clear_own shape x t (heap_words shape v) gates ends checkpoints force over may.own zero) reached

@@ -1,0 +1,12 @@
+pub mod PartNumbers
+mod Examples
+mod FirstAppend
+pub mod Appending
+pub mod Records
+pub mod UndoneEnds
+pub mod OwnRecords
+pub mod Going
+pub mod Beside
+pub mod AbortCourse
+pub mod CommitCourse
+pub mod WriteCourse

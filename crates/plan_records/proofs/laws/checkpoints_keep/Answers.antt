@@ -1,0 +1,5 @@
+use Rattle.plan_records.proofs.Records as lemmas
+use Rattle.plan_records.proofs.laws.checkpoints_keep.Goals as goal
+
+pub returns : goal.returns
+returns c = lemmas.checkpoints_keep

@@ -1,0 +1,5 @@
+use Rattle.plan_records.proofs.Records as lemmas
+use Rattle.plan_records.proofs.laws.drops_keep.Goals as goal
+
+pub returns : goal.returns
+returns c = lemmas.drops_keep

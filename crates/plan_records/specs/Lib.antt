@@ -1,0 +1,7 @@
+pub mod Cells
+pub mod Sequences
+pub mod Appends
+pub mod Conditions
+pub mod Laws
+pub mod Courses
+pub mod Others

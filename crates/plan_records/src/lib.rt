@@ -1,0 +1,12 @@
+//! The records that the plans of transactions append, and what each append leaves to a stop.
+#![tactic(auto)]
+
+mod cells;
+pub mod laws;
+mod sequences;
+
+pub use cells::{
+    Outcome, checkpoint_cell, compensation_cell, deletion_cell, end_cell, numbered, rollback_cell,
+    update_cell,
+};
+pub use sequences::{owner_part, owner_part_count, undo_part, word_store};

@@ -1,0 +1,101 @@
+-- How many events the stages make together.
+use Rattle.std.proofs.Common.{◌≡◌, inl, inr, ℕ, ◌+◌, ◌-◌, ◌*◌, ◌<◌, ◌≤◌, ◌^◌, Bool, true, false, if◌then◌else◌, List, [], ◌∷◌, length, map, sum_by, refl, sym, ap, ◌∙◌, subst, arith}
+use Rattle.std.proofs.lemmas.List.Sums.{sum_by-cons}
+use Rattle.std.specs.Vec.{vec_len}
+use Rattle.persist_model.specs.Records.{Log, IsAmong, IsLoser}
+use Rattle.persist_model.specs.Need.{need_of}
+use Rattle.persist_model.specs.Region.{Region}
+use Rattle.persist_model.specs.Shape.{part_of}
+use Rattle.persist_model.specs.State.{State, total_need}
+use Rattle.region_layout.specs.declared.layout.Layout.{Layout}
+use Rattle.region_layout.specs.Layout.{layout_shape}
+use Rattle.recovery_run.specs.declared.gates.Gates.{Gates}
+use Rattle.recovery_analysis.specs.declared.changing.Change.{Change}
+use Rattle.recovery_analysis.specs.declared.grouping.Transaction.{Transaction}
+use Rattle.recovery_analysis.specs.Grouping.{number_of}
+use Rattle.recovery_analysis.specs.Works.{need_in_log}
+use Rattle.recovery_analysis.proofs.Lists.{map_among}
+use Rattle.recovery_undo.specs.Undoing.{undo_events}
+use Rattle.recovery_undo.proofs.Going.{need_some}
+use Rattle.recovery_undo.specs.Numbers.{next_lsn}
+use Rattle.recovery_analysis.specs.Works.{next_lsn as next_of_log}
+use Rattle.recovery_passes.specs.Passing.{gates_len, undo_all_events, begin_events, clear_events, Begins}
+use Rattle.recovery_passes.specs.Plans.{IsPlanned}
+
+abbrev records_len : List Transaction → ℕ
+records_len undo = sum_by (λ (t : Transaction). length t.records) undo
+
+times : (k a b : ℕ) → k * (a + b) ≡ k * a + k * b
+times k a b = grind arith
+
+undo_sum : (layout : Layout) (log : Log) (undo : List Transaction) → undo_all_events layout log undo ≡ (layout.cells + 21) * sum_by (need_in_log log) undo + records_len undo + length undo
+undo_sum layout log [] = grind arith
+undo_sum layout log (t ∷ undo) =
+    let again = undo_sum layout log undo in
+    let a = sum_by-cons (λ (x : Transaction). undo_events layout x.number x.records log) t undo in
+    let b = sum_by-cons (need_in_log log) t undo in
+    let c = sum_by-cons (λ (x : Transaction). length x.records) t undo in
+    let d = times (layout.cells + 21) (need_of log t.number) (sum_by (need_in_log log) undo) in
+    let e : (layout.cells + 21) * sum_by (need_in_log log) (t ∷ undo) ≡ (layout.cells + 21) * (need_of log t.number + sum_by (need_in_log log) undo) = ap (λ n. (layout.cells + 21) * n) b in
+    omega (arith, again, a, c, d, e)
+
+few_undone : (log : Log) (undo : List Transaction) → ((t : Transaction) → IsAmong undo t → IsLoser log t.number) → length undo ≤ sum_by (need_in_log log) undo
+few_undone log [] each = omega arith
+few_undone log (t ∷ undo) each =
+    let again = few_undone log undo (λ x m. each x (inr m)) in
+    let some = need_some log t.number (each t (inl refl)).1 in
+    let b = sum_by-cons (need_in_log log) t undo in
+    omega (arith, again, some, b)
+
+pub same_next : (log : Log) → next_of_log log ≡ next_lsn log
+same_next [] = refl
+same_next (r ∷ log) = refl
+
+all_events : (K redo records undone log need more buckets : ℕ) → redo + records ≤ log → undone ≤ need →
+    15 + (redo + 1) + ((K + 21) * need + records + undone) + (more * (K + 22) + (log + need + 3) + 7 * buckets) + 1 ≤ 20 + 2 * log + (23 + K) * (need + more) + 7 * buckets
+all_events K redo records undone log need more buckets few less = grind (arith, few, less)
+
+module _ (layout : Layout) (first : State) (redo : List Change) (running : List Transaction) (checkpoint : Bool) (next : ℕ) (gates : Gates) (most : ℕ) (region : Region)
+    (h : IsPlanned layout first redo running checkpoint next gates most region) where
+  -- how many gates there will be, but for that of a checkpoint record
+  abbrev pub planned_total : ℕ
+  planned_total = gates_len gates + sum_by (need_in_log first.log) running
+
+  pub plan_begins : Begins layout first planned_total redo running next gates region
+  plan_begins = record {
+    settled = h.settled;
+    redone = h.work.redo;
+    words = h.work.redo_words;
+    losers = h.work.undo;
+    each = h.work.undo_records;
+    next_is = h.work.next ∙ same_next first.log;
+    lists = h.work.gates;
+    spare = h.work.spare;
+    count = refl;
+  }
+
+  -- all of them together
+  pub plan_fits : begin_events layout first.log redo running + clear_events layout checkpoint planned_total + 1 ≤ most
+  plan_fits = by_checkpoint checkpoint h.work.most
+    where
+      running_losers : (t : Transaction) → IsAmong running t → IsLoser first.log t.number
+      running_losers t m = (h.work.undo.each t.number).0 (map_among number_of running t m)
+
+      by_checkpoint : (c : Bool) → most ≡ 20 + 2 * length first.log + (23 + layout.cells) * (total_need (part_of (layout_shape layout)) layout.partitions first.log + (if c then 1 else 0)) + 7 * layout.buckets →
+          begin_events layout first.log redo running + clear_events layout c planned_total + 1 ≤ most
+      by_checkpoint true is =
+          let undone = undo_sum layout first.log running in
+          let less = few_undone first.log running running_losers in
+          let needs = h.work.needs in
+          let same = ap (λ n. (23 + layout.cells) * (n + 1)) needs in
+          let all = all_events layout.cells (length redo) (records_len running) (length running) (length first.log) (sum_by (need_in_log first.log) running) 1 layout.buckets h.work.passes less in
+          let count = h.work.count in
+          omega (arith, undone, all, same, is, count)
+      by_checkpoint false is =
+          let undone = undo_sum layout first.log running in
+          let less = few_undone first.log running running_losers in
+          let needs = h.work.needs in
+          let same = ap (λ n. (23 + layout.cells) * (n + 0)) needs in
+          let all = all_events layout.cells (length redo) (records_len running) (length running) (length first.log) (sum_by (need_in_log first.log) running) 0 layout.buckets h.work.passes less in
+          let count = h.work.count in
+          omega (arith, undone, all, same, is, count)

@@ -1,0 +1,55 @@
+-- From a recovery's beginning to its undo.
+use Rattle.std.proofs.Common.{◌≡◌, inl, inr, ℕ, ◌+◌, ◌-◌, ◌<◌, ◌≤◌, List, [], ◌∷◌, ◌++◌, length, map, sum_by, refl, sym, ap, ◌∙◌, subst, arith}
+use Rattle.persist_model.specs.Region.{Words, Region}
+use Rattle.persist_model.specs.Records.{IsAmong, IsLoser}
+use Rattle.persist_model.specs.Shape.{heap}
+use Rattle.persist_model.specs.State.{State, IsSoundState}
+use Rattle.log_laws.specs.Recovering.{with_heap}
+use Rattle.region_layout.specs.declared.layout.Layout.{Layout}
+use Rattle.region_layout.specs.Layout.{layout_shape, policy_number}
+use Rattle.recovery_run.specs.declared.gates.Gates.{Gates}
+use Rattle.recovery_run.specs.Edges.{KeepsWords, IsHeaderWord}
+use Rattle.recovery_run.specs.Reached.{HasSettled}
+use Rattle.recovery_analysis.specs.declared.changing.Change.{Change}
+use Rattle.recovery_analysis.specs.declared.grouping.Transaction.{Transaction}
+use Rattle.recovery_analysis.specs.Grouping.{number_of}
+use Rattle.recovery_analysis.specs.Changes.{stored}
+use Rattle.recovery_analysis.proofs.Lists.{map_among}
+use Rattle.recovery_passes.specs.Passing.{Begins, IsLeft, Undoes}
+use Rattle.recovery_passes.specs.Stages.{AreQuiet, MayStore}
+
+module _ (layout : Layout) (first : State) (total : ℕ) (redo : List Change) (running : List Transaction) (next : ℕ) (gates : Gates) (region : Region)
+    (h : Begins layout first total redo running next gates region) where
+  -- the values may be stored
+  pub may_store : MayStore (layout_shape layout) first redo
+  may_store = record {
+    above = λ c m. (h.words c m).0;
+    below = λ c m. (h.words c m).1;
+    covered = λ c m. h.redone.covered c m;
+  }
+
+  -- no value is for a word of the header, or of the lists
+  pub stores_above : (a : ℕ) → a < 32 → (c : Change) → IsAmong redo c → a ≡ c.word → ⊥
+  stores_above a lt c m e = let le = (h.words c m).0 in absurd (omega (arith, lt, le, e))
+
+  -- what is to be undone, once all is stored again
+  pub undo_begins : (later : Region) → HasSettled (layout_shape layout) first (with_heap first (stored redo first.words)) later → AreQuiet (layout_shape layout) later →
+      Undoes layout first total running next gates later
+  undo_begins later settled quiet = record {
+    state = with_heap first (stored redo first.words);
+    settled = settled;
+    quiet = quiet;
+    applied = h.redone.applied first.words;
+    next_is = h.next_is;
+    lists = h.lists;
+    news = [];
+    log = refl;
+    of_losers = λ r m. absurd m;
+    losers = λ t loser. (h.losers.each t).1 loser;
+    each = λ t m. (
+        let mine = (h.losers.each t.number).0 (map_among number_of running t m) in
+        record { first = mine; loser = mine; records = (h.each t m).records; need = refl });
+    ascending = h.losers.ascending;
+    spare = h.spare;
+    count = h.count;
+  }

@@ -1,0 +1,55 @@
+// The first stages of a recovery: the lists are repaired, what ended transactions wrote is stored again, and running ones are undone.
+ghost use Rattle.std.specs.Prelude.{◌≡◌, ◌≤◌, ◌+◌, [], ℕ};
+ghost use Rattle.persist_model.specs.State.{State, IsSoundState};
+ghost use Rattle.log_laws.specs.Parts.{EachKeeps};
+ghost use Rattle.region_layout.specs.Layout.{layout_shape};
+ghost use Rattle.recovery_run.specs.Edges.{HasCounted, KeepsWords, IsHeaderWord};
+ghost use Rattle.recovery_passes.specs.Passing.{Begins, Undoes, begin_events};
+ghost use Rattle.recovery_passes.specs.Stages.{AreQuiet, IsIdle};
+
+use crate::lists::repair_all;
+use crate::redo::redo_all;
+use crate::undoing::undo_all;
+use lane_traits::{Device, Done};
+use recovery_analysis::{Change, Transaction};
+use recovery_run::Gates;
+use region_layout::Layout;
+
+/// Repairs the lists, stores these values again and undoes these transactions.
+pub fn bring_back<D: Device>(
+    device: &mut D,
+    layout: Layout,
+    redo: &[Change],
+    running: &[Transaction],
+    next: &mut u64,
+    gates: &mut Gates,
+) -> Done
+    requires { (first : State) × (total : ℕ) × Begins layout first total redo.now running.now next.old gates.old (D.cells device.old)
+        × IsSoundState (layout_shape layout) first × (begin_events layout first.log redo.now running.now ≤ D.spare device.old) }
+    ensures made { result ≡ Done.Made → (first : State) (total : ℕ) → Begins layout first total redo.now running.now next.old gates.old (D.cells device.old)
+        → IsSoundState (layout_shape layout) first → begin_events layout first.log redo.now running.now ≤ D.spare device.old
+        → Undoes layout first total [] next.new gates.new (D.cells device.new) }
+    ensures stopped { result ≡ Done.Stopped → (first : State) (total : ℕ) → Begins layout first total redo.now running.now next.old gates.old (D.cells device.old)
+        → IsSoundState (layout_shape layout) first → begin_events layout first.log redo.now running.now ≤ D.spare device.old
+        → EachKeeps (layout_shape layout) first (D.cells device.new) }
+    ensures counted { (first : State) (total : ℕ) → Begins layout first total redo.now running.now next.old gates.old (D.cells device.old)
+        → IsSoundState (layout_shape layout) first → begin_events layout first.log redo.now running.now ≤ D.spare device.old
+        → HasCounted (begin_events layout first.log redo.now running.now) result (D.counts device.old) (D.counts device.new) }
+    ensures spare_left { (first : State) (total : ℕ) → Begins layout first total redo.now running.now next.old gates.old (D.cells device.old)
+        → IsSoundState (layout_shape layout) first → begin_events layout first.log redo.now running.now ≤ D.spare device.old
+        → D.spare device.old ≤ D.spare device.new + begin_events layout first.log redo.now running.now }
+    ensures header { KeepsWords (IsHeaderWord (layout_shape layout)) (D.cells device.old) (D.cells device.new) }
+    ensures idle { AreQuiet (layout_shape layout) (D.cells device.old) → redo.now ≡ [] → running.now ≡ []
+        → IsIdle result (D.cells device.old) (D.cells device.new) (D.counts device.old) (D.counts device.new) }
+    ensures idle_gates { running.now ≡ [] → gates.new ≡ gates.old }
+{
+    match repair_all(device, layout) {
+        Done::Stopped => return Done::Stopped,
+        Done::Made => {}
+    }
+    match redo_all(device, redo) {
+        Done::Stopped => return Done::Stopped,
+        Done::Made => {}
+    }
+    undo_all(device, layout, running, next, gates)
+}

@@ -1,0 +1,16 @@
+pub mod BucketLists
+pub mod Left
+pub mod Buckets
+pub mod Going
+pub mod Chains
+pub mod Changes
+pub mod Readable
+pub mod Tried
+pub mod Asking
+pub mod Oldest
+pub mod Ordering
+pub mod Needing
+pub mod PartsTried
+pub mod RoomRead
+pub mod LogTried
+pub mod Images

@@ -1,0 +1,5 @@
+pub mod Faulty
+pub mod Walks
+pub mod Rules
+pub mod Rows
+pub mod Logs

@@ -1,0 +1,76 @@
+//! The rule on the room of partitions, and all rules of the log.
+ghost use Rattle.std.specs.Prelude.{◌≡◌, ◌<◌, ◌≤◌, ◌^◌, ◌+◌, ℕ, length, slice_index, OnOk, IfErr};
+ghost use Rattle.persist_model.specs.State.{State, HasRoom};
+ghost use Rattle.persist_model.specs.Sound.{HasState};
+ghost use Rattle.region_layout.specs.Layout.{layout_shape};
+ghost use Rattle.log_partition.specs.Merging.{AreLogsOf};
+ghost use Rattle.sound_check.specs.Faulty.{IfUnsound};
+ghost use Rattle.sound_check.specs.Rows.{log_of_rows};
+ghost use Rattle.sound_check.specs.Logs.{HasAllRoom, LacksRoom, HoldsLog, HasLogFault};
+
+use crate::fault::CheckFault;
+use crate::formed::try_records;
+use crate::numbers::{has_room, keeps_numbers};
+use crate::order::try_order;
+use bucket_log::{Placed, room};
+use log_partition::PartView;
+use persist_model::Look;
+use persist_model::format::list_words;
+use region_layout::{ImageFault, Layout};
+use std::alloc::Global;
+
+/// The number of the rule on room and numbers.
+const ROOM_FAULT: u32 = 9;
+/// The address of a fault of the numbers: the first TAIL.
+const NUMBERS_ADDRESS: u32 = 9;
+
+// How many records a partition has room for.
+fn room_of_part<W: Look>(words: &W, layout: Layout, p: u32) -> u64
+    requires part { p < layout.partitions }
+    requires logs { AreLogsOf layout (length (W.words words.now)) (slice_index (W.words words.now)) }
+    ensures room { (s : State) → HasState (layout_shape layout) (slice_index (W.words words.now)) s → result ≡ s.room p }
+    ensures small { result < 2 ^ 63 }
+{
+    let view = PartView::new(words, layout, p);
+    room(&view, layout, layout.part(p))
+}
+
+// Tries the room of each partition.
+fn try_room<W: Look>(words: &W, layout: Layout, rows: &[Placed]) -> Result<(), ImageFault>
+    requires { AreLogsOf layout (length (W.words words.now)) (slice_index (W.words words.now)) }
+    ensures ok { OnOk result (HasAllRoom (layout_shape layout) (slice_index (W.words words.now)) (log_of_rows rows.now)) }
+    ensures fault { IfErr result (λ found. LacksRoom (layout_shape layout) (slice_index (W.words words.now)) (log_of_rows rows.now) found.fault found.addr) }
+{
+    for p in 0..layout.partitions {
+        if !has_room(layout, rows, p, room_of_part(words, layout, p)) {
+            return Err(ImageFault {
+                fault: ROOM_FAULT,
+                addr: list_words(p) + 1,
+            });
+        }
+    }
+    Ok(())
+}
+
+/// Tries the rules of the log whose records these are: records, order, room and numbers.
+pub(crate) fn try_log<W: Look>(
+    alloc: Global,
+    words: &W,
+    layout: Layout,
+    rows: &[Placed],
+) -> Result<(), CheckFault>
+    requires { AreLogsOf layout (length (W.words words.now)) (slice_index (W.words words.now)) }
+    ensures ok { OnOk result (HoldsLog (layout_shape layout) (slice_index (W.words words.now)) (log_of_rows rows.now)) }
+    ensures fault { IfErr result (λ e. IfUnsound e (HasLogFault (layout_shape layout) (slice_index (W.words words.now)) (log_of_rows rows.now))) }
+{
+    try_records(layout, rows)?;
+    try_order(alloc, layout, rows)?;
+    try_room(words, layout, rows)?;
+    if !keeps_numbers(layout, rows) {
+        return Err(CheckFault::Unsound(ImageFault {
+            fault: ROOM_FAULT,
+            addr: NUMBERS_ADDRESS,
+        }));
+    }
+    Ok(())
+}
