@@ -1,5 +1,6 @@
 //! Recoveries that are stopped at each of their events.
 ghost use Rattle.std.specs.Prelude.{◌≡◌};
+ghost use Rattle.persist_model.specs.Region.{AreSettled};
 
 use crate::images::{Image, layout, words_of};
 use crate::runs::{Case, check, check_again, check_words, loaded, recovered};
@@ -10,34 +11,70 @@ use region_layout::Policy;
 use std::alloc::Global;
 use std::process::Abort;
 use std::test::Fail;
-use word_region::Cut;
+use word_region::{Cut, PlainCells};
 
-// Stops the recovery of these words behind so many events, restarts with the pick, and recovers to the end.
-fn check_stop(rt: &impl Abort, alloc: Global, case: &Case, words: &[u64], stop: u64, pick: Pick) {
-    let mut cut = Cut::new(loaded(rt, alloc, words), stop);
-    match recover(alloc, &mut cut) {
-        Err(RecoverFault::Stopped) => {}
+// Recovers the device through a cut behind so many events, and restarts it with the pick. It also says whether the
+// recovery was stopped.
+fn cut_short(
+    rt: &impl Abort,
+    alloc: Global,
+    region: PlainCells,
+    stop: u64,
+    pick: Pick,
+) -> (PlainCells, bool)
+    requires { AreSettled (⟦<PlainCells as Device>⟧.cells region) }
+    ensures { AreSettled (⟦<PlainCells as Device>⟧.cells result.0) }
+{
+    let mut cut = Cut::new(region, stop);
+    let is_stopped = match recover(alloc, &mut cut) {
+        Ok(_) => false,
+        Err(RecoverFault::Stopped) => true,
         Err(fault) => panic!(rt; "{fault:?} at {stop}"),
-        Ok(_) => panic!(rt; "not stopped at {stop}"),
-    }
+    };
     let mut region = cut.into_inner();
-    assert_eq!(rt; region.events(), stop);
     region.restart(pick);
-    recovered(rt, alloc, &mut region);
-    check_words(rt, &region, case.after);
-    check_again(rt, alloc, &mut region);
+    (region, is_stopped)
 }
 
-// The whole recovery, and each stop.
+// Recovers the device to the end, and once more.
+fn finish(rt: &impl Abort, alloc: Global, region: &mut PlainCells, case: &Case)
+    requires { AreSettled (⟦<PlainCells as Device>⟧.cells region.old) }
+{
+    recovered(rt, alloc, region);
+    check_words(rt, region, case.after);
+    check_again(rt, alloc, region);
+}
+
+// A stop behind so many events.
+fn check_stop(rt: &impl Abort, alloc: Global, case: &Case, words: &[u64], stop: u64, pick: Pick) {
+    let region = loaded(rt, alloc, words);
+    let (mut region, is_stopped) = cut_short(rt, alloc, region, stop, pick);
+    assert!(rt; is_stopped, "at {stop}");
+    assert_eq!(rt; region.events(), stop);
+    finish(rt, alloc, &mut region, case);
+}
+
+// Stops in a row, each one event later than the one before.
+fn check_row(rt: &impl Abort, alloc: Global, case: &Case, words: &[u64], pick: Pick) {
+    let mut region = loaded(rt, alloc, words);
+    for stop in 0..case.events {
+        let (left, _) = cut_short(rt, alloc, region, stop, pick);
+        region = left;
+    }
+    finish(rt, alloc, &mut region, case);
+}
+
+// The whole recovery, each stop, and stops in a row.
 fn check_stops(rt: &impl Abort, alloc: Global, case: &Case) -> Result<(), Fail>
     requires { case.now.image.layout.structures ≡ 1 }
 {
     check(rt, alloc, case)?;
     let words = words_of(alloc, &case.image)?;
-    for stop in 0..case.events {
-        for pick in [Pick::Old, Pick::New, Pick::Mix(1), Pick::Mix(2)] {
+    for pick in [Pick::Old, Pick::New, Pick::Mix(1), Pick::Mix(2)] {
+        for stop in 0..case.events {
             check_stop(rt, alloc, case, &words, stop, pick);
         }
+        check_row(rt, alloc, case, &words, pick);
     }
     Ok(())
 }
