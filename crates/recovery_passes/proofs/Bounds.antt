@@ -19,7 +19,8 @@ use Rattle.recovery_undo.specs.Undoing.{undo_events}
 use Rattle.recovery_undo.proofs.Going.{need_some}
 use Rattle.recovery_undo.specs.Numbers.{next_lsn}
 use Rattle.recovery_analysis.specs.Works.{next_lsn as next_of_log}
-use Rattle.recovery_passes.specs.Passing.{gates_len, undo_all_events, begin_events, clear_events, Begins}
+use Rattle.recovery_passes.specs.Passing.{gates_len, undo_all_events, begin_events, clear_events, Begins, Undoes, HasNoGates}
+use Rattle.recovery_passes.proofs.Closed.{no_items}
 use Rattle.recovery_passes.specs.Plans.{IsPlanned}
 
 abbrev records_len : List Transaction → ℕ
@@ -99,3 +100,37 @@ module _ (layout : Layout) (first : State) (redo : List Change) (running : List 
           let all = all_events layout.cells (length redo) (records_len running) (length running) (length first.log) (sum_by (need_in_log first.log) running) 0 layout.buckets h.work.passes less in
           let count = h.work.count in
           omega (arith, undone, all, same, is, count)
+
+-- behind the undo there are as many gates as were planned
+pub total_is : (layout : Layout) (first : State) (total next : ℕ) (gates : Gates) (region : Region) → Undoes layout first total [] next gates region → gates_len gates ≡ total
+total_is layout first total next gates region h = let count = h.count in omega (arith, count)
+
+no_numbers : (ts : List Transaction) → ((n : ℕ) → IsAmong (map number_of ts) n → ⊥) → ts ≡ []
+no_numbers [] none = refl
+no_numbers (t ∷ ts) none = absurd (none t.number (inl refl))
+
+-- where there is no record there is nothing to do
+module _ (layout : Layout) (first : State) (redo : List Change) (running : List Transaction) (checkpoint : Bool) (next : ℕ) (gates : Gates) (most : ℕ) (region : Region)
+    (h : IsPlanned layout first redo running checkpoint next gates most region) (empty : first.log ≡ []) where
+  pub none_redone : redo ≡ []
+  none_redone = h.work.redo_none empty
+
+  pub none_running : running ≡ []
+  none_running = no_numbers running (λ n m. (let loser = (h.work.undo.each n).0 m in subst (λ l. IsAmong l loser.0.0) empty loser.0.1))
+
+  pub none_wanted : checkpoint ≡ false
+  none_wanted = by_value checkpoint (λ e. (let both = h.work.checkpoint.0 e in subst (λ l. IsAmong l both.1.0) empty both.1.1))
+    where
+      by_value : (b : Bool) → (b ≡ true → ⊥) → b ≡ false
+      by_value true none = absurd (none refl)
+      by_value false none = refl
+
+  pub no_gates : vec_len gates.gates ≡ length gates.gates.items → vec_len gates.ends ≡ length gates.ends.items → vec_len gates.checkpoints ≡ length gates.checkpoints.items → HasNoGates gates
+  no_gates a b c =
+      let count = h.work.count in
+      let none : length first.log ≡ 0 = ap length empty in
+      record {
+        gates = no_items gates.gates.items (omega (arith, a, count, none));
+        ends = no_items gates.ends.items (omega (arith, b, count, none));
+        checkpoints = no_items gates.checkpoints.items (omega (arith, c, count, none));
+      }

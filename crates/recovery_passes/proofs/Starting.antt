@@ -15,6 +15,8 @@ use Rattle.recovery_analysis.specs.declared.grouping.Transaction.{Transaction}
 use Rattle.recovery_analysis.specs.Grouping.{number_of}
 use Rattle.recovery_analysis.specs.Changes.{stored}
 use Rattle.recovery_analysis.proofs.Lists.{map_among}
+use Rattle.recovery_run.proofs.Reaching.{settled_reached}
+use Rattle.recovery_passes.proofs.Closed.{quiet_kept}
 use Rattle.recovery_passes.specs.Passing.{Begins, IsLeft, Undoes}
 use Rattle.recovery_passes.specs.Stages.{AreQuiet, MayStore}
 
@@ -53,3 +55,11 @@ module _ (layout : Layout) (first : State) (total : ℕ) (redo : List Change) (r
     spare = h.spare;
     count = h.count;
   }
+
+  pub undoes_at : (middle later : Region) → layout.partitions ≤ 3 → HasSettled (layout_shape layout) first first middle → AreQuiet (layout_shape layout) middle →
+      HasSettled (layout_shape layout) first (with_heap first (stored redo first.words)) later → KeepsWords (λ a. (c : Change) → IsAmong redo c → a ≡ c.word → ⊥) middle later →
+      Undoes layout first total running next gates later
+  undoes_at middle later few settled quiet there keeps =
+      undo_begins later there
+      (quiet_kept (λ a. (c : Change) → IsAmong redo c → a ≡ c.word → ⊥) (layout_shape layout) first first (with_heap first (stored redo first.words)) middle later
+      (settled_reached (layout_shape layout) first first middle settled) there keeps (λ a lt. stores_above a lt) few quiet)

@@ -1,5 +1,5 @@
 // All events of a recovery.
-ghost use Rattle.std.specs.Prelude.{◌≡◌, ◌≤◌, ◌+◌, [], ℕ};
+ghost use Rattle.std.specs.Prelude.{◌≡◌, ◌≤◌, ◌<◌, ◌+◌, ◌^◌, [], ℕ};
 ghost use Rattle.persist_model.specs.State.{State};
 ghost use Rattle.log_laws.specs.Parts.{EachKeeps};
 ghost use Rattle.region_layout.specs.Layout.{layout_shape};
@@ -26,12 +26,12 @@ pub fn make_events<D: Device>(
     next: u64,
     gates: Gates,
 ) -> Done
-    requires { (first : State) × (most : ℕ) × IsPlanned layout first redo.now running.now checkpoint next gates most (D.cells device.old) × (most ≤ D.spare device.old) }
-    ensures made { result ≡ Done.Made → (first : State) (most : ℕ) → IsPlanned layout first redo.now running.now checkpoint next gates most (D.cells device.old)
+    requires { (first : State) × (most : ℕ) × IsPlanned layout first redo.now running.now checkpoint next gates most (D.cells device.old) × (most ≤ D.spare device.old) × (most < 2 ^ 64) }
+    ensures made { result ≡ Done.Made → (first : State) (most : ℕ) → IsPlanned layout first redo.now running.now checkpoint next gates most (D.cells device.old) → most ≤ D.spare device.old
         → IsCleared layout first (D.cells device.new) }
-    ensures stopped { result ≡ Done.Stopped → (first : State) (most : ℕ) → IsPlanned layout first redo.now running.now checkpoint next gates most (D.cells device.old)
+    ensures stopped { result ≡ Done.Stopped → (first : State) (most : ℕ) → IsPlanned layout first redo.now running.now checkpoint next gates most (D.cells device.old) → most ≤ D.spare device.old
         → EachKeeps (layout_shape layout) first (D.cells device.new) }
-    ensures counted { (first : State) (most : ℕ) → IsPlanned layout first redo.now running.now checkpoint next gates (most + 1) (D.cells device.old)
+    ensures counted { (first : State) (most : ℕ) → IsPlanned layout first redo.now running.now checkpoint next gates (most + 1) (D.cells device.old) → most + 1 ≤ D.spare device.old
         → HasCounted most result (D.counts device.old) (D.counts device.new) }
     ensures header { KeepsWords (IsHeaderWord (layout_shape layout)) (D.cells device.old) (D.cells device.new) }
     ensures idle { (first : State) (most : ℕ) → IsPlanned layout first redo.now running.now checkpoint next gates most (D.cells device.old) → first.log ≡ []
