@@ -65,19 +65,20 @@ fn what_ended_is_stored_again(rt: HostRuntime) -> Result<(), Fail> {
             // 2 + 3 + 2 of the closing
             events: 7,
         },
-        // one transaction ended, and another runs
+        // one transaction ended, and another runs, which wrote its word twice
         Row {
             records: &[
                 (40, [1, 1, 1, 577, 0, 5, 0, 0]),
                 (48, [2, 1, 4, 0, 0, 0, 0, 1]),
-                (56, [3, 2, 1, 578, 3, 9, 0, 0]),
+                (56, [3, 2, 1, 578, 3, 6, 0, 0]),
+                (64, [4, 2, 1, 578, 6, 9, 3, 0]),
             ],
             words: &[(578, 9)],
             after: &[(577, 5), (578, 3)],
             winners: &[1],
             losers: &[2],
-            // 1 + 1 of the redo, 10 + 10 + 1 + 1 + 10 of the undo, 10 of the checkpoint record, 5 + 3 + 2 of the closing
-            events: 54,
+            // 1 + 1 of the redo, 10 + 11 + 11 + 1 + 10 of the undo, 10 of the checkpoint record, 7 + 3 + 2 of the closing
+            events: 67,
         },
         // a rollback that had ended is stored again too: its compensation comes last
         Row {

@@ -137,3 +137,35 @@ fn a_recovery_in_nine_buckets_is_stopped_anywhere(rt: HostRuntime) -> Result<(),
         },
     )
 }
+
+// Commits leave their words to a checkpoint. Transaction 1 ended before the last one, transaction 2 behind it, and
+// transaction 3 runs.
+#[test]
+fn a_recovery_with_a_checkpoint_is_stopped_anywhere(rt: HostRuntime) -> Result<(), Fail> {
+    check_stops(
+        &rt,
+        rt.alloc(),
+        &Case {
+            image: Image {
+                layout: layout(Policy::NoForce, 16, 4, 1),
+                chain: &[32],
+                records: &[
+                    (40, [1, 1, 1, 577, 0, 5, 0, 0]),
+                    (48, [2, 1, 4, 0, 0, 0, 0, 1]),
+                    (56, [3, 0, 5, 0, 0, 0, 0, 0]),
+                    (64, [4, 2, 1, 577, 5, 8, 0, 0]),
+                    (72, [5, 3, 1, 578, 3, 6, 0, 0]),
+                    (80, [6, 2, 6, 608, 1, 0, 0, 0]),
+                    (88, [7, 3, 1, 578, 6, 9, 5, 0]),
+                    (96, [8, 2, 4, 0, 0, 0, 0, 1]),
+                ],
+                words: &[(577, 5), (578, 9), (592, 1), (608, 1)],
+            },
+            after: &[(577, 8), (578, 3), (592, 1), (608, 0)],
+            winners: &[1, 2],
+            losers: &[3],
+            // 2 + 1 of the redo, 10 + 11 + 11 + 1 + 10 of the undo, 10 of the checkpoint record, 9 + 4 + 3 of the closing
+            events: 72,
+        },
+    )
+}
