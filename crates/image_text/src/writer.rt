@@ -1,5 +1,5 @@
 //! Writing an image text.
-ghost use Rattle.std.specs.Prelude.{◌≡◌, ◌<◌, ◌++◌, ◌∷◌, [], length, decimal, IfOk, OnOk};
+ghost use Rattle.std.specs.Prelude.{◌≡◌, ℕ, ◌<◌, ◌^◌, ◌++◌, ◌∷◌, [], length, slice_index, decimal, IfOk, OnOk};
 ghost use Rattle.std.specs.Char.{digit_char};
 ghost use Rattle.image_text.specs.Text.{text_of, hexadecimal};
 ghost use Rattle.image_text.specs.Written.{size_line, kind_line, kind_lines, word_line, word_lines, image_text};
@@ -11,7 +11,9 @@ use std::alloc::Global;
 
 /// The text of these words, with a `map` line for each kind.
 pub fn write_image<W: Look>(alloc: Global, words: &W, kinds: &[Kind]) -> Result<List<u8>, NoMemory>
-    ensures { IfOk result (λ text. text ≡ image_text kinds.now (W.words words.now)) }
+    ensures text { IfOk result (λ text. text ≡ image_text kinds.now (W.words words.now)) }
+    // What was read are values of 64 bits.
+    ensures fit { OnOk result ((a : ℕ) → a < length (W.words words.now) → slice_index (W.words words.now) a < 2 ^ 64) }
 {
     let mut text = List::new(alloc);
     put_size(&mut text, words.size())?;
@@ -65,7 +67,8 @@ fn line_of_kind(kind: Kind) -> &'static [u8]
 
 /// Puts a line for each word that isn't 0.
 fn put_words<W: Look>(text: &mut List<u8>, words: &W) -> Result<(), NoMemory>
-    ensures { OnOk result (text.new ≡ text.old ++ text_of (word_lines 0 (W.words words.now))) }
+    ensures text { OnOk result (text.new ≡ text.old ++ text_of (word_lines 0 (W.words words.now))) }
+    ensures fit { OnOk result ((a : ℕ) → a < length (W.words words.now) → slice_index (W.words words.now) a < 2 ^ 64) }
 {
     for address in 0..words.size() {
         let value = words.word(address);

@@ -8,3 +8,4 @@ pub mod Readying
 pub mod Starting
 pub mod Bounds
 pub mod ClearBounds
+pub mod Results

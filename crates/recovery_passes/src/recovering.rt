@@ -1,4 +1,4 @@
-ghost use Rattle.std.specs.Prelude.{◌≡◌, ◌+◌, ℕ, Err, OnOk, IfOk};
+ghost use Rattle.std.specs.Prelude.{◌≡◌, ◌≤◌, ◌<◌, ◌+◌, ◌^◌, ℕ, Err, OnOk, IfOk};
 ghost use Rattle.persist_model.specs.Region.{AreSettled};
 ghost use Rattle.persist_model.specs.Shape.{shape_of};
 ghost use Rattle.persist_model.specs.Sound.{IsSound};
@@ -60,6 +60,16 @@ pub struct Recovered {
     pub events: u64,
 }
 
+// Makes room for so many stores.
+fn make_room<D: Device>(device: &mut D, stores: u64) -> Result<(), NoMemory>
+    ensures fits { stores < 2 ^ 64 }
+    ensures spare { OnOk result (stores ≤ D.spare device.new) }
+    ensures cells { D.cells device.new ≡ D.cells device.old }
+    ensures counts { D.counts device.new ≡ D.counts device.old }
+{
+    device.reserve(stores)
+}
+
 /// Recovers a device whose words are settled: each heap word then has its standing value, and the log is empty.
 ///
 /// It repairs the lists of buckets, stores again what ended transactions wrote and a stop may have lost, takes back what
@@ -109,7 +119,7 @@ pub fn recover<D: Device>(alloc: Global, device: &mut D) -> Result<Recovered, Re
         next,
         most,
     } = work;
-    device.reserve(most)?;
+    make_room(device, most)?;
     let before = device.events();
     let done = make_events(
         device,

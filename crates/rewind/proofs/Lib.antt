@@ -4,4 +4,6 @@ pub mod Runs
 pub mod Loaded
 pub mod Inputs
 pub mod ServedLimits
+pub mod Recoveries
+pub mod Dues
 pub mod Examples

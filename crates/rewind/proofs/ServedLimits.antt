@@ -1,5 +1,5 @@
 -- A served script is within the limits, and whether a script is served is read from its meaning.
-use Rattle.std.proofs.Common.{◌≡◌, ℕ, ◌+◌, ◌<◌, ◌≤◌, List, [], ◌∷◌, ◌++◌, length, Bool, true, false, ◌&&◌, ◌==◌, not, nat_le, refl, sym, ap, subst, ◌∙◌, arith, inl, inr}
+use Rattle.std.proofs.Common.{◌≡◌, ℕ, ◌≤◌, List, [], ◌∷◌, length, Bool, true, false, ◌&&◌, ◌==◌, not, nat_le, refl, sym, ap, subst, arith}
 use Rattle.std.specs.List.{All, list_all, flat_map, slice_index_or}
 use Rattle.std.proofs.lemmas.List.Elements.{All-nil, All-cons, All-head, All-tail, All-append}
 use Rattle.std.proofs.lemmas.List.Sums.{sum_by-cons}
@@ -19,8 +19,7 @@ use Rattle.rewind_script.specs.Commands.{live_step}
 use Rattle.rewind_script.specs.Grammar.{Meaning, meaning_of}
 use Rattle.rewind_script.specs.Limits.{AllFit, is_one, IsItem, IsLaneText, IsWithinLimits, count_transactions, count_in_lanes}
 use Rattle.rewind_script.specs.Served.{is_force, is_one_cells, is_served_lane, is_served}
-use Rattle.rewind.specs.declared.script.Put.{Put}
-use Rattle.rewind.specs.Served.{serves, put_of, puts_of, transaction_of, lane_of, script_of, IsPut, IsTransaction, IsInLimits}
+use Rattle.rewind.specs.Served.{serves, puts_of, transaction_of, lane_of, IsPut, IsTransaction, IsInLimits}
 
 -- ---- what is served
 

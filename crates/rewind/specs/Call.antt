@@ -1,6 +1,6 @@
 -- What a call of the program did: what it took and wrote, the status with its cause, and what became of the region.
-use Rattle.std.specs.Prelude.{◌≡◌, ◌⊎◌, ℕ, ◌<◌, ◌≤◌, List, [], ◌∷◌, ◌++◌, length, Option, Some, None, codes, IfSome, if◌then◌else◌, nat_lt}
-use Rattle.persist_model.specs.Region.{Region}
+use Rattle.std.specs.Prelude.{◌≡◌, ◌⊎◌, ℕ, ◌<◌, ◌≤◌, List, [], ◌++◌, length, Option, Some, None, Ok, Err, codes, decimal, IfSome, if◌then◌else◌, nat_lt}
+use Rattle.persist_model.specs.Region.{Words, Region}
 use Rattle.lane_traits.specs.Stream.{HasRisen, TakesPart}
 use Rattle.lane_traits.specs.Device.{Counts, since_load}
 use Rattle.rewind.specs.declared.status.Status.{Status}
@@ -8,19 +8,24 @@ use Rattle.rewind.specs.declared.status.Status.TheVariants as status
 use Rattle.rewind.specs.declared.script.Script.{Script}
 use Rattle.rewind.specs.declared.replay.Outcome.{Outcome}
 use Rattle.rewind.specs.declared.replay.Outcome.TheVariants as outcome
+use Rattle.rewind.specs.declared.words.Job.{Job}
+use Rattle.rewind.specs.declared.words.Job.TheVariants as job
+use Rattle.image_runner.specs.declared.runner.Wanted.{Wanted}
+use Rattle.image_runner.specs.declared.runner.Ended.{Ended}
+use Rattle.image_runner.specs.declared.runner.Ended.TheVariants as ended
+use Rattle.image_runner.specs.declared.runner.Wanted.TheVariants as want
+use Rattle.image_text.specs.declared.image.Image.{Image}
+use Rattle.image_text.specs.declared.image.TextFault.TheVariants.{Line}
+use Rattle.image_text.specs.Grammar.{image as image_of_text}
+use Rattle.persist_model.specs.Shape.{shape_of, heap}
+use Rattle.image_runner.specs.Ends.{words_of, AreStanding, IsAdmitted, IsRefusedBy, IsEndOf}
+use Rattle.image_runner.specs.Maps.{AreMaps, IsFirstBroken}
+use Rattle.rewind.specs.Words.{AreRun, AreWordsOf, AreKnown, SCRIPT_LIMIT, IMAGE_LIMIT, limit_of}
 use Rattle.rewind_script.specs.Grammar.{script as meaning_of_text}
 use Rattle.rewind.specs.declared.served.Wrong.{Wrong}
 use Rattle.rewind.specs.Served.{script as script_of_text, IsWrong, wrong_text, IsInLimits}
 use Rattle.rewind.specs.History.{contents, history, first_names, report, stop_report, ended_line}
 use Rattle.rewind.specs.Events.{event_count, StopsAfter, with_events, has_stopped, HasNoEvent, AreCells, root_of}
-
--- the most bytes of an input
-abbrev pub INPUT_LIMIT : ℕ
-INPUT_LIMIT = 1048576
-
--- the words are `run`
-abbrev pub AreRun : List (List ℕ) → Type 0
-AreRun words = words ≡ codes "run" ∷ []
 
 -- This text was taken from the front of what was left. Nothing is said of a source that doesn't tell what is left.
 abbrev pub Took : Option (List ℕ) → List ℕ → Option (List ℕ) → Type 0
@@ -49,33 +54,38 @@ pub record IsUntouched (call : Call) : Type 0 where
   pub region : call.region_after ≡ call.region
   pub counts : call.counts_after ≡ call.counts
 
--- the words are right and this text was the whole input
-pub record HasRead (call : Call) (text : List ℕ) : Type 0 where
-  pub words : AreRun call.words
+-- the words are those of the job, and this text was the whole input
+pub record HasReadFor (job : Job) (call : Call) (text : List ℕ) : Type 0 where
+  pub words : AreWordsOf job call.words
   pub input : TookAll call.left text call.left_after
-  pub short : length text ≤ INPUT_LIMIT
+  pub short : length text ≤ limit_of job
 
--- The words aren't right, and nothing was read.
+abbrev pub HasRead : Call → List ℕ → Type 0
+HasRead call text = HasReadFor job.Run call text
+
+-- The words are those of no job, and nothing was read.
 pub record IsMisused (call : Call) : Type 0 where
-  pub words : ¬ (AreRun call.words)
+  pub words : ¬ (AreKnown call.words)
   pub unread : call.left_after ≡ call.left
   pub untouched : IsUntouched call
 
--- The source's count of faults rose, before more bytes were read than an input may have.
+-- The source's count of faults rose, before more bytes were read than the input may have.
 pub record HasReadFault (call : Call) : Type 0 where
-  pub words : AreRun call.words
+  pub job : Job
+  pub words : AreWordsOf job call.words
   pub text : List ℕ
   pub took : Took call.left text call.left_after
-  pub short : length text ≤ INPUT_LIMIT
+  pub short : length text ≤ limit_of job
   pub rose : HasRisen call.faults call.faults_after
   pub untouched : IsUntouched call
 
--- More bytes were read than an input may have.
+-- More bytes were read than the input may have.
 pub record IsTooLong (call : Call) : Type 0 where
-  pub words : AreRun call.words
+  pub job : Job
+  pub words : AreWordsOf job call.words
   pub text : List ℕ
   pub took : Took call.left text call.left_after
-  pub long : INPUT_LIMIT < length text
+  pub long : limit_of job < length text
   pub untouched : IsUntouched call
 
 -- All was read, and the text isn't a script, or none that the program runs so far.
@@ -86,10 +96,10 @@ pub record IsMisformed (call : Call) (wrong : Wrong) : Type 0 where
   pub wrong_is : IsWrong (meaning_of_text text) wrong
   pub untouched : IsUntouched call
 
--- Memory ran out before the first event.
-pub record IsExhausted (call : Call) : Type 0 where
-  pub words : AreRun call.words
-  pub no_event : HasNoEvent call.counts call.counts_after
+-- Memory ran out while the input was read, or before the first event of a script.
+pub data IsExhausted (call : Call) : Type 0 where
+  unread : AreKnown call.words → IsUntouched call → IsExhausted call
+  unmade : AreRun call.words → HasNoEvent call.counts call.counts_after → IsExhausted call
 
 -- The device stopped: after the fences of the first `commits` transactions, and before that of the next. The region was
 -- loaded before the first event, and each event is one of a put or a commit.
@@ -119,6 +129,13 @@ pub record IsDone (call : Call) (s : Script) : Type 0 where
   pub says : script_of_text text ≡ Some s
   pub run : IsWholeRun s call.counts call.counts_after call.region_after
 
+-- All was read, and the recovery of the text's image came to this end.
+pub record HasRecovered (call : Call) (end : Ended) : Type 0 where
+  pub wanted : Wanted
+  pub text : List ℕ
+  pub read : HasReadFor (job.Recover wanted) call text
+  pub end_is : IsEndOf wanted text call.region call.counts call.region_after call.counts_after end
+
 -- what a call came to, and its cause
 abbrev pub IsCauseOf : Outcome → Call → Type 0
 IsCauseOf outcome.Usage call = IsMisused call
@@ -128,6 +145,7 @@ IsCauseOf (outcome.Wrong wrong) call = IsMisformed call wrong
 IsCauseOf outcome.NoMemory call = IsExhausted call
 IsCauseOf (outcome.Stopped commits) call = HasStopped call commits
 IsCauseOf (outcome.Done s) call = IsDone call s
+IsCauseOf (outcome.Recovery end) call = HasRecovered call end
 
 -- what the text of a whole input came to
 abbrev pub IsTextOutcome : List ℕ → Region → Counts → Region → Counts → Outcome → Type 0
@@ -142,6 +160,14 @@ abbrev pub AreLimitsOf : Outcome → Type 0
 AreLimitsOf (outcome.Done s) = IsInLimits s.buckets s.blocks s.transactions
 AreLimitsOf _ = Unit {0}
 
+abbrev pub status_of_end : Ended → Status
+status_of_end (ended.Misread line) = status.Script
+status_of_end (ended.Unsound found) = status.Unsound
+status_of_end ended.Stopped = status.Stopped
+status_of_end (ended.Broken root) = status.Unsound
+status_of_end ended.NoMemory = status.NoMemory
+status_of_end (ended.Done text) = status.Done
+
 abbrev pub status_of : Outcome → Status
 status_of outcome.Usage = status.Usage
 status_of outcome.ReadFault = status.ReadFault
@@ -150,6 +176,24 @@ status_of (outcome.Wrong wrong) = status.Script
 status_of outcome.NoMemory = status.NoMemory
 status_of (outcome.Stopped commits) = status.Stopped
 status_of (outcome.Done s) = status.Done
+status_of (outcome.Recovery end) = status_of_end end
+
+-- script LINE image
+abbrev pub misread_text : ℕ → List ℕ
+misread_text line = codes "script " ++ (decimal line ++ codes " image\n")
+
+-- unsound FAULT ADDR
+abbrev pub unsound_text : ℕ → ℕ → List ℕ
+unsound_text fault a = codes "unsound " ++ (decimal fault ++ (codes " " ++ (decimal a ++ codes "\n")))
+
+-- what is written of an image; fault 10 is a structure that is no map
+abbrev pub text_of_end : Ended → List ℕ
+text_of_end (ended.Misread line) = misread_text line
+text_of_end (ended.Unsound found) = unsound_text found.fault found.addr
+text_of_end ended.Stopped = ended_line (codes "stopped")
+text_of_end (ended.Broken root) = unsound_text 10 root
+text_of_end ended.NoMemory = []
+text_of_end (ended.Done text) = text
 
 -- what is written
 abbrev pub text_of : Outcome → List ℕ
@@ -160,6 +204,7 @@ text_of (outcome.Wrong wrong) = wrong_text wrong
 text_of outcome.NoMemory = []
 text_of (outcome.Stopped commits) = stop_report (first_names commits)
 text_of (outcome.Done s) = report (history s.transactions) (contents s.transactions)
+text_of (outcome.Recovery end) = text_of_end end
 
 -- the sink, before a call and after
 pub record Written : Type 0 where
@@ -198,6 +243,18 @@ abbrev pub due_of_script : Option Script → Status
 due_of_script None = status.Script
 due_of_script (Some s) = status.Done
 
--- The status of a call whose input are these bytes, where no count of faults rises and the device doesn't stop.
+-- The status of `run` whose input are these bytes, where no count of faults rises and the device doesn't stop.
 abbrev pub due : List ℕ → Status
-due bytes = if nat_lt INPUT_LIMIT (length bytes) then status.TooLong else due_of_script (script_of_text bytes)
+due bytes = if nat_lt SCRIPT_LIMIT (length bytes) then status.TooLong else due_of_script (script_of_text bytes)
+
+-- The status of `recover` and of `recover image` whose input are these bytes, where no count of faults rises and the device
+-- doesn't stop.
+pub data IsDue (wanted : Wanted) (bytes : List ℕ) (s : Status) : Type 0 where
+  long : IMAGE_LIMIT < length bytes → s ≡ status.TooLong → IsDue wanted bytes s
+  misread : length bytes ≤ IMAGE_LIMIT → (line : ℕ) → image_of_text bytes ≡ Err (Line line) → s ≡ status.Script → IsDue wanted bytes s
+  refused : length bytes ≤ IMAGE_LIMIT → (i : Image) → image_of_text bytes ≡ Ok i → (fault a : ℕ) → IsRefusedBy i fault a → s ≡ status.Unsound → IsDue wanted bytes s
+  broken : length bytes ≤ IMAGE_LIMIT → (i : Image) → image_of_text bytes ≡ Ok i → IsAdmitted i → wanted ≡ want.Report
+      → (z : Words) → AreStanding (words_of i) z → (a : ℕ) → IsFirstBroken (heap (shape_of (words_of i))) z i.kinds a → s ≡ status.Unsound → IsDue wanted bytes s
+  reported : length bytes ≤ IMAGE_LIMIT → (i : Image) → image_of_text bytes ≡ Ok i → IsAdmitted i
+      → (z : Words) → AreStanding (words_of i) z → AreMaps (heap (shape_of (words_of i))) z i.kinds → s ≡ status.Done → IsDue wanted bytes s
+  imaged : length bytes ≤ IMAGE_LIMIT → (i : Image) → image_of_text bytes ≡ Ok i → IsAdmitted i → wanted ≡ want.Image → s ≡ status.Done → IsDue wanted bytes s

@@ -2,4 +2,5 @@ pub mod Served
 pub mod History
 pub mod Table
 pub mod Events
+pub mod Words
 pub mod Call

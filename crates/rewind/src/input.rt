@@ -1,13 +1,10 @@
 //! Reads the whole input.
 ghost use Rattle.std.specs.Prelude.{◌≡◌, ◌≢◌, ◌+◌, ◌<◌, ◌≤◌, ℕ, List, Option, length, vec_len, IfOk, OnOk, Ok, Err};
 ghost use Rattle.lane_traits.specs.Stream.{HasRisen};
-ghost use Rattle.rewind.specs.Call.{Took, TookAll, INPUT_LIMIT};
+ghost use Rattle.rewind.specs.Call.{Took, TookAll};
 
 use lane_traits::{Failed, Source};
 use std::alloc::{AllocError, Global};
-
-/// The most bytes of an input.
-const LIMIT: usize = 1_048_576;
 
 /// How many bytes are asked for at once.
 const CHUNK: usize = 4096;
@@ -31,17 +28,18 @@ impl From<AllocError> for Unread {
     }
 }
 
-/// The bytes up to the end of the source.
-pub fn read_input<S: Source>(alloc: Global, source: &mut S) -> Result<Vec<u8>, Unread>
+/// The bytes up to the end of the source, where they are no more than the limit.
+pub fn read_input<S: Source>(alloc: Global, source: &mut S, limit: usize) -> Result<Vec<u8>, Unread>
+    requires { limit ≤ 33554432 }
     ensures whole { IfOk result (λ text. TookAll (S.left source.old) text.items (S.left source.new)) }
-    ensures short { IfOk result (λ text. length text.items ≤ INPUT_LIMIT) }
+    ensures short { IfOk result (λ text. length text.items ≤ limit) }
     ensures failed { result ≡ Err Unread.Failed → HasRisen (S.faults source.old) (S.faults source.new) }
-    ensures part { result ≡ Err Unread.Failed → (text : List ℕ) × Took (S.left source.old) text (S.left source.new) × (length text ≤ INPUT_LIMIT) }
-    ensures too_long { result ≡ Err Unread.TooLong → (text : List ℕ) × Took (S.left source.old) text (S.left source.new) × (INPUT_LIMIT < length text) }
+    ensures part { result ≡ Err Unread.Failed → (text : List ℕ) × Took (S.left source.old) text (S.left source.new) × (length text ≤ limit) }
+    ensures too_long { result ≡ Err Unread.TooLong → (text : List ℕ) × Took (S.left source.old) text (S.left source.new) × (limit < length text) }
 {
     let mut text = Vec::new(alloc);
     let mut chunk = vec![in alloc; 0; CHUNK]?;
-    while text.len() <= LIMIT {
+    while text.len() <= limit {
         match read_chunk(source, &mut chunk, &mut text) {
             Err(unread) => return Err(unread),
             Ok(0) => return Ok(text),

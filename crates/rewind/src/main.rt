@@ -1,6 +1,7 @@
 //! `rewind` runs a script on a region of words and writes a report.
 #![tactic(auto)]
 
+mod image_report;
 mod input;
 mod replay;
 mod report;

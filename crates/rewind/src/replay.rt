@@ -1,21 +1,34 @@
 //! Replays the script of an input.
-ghost use Rattle.std.specs.Prelude.{◌≡◌, ◌≢◌, ◌⊎◌, ◌+◌, ◌≤◌, ℕ, List, Some, map, string_bytes, IfOk};
+ghost use Rattle.std.specs.Prelude.{◌≡◌, ◌≢◌, ◌⊎◌, ◌+◌, ◌^◌, ◌≤◌, ℕ, List, Some, Ok, length, map, string_bytes, IfOk};
 ghost use Rattle.lane_traits.specs.Stream.{HasRisen};
 ghost use Rattle.lane_traits.specs.Device.{since_load};
 ghost use Rattle.rewind.specs.Served.{script as script_of_text};
 ghost use Rattle.rewind.specs.Events.{event_count};
-ghost use Rattle.rewind.specs.Call.{IsCauseOf, IsTextOutcome, AreLimitsOf, IsAnswerTo, AreRun, HasRun, status_of, text_of, due};
+ghost use Rattle.rewind.specs.Words.{AreRun, AreKnown, AreWordsOf};
+ghost use Rattle.rewind.specs.Call.{IsCauseOf, IsTextOutcome, AreLimitsOf, IsAnswerTo, HasRun, HasReadFor, status_of, status_of_end, text_of, text_of_end, due, IsDue};
+ghost use Rattle.image_text.specs.declared.image.Image.{Image};
+ghost use Rattle.image_text.specs.Grammar.{image as image_of_text};
+ghost use Rattle.image_runner.specs.Ends.{words_of};
+ghost use Rattle.recovery_passes.specs.Recovered.{IsFinished};
 
+use crate::image_report::end_text;
 use crate::input::{Unread, read_input};
 use crate::report::{report_text, stop_text, wrong_text};
 use crate::run::{Ran, run_script};
 use crate::script::Script;
 use crate::served::{Refusal, Wrong, read_served};
 use crate::status::Status;
-use crate::words::are_run;
+use crate::words::{Job, job_of};
+use image_runner::{Ended, Wanted, recover_text};
 use lane_traits::{Device, Failed, Sink, Source};
 use persist_model::NoMemory;
 use std::alloc::Global;
+
+/// The most bytes of a script.
+const SCRIPT_LIMIT: usize = 1_048_576;
+
+/// The most bytes of an image text.
+const IMAGE_LIMIT: usize = 33_554_432;
 
 /// What a call came to.
 #[derive(Drop)]
@@ -29,6 +42,22 @@ pub enum Outcome {
     /// The fences of so many transactions were made.
     Stopped { commits: u64 },
     Done(Script),
+    /// What the recovery of an image came to.
+    Recovery(Ended),
+}
+
+/// The status of an end.
+fn status_of_end(end: &Ended) -> Status
+    ensures { result ≡ status_of_end end.now }
+{
+    match end {
+        Ended::Misread(_) => Status::Script,
+        Ended::Unsound(_) => Status::Unsound,
+        Ended::Stopped => Status::Stopped,
+        Ended::Broken(_) => Status::Unsound,
+        Ended::NoMemory => Status::NoMemory,
+        Ended::Done(_) => Status::Done,
+    }
 }
 
 impl Outcome {
@@ -44,6 +73,7 @@ impl Outcome {
             Outcome::NoMemory => Status::NoMemory,
             Outcome::Stopped { .. } => Status::Stopped,
             Outcome::Done(_) => Status::Done,
+            Outcome::Recovery(end) => status_of_end(end),
         }
     }
 
@@ -60,13 +90,14 @@ impl Outcome {
             Outcome::NoMemory => Ok(Vec::new(alloc)),
             Outcome::Stopped { commits } => Ok(stop_text(alloc, *commits)?),
             Outcome::Done(script) => report_text(alloc, script.transactions.as_slice()),
+            Outcome::Recovery(end) => end_text(alloc, end),
         }
     }
 }
 
-/// Runs the script that the source has on the region, and writes the report.
+/// Runs the script that the source has on the region, or recovers the image that it has, and writes what came of it.
 ///
-/// The words are those that the program is called with: `run` is known. Nothing is written before the job's end, and the
+/// The words are those that the program is called with: `run`, `recover` and `recover image` are known. Nothing is written before the job's end, and the
 /// device comes back as it is then.
 pub fn rewind_replay<S: Source, K: Sink, D: Device>(
     alloc: Global,
@@ -75,8 +106,8 @@ pub fn rewind_replay<S: Source, K: Sink, D: Device>(
     mut region: D,
     out: &mut K,
 ) -> (Status, D)
-    ensures usage { result.0 ≡ Status.Usage → ¬ (AreRun (map string_bytes words.now)) }
-    ensures misused { ¬ (AreRun (map string_bytes words.now)) → ¬ (HasRisen (K.faults out.old) (K.faults out.new))
+    ensures usage { result.0 ≡ Status.Usage → ¬ (AreKnown (map string_bytes words.now)) }
+    ensures misused { ¬ (AreKnown (map string_bytes words.now)) → ¬ (HasRisen (K.faults out.old) (K.faults out.new))
         → (result.0 ≡ Status.Usage) ⊎ (result.0 ≡ Status.NoMemory) }
     ensures due { (bytes : List ℕ) → S.left script.old ≡ Some bytes → AreRun (map string_bytes words.now)
         → ¬ (HasRisen (S.faults script.old) (S.faults script.new)) → ¬ (HasRisen (K.faults out.old) (K.faults out.new))
@@ -85,9 +116,20 @@ pub fn rewind_replay<S: Source, K: Sink, D: Device>(
     ensures write_fault { result.0 ≡ Status.WriteFault → HasRisen (K.faults out.old) (K.faults out.new) }
     ensures stopped { result.0 ≡ Status.Stopped → HasRisen (D.counts region).stopped (D.counts result.1).stopped }
     ensures last_load { (result.0 ≡ Status.Done) ⊎ (result.0 ≡ Status.Stopped) → (D.counts result.1).restarts ≡ (since_load (D.counts region)).restarts }
-    ensures one_event_each { (bytes : List ℕ) (s : Script) → S.left script.old ≡ Some bytes → script_of_text bytes ≡ Some s
+    ensures one_event_each { AreRun (map string_bytes words.now) → (bytes : List ℕ) (s : Script) → S.left script.old ≡ Some bytes → script_of_text bytes ≡ Some s
         → (D.counts result.1).events ≤ (D.counts region).events + event_count s.transactions }
-    ensures never_unsound { result.0 ≢ Status.Unsound }
+    ensures never_unsound { AreRun (map string_bytes words.now) → result.0 ≢ Status.Unsound }
+    ensures recover_due { (wanted : Wanted) (bytes : List ℕ) (due : Status) → AreWordsOf (Job.Recover wanted) (map string_bytes words.now)
+        → S.left script.old ≡ Some bytes → IsDue wanted bytes due
+        → ¬ (HasRisen (S.faults script.old) (S.faults script.new)) → ¬ (HasRisen (K.faults out.old) (K.faults out.new))
+        → ¬ (HasRisen (D.counts region).stopped (D.counts result.1).stopped) → (result.0 ≡ due) ⊎ (result.0 ≡ Status.NoMemory) }
+    // A recovery takes fewer events than this.
+    ensures enough { (wanted : Wanted) → AreWordsOf (Job.Recover wanted) (map string_bytes words.now)
+        → (D.counts region).events + 2 ^ 22 ≤ (D.counts region).budget → result.0 ≢ Status.Stopped }
+    // An image that a recovery left wants none.
+    ensures again { (wanted : Wanted) (bytes : List ℕ) (i : Image) → AreWordsOf (Job.Recover wanted) (map string_bytes words.now)
+        → S.left script.old ≡ Some bytes → image_of_text bytes ≡ Ok i → IsFinished (length i.words) (words_of i)
+        → (D.counts result.1).events ≡ (D.counts region).events }
     ensures ran { HasRun
         (record {
           words = map string_bytes words.now;
@@ -155,14 +197,69 @@ fn replay<S: Source, D: Device>(
       counts_after = D.counts region.new;
     }) }
 {
-    if !are_run(words) {
-        return Outcome::Usage;
+    match job_of(words) {
+        None => Outcome::Usage,
+        Some(Job::Run) => replay_script(alloc, words, source, region),
+        Some(Job::Recover(wanted)) => replay_image(alloc, words, wanted, source, region),
     }
-    match read_input(alloc, source) {
+}
+
+/// Reads a script and makes its events on the region.
+fn replay_script<S: Source, D: Device>(
+    alloc: Global,
+    words: &[String],
+    source: &mut S,
+    region: &mut D,
+) -> Outcome
+    requires { AreWordsOf Job.Run (map string_bytes words.now) }
+    ensures limits { AreLimitsOf result }
+    ensures cause { IsCauseOf result (record {
+      words = map string_bytes words.now;
+      left = S.left source.old;
+      left_after = S.left source.new;
+      faults = S.faults source.old;
+      faults_after = S.faults source.new;
+      region = D.cells region.old;
+      region_after = D.cells region.new;
+      counts = D.counts region.old;
+      counts_after = D.counts region.new;
+    }) }
+{
+    match read_input(alloc, source, SCRIPT_LIMIT) {
         Err(Unread::Failed) => Outcome::ReadFault,
         Err(Unread::TooLong) => Outcome::TooLong,
         Err(Unread::NoMemory) => Outcome::NoMemory,
         Ok(text) => run_text(alloc, &text, region),
+    }
+}
+
+/// Reads an image text and recovers its image on the region.
+fn replay_image<S: Source, D: Device>(
+    alloc: Global,
+    words: &[String],
+    wanted: Wanted,
+    source: &mut S,
+    region: &mut D,
+) -> Outcome
+    requires { AreWordsOf (Job.Recover wanted) (map string_bytes words.now) }
+    ensures limits { AreLimitsOf result }
+    ensures cause { IsCauseOf result (record {
+      words = map string_bytes words.now;
+      left = S.left source.old;
+      left_after = S.left source.new;
+      faults = S.faults source.old;
+      faults_after = S.faults source.new;
+      region = D.cells region.old;
+      region_after = D.cells region.new;
+      counts = D.counts region.old;
+      counts_after = D.counts region.new;
+    }) }
+{
+    match read_input(alloc, source, IMAGE_LIMIT) {
+        Err(Unread::Failed) => Outcome::ReadFault,
+        Err(Unread::TooLong) => Outcome::TooLong,
+        Err(Unread::NoMemory) => Outcome::NoMemory,
+        Ok(text) => Outcome::Recovery(recover_text(alloc, &text, wanted, region)),
     }
 }
 

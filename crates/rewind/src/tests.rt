@@ -15,14 +15,14 @@ const TWO: &[u8] =
 
 /// A call, and what it is to answer.
 #[derive(Drop)]
-struct Case<'a> {
-    words: &'a [&'a str],
-    script: &'a [u8],
-    failing_reads: &'a [u64],
-    failing_writes: &'a [u64],
-    budget: u64,
-    status: Status,
-    text: &'a [u8],
+pub struct Case<'a> {
+    pub words: &'a [&'a str],
+    pub script: &'a [u8],
+    pub failing_reads: &'a [u64],
+    pub failing_writes: &'a [u64],
+    pub budget: u64,
+    pub status: Status,
+    pub text: &'a [u8],
 }
 
 /// The words `run`, with nothing that fails or stops.
@@ -35,6 +35,22 @@ fn run<'a>(script: &'a [u8], status: Status, text: &'a [u8]) -> Case<'a> {
         budget: u64::MAX,
         status,
         text,
+    }
+}
+
+/// The words `recover`.
+pub fn recover<'a>(image: &'a [u8], status: Status, text: &'a [u8]) -> Case<'a> {
+    Case {
+        words: &["recover"],
+        ..run(image, status, text)
+    }
+}
+
+/// The words `recover image`.
+pub fn recover_image<'a>(image: &'a [u8], status: Status, text: &'a [u8]) -> Case<'a> {
+    Case {
+        words: &["recover", "image"],
+        ..run(image, status, text)
     }
 }
 
@@ -56,7 +72,7 @@ fn strings(alloc: Global, words: &[&str]) -> Result<Vec<String>, AllocError> {
     Ok(strings)
 }
 
-fn check(rt: &(impl Abort + AllocGlobal), case: Case<'_>) -> Result<(), AllocError> {
+pub fn check(rt: &(impl Abort + AllocGlobal), case: Case<'_>) -> Result<(), AllocError> {
     let alloc = rt.alloc();
     let words = strings(alloc, case.words)?;
     let mut script = TextSource::new(list(alloc, case.script)?, list(alloc, case.failing_reads)?);
@@ -68,6 +84,23 @@ fn check(rt: &(impl Abort + AllocGlobal), case: Case<'_>) -> Result<(), AllocErr
     assert_eq!(rt; status, case.status);
     assert_eq!(rt; out.text(), case.text);
     Ok(())
+}
+
+/// What the words write of an input.
+pub fn told(
+    rt: &(impl Abort + AllocGlobal),
+    words: &[&str],
+    input: &[u8],
+) -> Result<List<u8>, AllocError> {
+    let alloc = rt.alloc();
+    let words = strings(alloc, words)?;
+    let mut source = TextSource::new(list(alloc, input)?, List::new(alloc));
+    let Ok(mut out) = TextSink::new(alloc, 1000, List::new(alloc)) else {
+        return Err(AllocError);
+    };
+    let region = PlainCells::new(alloc, u64::MAX);
+    let _ = rewind_replay(alloc, &words, &mut source, region, &mut out);
+    list(alloc, out.text())
 }
 
 /// The text isn't run.
@@ -149,6 +182,9 @@ fn faults_and_wrong_words_have_their_status(rt: HostRuntime) -> Result<(), Fail>
     misused(&rt, &[])?;
     misused(&rt, &["walk"])?;
     misused(&rt, &["run", "run"])?;
+    misused(&rt, &["recover", "run"])?;
+    misused(&rt, &["image", "recover"])?;
+    misused(&rt, &["recover", "image", "image"])?;
     Ok(())
 }
 
@@ -222,5 +258,106 @@ fn blanks_and_comments_are_passed_over(rt: HostRuntime) -> Result<(), Fail> {
 fn a_long_text_is_refused(rt: HostRuntime) -> Result<(), Fail> {
     let long = vec![in rt.alloc(); b'\n'; 1_048_577]?;
     check(&rt, run(&long, Status::TooLong, b"toolong\n"))?;
+    Ok(())
+}
+
+#[test]
+fn a_long_image_text_is_refused(rt: HostRuntime) -> Result<(), Fail> {
+    let long = vec![in rt.alloc(); b'\n'; 33_554_433]?;
+    check(&rt, recover(&long, Status::TooLong, b"toolong\n"))?;
+    Ok(())
+}
+
+#[test]
+fn texts_that_are_no_image_name_their_line(rt: HostRuntime) -> Result<(), Fail> {
+    check(&rt, recover(b"", Status::Script, b"script 1 image\n"))?;
+    check(
+        &rt,
+        recover_image(b"image 4\nmap cells\n", Status::Script, b"script 3 image\n"),
+    )?;
+    check(&rt, recover(FIRST, Status::Script, b"script 1 image\n"))?;
+    Ok(())
+}
+
+#[test]
+fn a_text_that_was_cut_names_the_line_behind_it(rt: HostRuntime) -> Result<(), Fail> {
+    let image =
+        b"image 352\nmap cells\n0 52574e4400000001\n1 0000000000000001\n2 0000000000000001\n3 0000000000000004\n4 0000000000000010\n5 0000000000000001\n8 0000000000000020\n9 0000000000000020\n";
+    check(&rt, recover(image, Status::Script, b"script 11 image\n"))?;
+    Ok(())
+}
+
+#[test]
+fn reads_and_writes_of_an_image_may_fail(rt: HostRuntime) -> Result<(), Fail> {
+    check(
+        &rt,
+        Case {
+            failing_reads: &[0],
+            ..recover(b"image 4\n", Status::ReadFault, b"")
+        },
+    )?;
+    check(
+        &rt,
+        Case {
+            failing_writes: &[0],
+            ..recover(b"image 4\n", Status::WriteFault, b"")
+        },
+    )?;
+    Ok(())
+}
+
+#[test]
+fn a_region_without_its_magic(rt: HostRuntime) -> Result<(), Fail> {
+    let image =
+        b"image 352\nmap cells\n1 0000000000000001\n2 0000000000000001\n3 0000000000000004\n4 0000000000000010\n5 0000000000000001\n8 0000000000000020\n9 0000000000000020\n40 0000000000000001\n41 0000000000000001\n42 0000000000000001\n43 0000000000000067\n45 0000000000000007\n96 0000000000000001\n103 0000000000000007\nend\n";
+    check(&rt, recover(image, Status::Unsound, b"unsound 1 0\n"))?;
+    Ok(())
+}
+
+#[test]
+fn a_policy_that_is_none(rt: HostRuntime) -> Result<(), Fail> {
+    let image =
+        b"image 352\nmap cells\n0 52574e4400000002\n1 0000000000000003\n2 0000000000000001\n3 0000000000000004\n4 0000000000000010\n5 0000000000000001\n6 0000000000000001\n8 0000000000000020\n9 0000000000000020\n13 0000000000000001\n40 0000000000000001\n41 0000000000000001\n42 0000000000000001\n43 0000000000000067\n45 0000000000000007\n96 0000000000000001\n103 0000000000000007\nend\n";
+    check(&rt, recover(image, Status::Unsound, b"unsound 2 1\n"))?;
+    Ok(())
+}
+
+#[test]
+fn a_bucket_of_two_cells(rt: HostRuntime) -> Result<(), Fail> {
+    let image =
+        b"image 352\nmap cells\n0 52574e4400000002\n1 0000000000000001\n2 0000000000000002\n3 0000000000000004\n4 0000000000000010\n5 0000000000000001\n6 0000000000000001\n8 0000000000000020\n9 0000000000000020\n13 0000000000000001\n40 0000000000000001\n41 0000000000000001\n42 0000000000000001\n43 0000000000000067\n45 0000000000000007\n96 0000000000000001\n103 0000000000000007\nend\n";
+    check(&rt, recover(image, Status::Unsound, b"unsound 3 2\n"))?;
+    Ok(())
+}
+
+#[test]
+fn too_few_buckets(rt: HostRuntime) -> Result<(), Fail> {
+    let image =
+        b"image 352\nmap cells\n0 52574e4400000002\n1 0000000000000001\n2 0000000000000001\n3 0000000000000003\n4 0000000000000010\n5 0000000000000001\n6 0000000000000001\n8 0000000000000020\n9 0000000000000020\n13 0000000000000001\n40 0000000000000001\n41 0000000000000001\n42 0000000000000001\n43 0000000000000067\n45 0000000000000007\n96 0000000000000001\n103 0000000000000007\nend\n";
+    check(&rt, recover(image, Status::Unsound, b"unsound 4 3\n"))?;
+    Ok(())
+}
+
+#[test]
+fn a_word_too_many(rt: HostRuntime) -> Result<(), Fail> {
+    let image =
+        b"image 353\nmap cells\n0 52574e4400000002\n1 0000000000000001\n2 0000000000000001\n3 0000000000000004\n4 0000000000000010\n5 0000000000000001\n6 0000000000000001\n8 0000000000000020\n9 0000000000000020\n13 0000000000000001\n40 0000000000000001\n41 0000000000000001\n42 0000000000000001\n43 0000000000000067\n45 0000000000000007\n96 0000000000000001\n103 0000000000000007\nend\n";
+    check(&rt, recover(image, Status::Unsound, b"unsound 4 0\n"))?;
+    Ok(())
+}
+
+#[test]
+fn too_many_partitions(rt: HostRuntime) -> Result<(), Fail> {
+    let image =
+        b"image 352\nmap cells\n0 52574e4400000002\n1 0000000000000001\n2 0000000000000001\n3 0000000000000004\n4 0000000000000010\n5 0000000000000001\n6 0000000000000004\n8 0000000000000020\n9 0000000000000020\n13 0000000000000001\n40 0000000000000001\n41 0000000000000001\n42 0000000000000001\n43 0000000000000067\n45 0000000000000007\n96 0000000000000001\n103 0000000000000007\nend\n";
+    check(&rt, recover(image, Status::Unsound, b"unsound 4 6\n"))?;
+    Ok(())
+}
+
+#[test]
+fn a_kind_that_is_none(rt: HostRuntime) -> Result<(), Fail> {
+    let image =
+        b"image 352\nmap cells\n0 52574e4400000002\n1 0000000000000001\n2 0000000000000001\n3 0000000000000004\n4 0000000000000010\n5 0000000000000001\n6 0000000000000001\n8 0000000000000020\n9 0000000000000020\n13 0000000000000004\n40 0000000000000001\n41 0000000000000001\n42 0000000000000001\n43 0000000000000067\n45 0000000000000007\n96 0000000000000001\n103 0000000000000007\nend\n";
+    check(&rt, recover(image, Status::Unsound, b"unsound 4 13\n"))?;
     Ok(())
 }

@@ -12,3 +12,4 @@ pub mod Report
 pub mod Generator
 pub mod Served
 pub mod Load
+pub mod Recovery

@@ -4,6 +4,7 @@
 mod fault;
 mod generator;
 mod read;
+mod recovery;
 mod report;
 mod script;
 mod served;
@@ -12,6 +13,7 @@ mod write;
 pub use fault::{Fault, ScriptFault};
 pub use generator::generate;
 pub use read::read_script;
+pub use recovery::{RecoveryReport, write_recovery};
 pub use report::{Fate, Got, How, Named, PairList, Printed, Report, write_report};
 pub use script::{Command, Item, LaneText, Script, Turns};
 

@@ -151,7 +151,7 @@ fn append_fate(text: &mut List<u8>, fate: &Fate) -> Result<(), NoMemory>
     }
 }
 
-fn append_maps(text: &mut List<u8>, maps: &[PairList]) -> Result<(), NoMemory>
+pub(crate) fn append_maps(text: &mut List<u8>, maps: &[PairList]) -> Result<(), NoMemory>
     ensures { OnOk result (text.new ≡ text.old ++ maps_from 0 maps.now) }
 {
     let mut number: u64 = 0;

@@ -1,0 +1,169 @@
+-- What the end of a recovery says of the image that was loaded.
+use Rattle.std.proofs.Common.{◌≡◌, ℕ, ◌+◌, ◌≤◌, List, length, refl, sym, ◌∙◌, ap, subst, arith}
+use Rattle.persist_model.specs.Region.{Words, Region, AreSettled, loaded, newest_words}
+use Rattle.persist_model.specs.Shape.{Shape, shape_of, heap}
+use Rattle.persist_model.specs.Faults.{IsFirstFault}
+use Rattle.persist_model.proofs.Images.{AreFull, length-newest_words}
+use Rattle.lane_traits.specs.Device.{Counts, counted, since_load, MAX_WORDS}
+use Rattle.region_layout.specs.declared.layout.Kind.{Kind}
+use Rattle.region_layout.specs.declared.reading.ImageFault.{ImageFault}
+use Rattle.image_text.specs.declared.image.Image.{Image}
+use Rattle.image_text.specs.Written.{IsWritable}
+use Rattle.image_text.specs.Grammar.{image as image_of_text}
+use Rattle.recovery_run.specs.Edges.{KeepsWords, IsHeaderWord}
+use Rattle.recovery_run.specs.Reached.{newest_at}
+use Rattle.recovery_passes.specs.declared.recovering.Recovered.{Recovered}
+use Rattle.recovery_passes.specs.Recovered.{IsFinished, Restores, EachStands, AreFates, AreFew}
+use Rattle.image_runner.specs.declared.runner.Wanted.{Wanted}
+use Rattle.image_runner.specs.declared.runner.Wanted.TheVariants as want
+use Rattle.image_runner.specs.declared.runner.Ended.{Ended}
+use Rattle.image_runner.specs.declared.runner.Ended.TheVariants as ended
+use Rattle.image_runner.specs.Ends.{AreStanding, words_of, IsAdmitted, IsRefusedBy, unsound, IsLoaded, IsRecovered, WasRecovered, IsTold, IsHalted, unmade, behind, IsEndOfImage}
+use Rattle.recovery_passes.specs.declared.recovering.RecoverFault.{RecoverFault}
+use Rattle.recovery_passes.specs.declared.recovering.RecoverFault.TheVariants as failed
+use Rattle.image_runner.specs.declared.checking.CheckFault.{CheckFault}
+use Rattle.image_runner.specs.declared.checking.CheckFault.TheVariants as refusal
+use Rattle.image_runner.specs.Tells.{end_of_refusal, end_of_fault, Tells, TellsText}
+use Rattle.image_runner.proofs.Kept.{reads_loaded, same_standing, recovered_by}
+use Rattle.image_runner.proofs.Contents.{AreSameFrom, hold_there, broken_there}
+use Rattle.image_text.proofs.RoundTrip.{written_reads}
+
+-- what a finished recovery owes
+pub record HasFinished (cells later : Region) (counts later_counts : Counts) (done : Recovered) : Type 0 where
+  pub fates : AreFates (newest_at cells) done.winners done.losers
+  pub restored : Restores (newest_at cells) (newest_at later)
+  pub settled : AreSettled later
+  pub finished : IsFinished later.size (newest_at later)
+  pub size : later.size ≡ cells.size
+  pub events : later_counts ≡ record counts { events = counts.events + done.events }
+  pub few : AreFew (newest_at cells) done.events
+  pub again : IsFinished cells.size (newest_at cells) → done.events ≡ 0
+  pub header : KeepsWords (IsHeaderWord (shape_of (newest_at cells))) cells later
+
+-- what a stopped one owes
+pub record HasHalted (cells later : Region) (counts later_counts : Counts) : Type 0 where
+  pub stands : EachStands (newest_at cells) later
+  pub counted_is : later_counts ≡ record counts { events = counts.budget; stopped = counted counts.stopped }
+  pub early : (n : ℕ) → counts.events + n ≡ counts.budget → AreFew (newest_at cells) (n + 1)
+  pub unfinished : IsFinished cells.size (newest_at cells) → ⊥
+
+module _ (i : Image) (cells later : Region) (before counts later_counts : Counts) (is_loaded : cells ≡ loaded i.words) (since : counts ≡ since_load before) (admitted : IsAdmitted i) where
+  reads : newest_at cells ≡ words_of i
+  reads = ap newest_at is_loaded ∙ reads_loaded i.words
+
+  there : (P : ℕ → Words → Type 0) → P cells.size (newest_at cells) → P (length i.words) (words_of i)
+  there P h = subst (λ n. P n (words_of i)) (ap (λ (r : Region). r.size) is_loaded) (subst (λ (w : Words). P cells.size w) reads h)
+
+  back : (P : ℕ → Words → Type 0) → P (length i.words) (words_of i) → P cells.size (newest_at cells)
+  back P h = subst (λ (w : Words). P cells.size w) (sym reads) (subst (λ n. P n (words_of i)) (sym (ap (λ (r : Region). r.size) is_loaded)) h)
+
+  pub unsound_end : (found : ImageFault) → IsFirstFault cells.size (newest_at cells) found.fault found.addr → later ≡ cells → later_counts ≡ counts
+      → IsRefusedBy i found.fault found.addr × IsLoaded i before later later_counts
+  unsound_end found first same_cells same_counts = (
+    unsound (there (λ n w. IsFirstFault n w found.fault found.addr) first),
+    record { words = same_cells ∙ is_loaded; unmade = same_counts ∙ since },
+  )
+
+  pub halted_end : HasHalted cells later counts later_counts → IsHalted i before later later_counts
+  halted_end h = record {
+    admitted = admitted;
+    stands = there (λ n w. EachStands w later) h.stands;
+    counted = h.counted_is ∙ ap (λ (c : Counts). record c { events = c.budget; stopped = counted c.stopped }) since;
+    early = λ n e. there (λ m w. AreFew w (n + 1)) (h.early n (ap (λ (c : Counts). c.events + n) since ∙ e ∙ sym (ap (λ (c : Counts). c.budget) since)));
+    unfinished = λ finished. h.unfinished (back IsFinished finished);
+  }
+
+  -- what is promised of a recovery that wasn't finished, whatever its fault
+  pub record HasFailed (fault : RecoverFault) : Type 0 where
+    pub unsound_first : (found : ImageFault) → fault ≡ failed.Unsound found → IsFirstFault cells.size (newest_at cells) found.fault found.addr
+    pub unsound_cells : (found : ImageFault) → fault ≡ failed.Unsound found → later ≡ cells
+    pub unsound_counts : (found : ImageFault) → fault ≡ failed.Unsound found → later_counts ≡ counts
+    pub memory_cells : fault ≡ failed.NoMemory → later ≡ cells
+    pub memory_counts : fault ≡ failed.NoMemory → later_counts ≡ counts
+    pub halted : fault ≡ failed.Stopped → HasHalted cells later counts later_counts
+
+  pub failed_end : (wanted : Wanted) (region : Region) (fault : RecoverFault) → HasFailed fault → IsEndOfImage wanted i region before later later_counts (end_of_fault fault)
+  failed_end wanted region (failed.Unsound found) h = unsound_end found (h.unsound_first found refl) (h.unsound_cells found refl) (h.unsound_counts found refl)
+  failed_end wanted region failed.Stopped h = halted_end (h.halted refl)
+  failed_end wanted region failed.NoMemory h = unmade (record { words = h.memory_cells refl ∙ is_loaded; unmade = h.memory_counts refl ∙ since })
+
+  module _ (full : AreFull later) (done : Recovered) (h : HasFinished cells later counts later_counts done) where
+    size_is : later.size ≡ length i.words
+    size_is = h.size ∙ ap (λ (r : Region). r.size) is_loaded
+
+    restored_is : Restores (words_of i) (newest_at later)
+    restored_is = there (λ n w. Restores w (newest_at later)) h.restored
+
+    header_is : KeepsWords (IsHeaderWord (shape_of (words_of i))) (loaded i.words) later
+    header_is = subst (λ (r : Region). KeepsWords (IsHeaderWord (shape_of (words_of i))) r later) is_loaded
+        (there (λ n w. KeepsWords (IsHeaderWord (shape_of w)) cells later) h.header)
+
+    pub recovered_is : IsRecovered (words_of i) later
+    recovered_is = recovered_by i.words later full size_is admitted.sound header_is restored_is h.settled h.finished
+
+    was : WasRecovered i before later later_counts
+    was = record {
+      admitted = admitted;
+      recovered = recovered_is;
+      events = done.events;
+      made = record {
+        counted = h.events ∙ ap (λ (c : Counts). record c { events = c.events + done.events }) since;
+        few = there (λ n w. AreFew w done.events) h.few;
+        again = λ finished. h.again (back IsFinished finished);
+      };
+    }
+
+    same_words : (z : Words) → AreStanding (words_of i) z → AreSameFrom (heap (shape_of (words_of i))) (newest_at later) z
+    same_words z standing a above = same_standing (length i.words) (words_of i) (newest_at later) z admitted.sound recovered_is.standing standing a above
+
+    module _ (writable : IsWritable i.kinds i.words) (small : later.size ≤ MAX_WORDS) where
+      told_text : (wanted : Wanted) (text : List ℕ) → TellsText wanted (heap (shape_of (words_of i))) i.kinds done (newest_words later) text → IsTold wanted i done.events later text
+      told_text want.Report text told = record {
+        report = record { events = done.events; winners = done.winners; losers = done.losers; maps = told.maps };
+        events_are = refl;
+        fates = there (λ n w. AreFates w done.winners done.losers) h.fates;
+        maps = λ z standing. hold_there (heap (shape_of (words_of i))) (newest_at later) z i.kinds told.maps (same_words z standing) told.hold;
+        text_is = told.is;
+      }
+      told_text want.Image text told =
+          let writes : IsWritable i.kinds (newest_words later) = record {
+            some = writable.some;
+            few = writable.few;
+            small = omega (arith, length-newest_words later);
+            fit = told.fit;
+          } in
+          record {
+            text_is = told.is;
+            reads = ap image_of_text told.is ∙ written_reads i.kinds (newest_words later) writes;
+          }
+
+      pub told_end : (wanted : Wanted) (region : Region) (end : Ended) → Tells wanted (heap (shape_of (words_of i))) i.kinds done (newest_words later) end
+          → IsEndOfImage wanted i region before later later_counts end
+      unfolding was
+      told_end wanted region (ended.Misread line) h = absurd h
+      told_end wanted region (ended.Unsound found) h = absurd h
+      told_end wanted region ended.Stopped h = absurd h
+      told_end wanted region (ended.Broken root) h = record {
+        report = h.0;
+        recovery = was;
+        broken = λ z standing. broken_there (heap (shape_of (words_of i))) (newest_at later) z i.kinds root (same_words z standing) h.1;
+      }
+      told_end wanted region ended.NoMemory h = behind was
+      told_end wanted region (ended.Done text) h = record { recovery = was; told = told_text wanted text h }
+
+-- an image that was refused
+pub refused_end : (wanted : Wanted) (i : Image) (region later : Region) (counts later_counts : Counts) (why : CheckFault) → IsLoaded i counts later later_counts
+    → ((found : ImageFault) → why ≡ refusal.Unsound found → IsRefusedBy i found.fault found.addr) → IsEndOfImage wanted i region counts later later_counts (end_of_refusal why)
+refused_end wanted i region later counts later_counts (refusal.Unsound found) is_loaded first = (first found refl, is_loaded)
+refused_end wanted i region later counts later_counts refusal.NoMemory is_loaded first = unmade is_loaded
+
+pub tells_by : (wanted : Wanted) (shape shape' : Shape) (kinds kinds' : List Kind) (done : Recovered) (words words' : List ℕ) (end : Ended)
+    → shape ≡ shape' → kinds ≡ kinds' → words ≡ words' → Tells wanted (heap shape) kinds done words end → Tells wanted (heap shape') kinds' done words' end
+tells_by wanted shape shape' kinds kinds' done words words' end same_shape same_kinds same_words h =
+    subst (λ (ws : List ℕ). Tells wanted (heap shape') kinds' done ws end) same_words
+    (subst (λ (ks : List Kind). Tells wanted (heap shape') ks done words end) same_kinds
+    (subst (λ (sh : Shape). Tells wanted (heap sh) kinds done words end) same_shape h))
+
+-- an image by its parts
+pub image_by : (i : Image) (kinds : List Kind) (words : List ℕ) → kinds ≡ i.kinds → words ≡ i.words → ◌≡◌ {A = Image} (record { kinds = kinds; words = words }) i
+image_by i kinds words same_kinds same_words = λ j. record { kinds = same_kinds j; words = same_words j }

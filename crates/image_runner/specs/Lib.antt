@@ -1,0 +1,6 @@
+pub mod MapLines
+pub mod Maps
+pub mod Reader
+pub mod Cells
+pub mod Tells
+pub mod Ends

@@ -1,0 +1,22 @@
+-- Whether the `map` lines of an image text fit its words.
+use Rattle.std.specs.Prelude.{◌≡◌, ℕ, ◌+◌, ◌<◌, List, length, Some}
+use Rattle.std.specs.List.{slice_get}
+use Rattle.persist_model.specs.Region.{Words}
+use Rattle.persist_model.specs.Shape.{SECOND_MAGIC}
+use Rattle.region_layout.specs.declared.layout.Kind.{Kind}
+use Rattle.region_layout.specs.Layout.{kind_number}
+
+-- map line s has the kind that the words say
+abbrev pub IsOfKind : Words → List Kind → ℕ → Type 0
+IsOfKind w kinds s = (kind : Kind) → slice_get kinds s ≡ Some kind → w (13 + s) ≡ kind_number kind
+
+-- There are as many lines as structures, and in format 2 they have their kinds.
+pub record Fit (w : Words) (kinds : List Kind) : Type 0 where
+  pub count : length kinds ≡ w 5
+  pub each : w 0 ≡ SECOND_MAGIC → (s : ℕ) → s < length kinds → IsOfKind w kinds s
+
+-- The fault of lines that don't fit: their number, or the word of the first kind that is another.
+pub data IsLineFault (w : Words) (kinds : List Kind) (fault a : ℕ) : Type 0 where
+  counted : (length kinds ≡ w 5 → ⊥) → fault ≡ 4 → a ≡ 5 → IsLineFault w kinds fault a
+  other : length kinds ≡ w 5 → w 0 ≡ SECOND_MAGIC → (s : ℕ) → s < length kinds → (IsOfKind w kinds s → ⊥)
+      → ((t : ℕ) → t < s → IsOfKind w kinds t) → fault ≡ 4 → a ≡ 13 + s → IsLineFault w kinds fault a

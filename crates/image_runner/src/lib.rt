@@ -1,0 +1,12 @@
+//! What the program does with an image: it reads its text, recovers it on a device, and tells what it found.
+#![tactic(auto)]
+
+mod cells;
+mod checking;
+mod map_lines;
+mod maps;
+mod reader;
+mod runner;
+
+pub use maps::{MapFault, read_maps};
+pub use runner::{Ended, Wanted, recover_text};

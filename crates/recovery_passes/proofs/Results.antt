@@ -1,0 +1,192 @@
+-- What recovery's clauses say, from what its stages did.
+use Rattle.std.proofs.Common.{◌≡◌, ◌≢◌, ◌⊎◌, inl, inr, ℕ, ◌+◌, ◌-◌, ◌*◌, ◌<◌, ◌≤◌, Bool, true, false, if◌then◌else◌, List, [], ◌∷◌, length, refl, sym, ap, ◌∙◌, subst, arith}
+use Rattle.std.specs.Prelude.{slice_index, IsTrue, ◌↔◌}
+use Rattle.persist_model.specs.Region.{Words, Region, AreSettled, newest_words}
+use Rattle.persist_model.specs.Records.{Log, IsAmong, IsCommitted, IsLoser}
+use Rattle.persist_model.specs.Shape.{Shape, shape_of, part_of, words_of_shape}
+use Rattle.persist_model.specs.State.{State, IsSoundState, HasOpen, total_need}
+use Rattle.persist_model.specs.Sound.{HasState, IsSound}
+use Rattle.persist_model.proofs.Images.{length-newest_words}
+use Rattle.lane_traits.specs.Device.{Counts, counted}
+use Rattle.lane_traits.specs.declared.device.Done.{Done}
+use Rattle.lane_traits.specs.declared.device.Done.TheVariants.{Made, Stopped}
+use Rattle.log_laws.specs.Parts.{EachKeeps}
+use Rattle.log_laws.proofs.Soundness.{same_log}
+use Rattle.region_layout.specs.declared.layout.Layout.{Layout}
+use Rattle.region_layout.specs.Layout.{layout_shape}
+use Rattle.recovery_run.specs.declared.gates.Gates.{Gates}
+use Rattle.recovery_run.specs.Edges.{HasCounted, KeepsWords, IsHeaderWord}
+use Rattle.recovery_run.specs.Reached.{newest_at, HasSettled}
+use Rattle.recovery_run.proofs.Reaching.{settled_begins}
+use Rattle.recovery_analysis.specs.declared.changing.Change.{Change}
+use Rattle.recovery_analysis.specs.declared.grouping.Transaction.{Transaction}
+use Rattle.recovery_analysis.specs.declared.working.Work.{Work}
+use Rattle.recovery_analysis.specs.Grouping.{IsAscending as IsRising}
+use Rattle.recovery_analysis.specs.Analyses.{AreThose}
+use Rattle.recovery_analysis.specs.Works.{IsWorkOf, appends_of}
+use Rattle.recovery_passes.specs.Recovered.{IsFinished, Restores, EachStands, IsAscending, Lists, AreFates, HasNeed, with_checkpoint, forced, settled as no_checkpoint, most_events, AreFew}
+use Rattle.recovery_passes.specs.Stages.{AreQuiet, AreShort, IsIdle}
+use Rattle.recovery_passes.specs.Passing.{IsCleared}
+use Rattle.recovery_passes.specs.Plans.{IsPlanned}
+use Rattle.recovery_passes.proofs.Ends.{IsBegun, begins_header, each_stands, restored, finished}
+
+-- what is read of a region is sound
+pub sound_read : (words : List ℕ) (region : Region) → words ≡ newest_words region → IsSound (length words) (slice_index words) → IsSound region.size (newest_at region)
+sound_read words region is sound =
+    subst (λ n. IsSound n (newest_at region)) (length-newest_words region) (subst (λ (xs : List ℕ). IsSound (length xs) (slice_index xs)) is sound)
+
+-- what recovery begins with: a settled region with this sound state, and the layout that its header says
+pub record IsStart (layout : Layout) (old : Region) (s0 : State) : Type 0 where
+  pub begun : IsBegun old s0
+  pub shape_is : layout_shape layout ≡ shape_of (newest_at old)
+
+pub start_of : (layout : Layout) (words : List ℕ) (old : Region) → AreSettled old → (is : words ≡ newest_words old) → (sound : IsSound (length words) (slice_index words)) →
+    layout_shape layout ≡ shape_of (slice_index words) → IsStart layout old (sound_read words old is sound).state
+start_of layout words old settled is sound shape = record {
+  begun = record {
+    settled = settled;
+    shape = (sound_read words old is sound).shape;
+    has = (sound_read words old is sound).has;
+    sound = (sound_read words old is sound).sound;
+  };
+  shape_is = shape ∙ ap (λ (xs : List ℕ). shape_of (slice_index xs)) is;
+}
+
+-- the words that were read have the state
+pub read_state : (layout : Layout) (words : List ℕ) (old : Region) (s0 : State) → words ≡ newest_words old → IsStart layout old s0 → HasState (layout_shape layout) (slice_index words) s0
+read_state layout words old s0 is h =
+    subst (λ (xs : List ℕ). HasState (layout_shape layout) (slice_index xs) s0) (sym is) (subst (λ (s : Shape). HasState s (newest_at old) s0) (sym h.shape_is) h.begun.has)
+
+ascending : (ns : List ℕ) → IsRising ns → IsAscending ns
+ascending [] h = tt
+ascending (n ∷ ns) h = (h.0, ascending ns h.1)
+
+lists_of : (P : ℕ → Type 0) (ns : List ℕ) → AreThose P ns → Lists P ns
+lists_of P ns h = record { ascending = ascending ns h.ascending; each = h.each }
+
+module _ (layout : Layout) (old : Region) (s0 : State) (h : IsStart layout old s0) where
+  abbrev w : Words
+  w = newest_at old
+
+  pub settled_start : HasSettled (layout_shape layout) s0 s0 old
+  settled_start = subst (λ (s : Shape). HasSettled s s0 s0 old) (sym h.shape_is) (settled_begins (shape_of w) s0 old h.begun.settled (begins_header old s0 h.begun) h.begun.has)
+
+  pub sound_start : IsSoundState (layout_shape layout) s0
+  sound_start = subst (λ (s : Shape). IsSoundState s s0) (sym h.shape_is) h.begun.sound
+
+  pub plan_of : (now : Region) (work : Work) (redo : List Change) (running : List Transaction) → now ≡ old → IsWorkOf (layout_shape layout) s0.log work → redo ≡ work.redo → running ≡ work.undo →
+      IsPlanned layout s0 redo running work.checkpoint work.next work.gates work.most now
+  plan_of now work redo running same is redo_is running_is = record {
+    settled = subst (λ (r : Region). HasSettled (layout_shape layout) s0 s0 r) (sym same) settled_start;
+    sound = sound_start;
+    winners = work.winners;
+    losers = work.losers;
+    work = subst
+        (λ (xs : List Change). IsWorkOf (layout_shape layout) s0.log (record { winners = work.winners; losers = work.losers; redo = xs; undo = running; checkpoint = work.checkpoint; gates = work.gates; next = work.next; most = work.most }))
+        (sym redo_is)
+        (subst
+        (λ (xs : List Transaction). IsWorkOf (layout_shape layout) s0.log (record { winners = work.winners; losers = work.losers; redo = work.redo; undo = xs; checkpoint = work.checkpoint; gates = work.gates; next = work.next; most = work.most }))
+        (sym running_is) is);
+  }
+
+  log_is : (s : State) → HasState (shape_of w) w s → s0.log ≡ s.log
+  log_is s has = same_log (shape_of w) w s0 s h.begun.has has
+
+  pub fates_of : (work : Work) → IsWorkOf (layout_shape layout) s0.log work → AreFates w work.winners work.losers
+  fates_of work is = record {
+    winners_are = λ s has. subst (λ (l : Log). Lists (IsCommitted l) work.winners) (log_is s has) (lists_of (IsCommitted s0.log) work.winners is.winners);
+    losers_are = λ s has. subst (λ (l : Log). Lists (IsLoser l) work.losers) (log_is s has) (lists_of (IsLoser s0.log) work.losers is.losers);
+  }
+
+  -- the stated bound
+  pub few_are : (work : Work) (events : ℕ) → IsWorkOf (layout_shape layout) s0.log work → events ≤ work.most → AreFew w events
+  few_are work events is le s n has need =
+      subst (λ (l : Log). events ≤ most_events (shape_of w) (length l) n) (log_is s has)
+      (subst (λ (sh : Shape). events ≤ most_events sh (length s0.log) n) h.shape_is
+      (by_need (subst (λ (sh : Shape). HasNeed sh s0 n) (sym h.shape_is) (own need)) work.checkpoint is.checkpoint is.most))
+    where
+      own : HasNeed (shape_of w) s n → HasNeed (shape_of w) s0 n
+      own (with_checkpoint two open_log e) = with_checkpoint two (subst HasOpen (sym (log_is s has)) open_log) (e ∙ ap (λ (l : Log). total_need (part_of (shape_of w)) (shape_of w).partitions l + 1) (sym (log_is s has)))
+      own (forced off e) = forced off (e ∙ ap (total_need (part_of (shape_of w)) (shape_of w).partitions) (sym (log_is s has)))
+      own (no_checkpoint shut e) = no_checkpoint (λ k. shut (subst HasOpen (log_is s has) k)) (e ∙ ap (total_need (part_of (shape_of w)) (shape_of w).partitions) (sym (log_is s has)))
+
+      bound : (c : Bool) → work.most ≡ 20 + 2 * length s0.log + (23 + layout.cells) * (total_need (part_of (layout_shape layout)) layout.partitions s0.log + (if c then 1 else 0)) + 7 * layout.buckets →
+          n ≡ total_need (part_of (layout_shape layout)) layout.partitions s0.log + (if c then 1 else 0) → events ≤ most_events (layout_shape layout) (length s0.log) n
+      bound c most e = let times = ap (λ k. (23 + layout.cells) * k) e in omega (arith, le, most, times)
+
+      by_need : HasNeed (layout_shape layout) s0 n → (c : Bool) → (IsTrue c ↔ (((layout_shape layout).policy ≡ 2) × HasOpen s0.log)) →
+          work.most ≡ 20 + 2 * length s0.log + (23 + layout.cells) * (total_need (part_of (layout_shape layout)) layout.partitions s0.log + (if c then 1 else 0)) + 7 * layout.buckets →
+          events ≤ most_events (layout_shape layout) (length s0.log) n
+      by_need (with_checkpoint two open_log e) true marks most = bound true most e
+      by_need (with_checkpoint two open_log e) false marks most = (let t = marks.1 (two, open_log) in cc)
+      by_need (forced off e) true marks most = absurd (off (marks.0 refl).0)
+      by_need (forced off e) false marks most = bound false most (omega (arith, e))
+      by_need (no_checkpoint shut e) true marks most = absurd (shut (marks.0 refl).1)
+      by_need (no_checkpoint shut e) false marks most = bound false most (omega (arith, e))
+
+  -- ---- the end
+
+  pub size_there : (later : Region) → later.size ≡ words_of_shape (layout_shape layout) → later.size ≡ old.size
+  size_there later is = is ∙ ap words_of_shape h.shape_is ∙ sym h.begun.shape.long
+
+  module _ (later : Region) (keeps : KeepsWords (IsHeaderWord (layout_shape layout)) old later) where
+    own_header : KeepsWords (IsHeaderWord (shape_of w)) old later
+    own_header = subst (λ (s : Shape). KeepsWords (IsHeaderWord s) old later) h.shape_is keeps
+
+    pub header_there : KeepsWords (IsHeaderWord (shape_of w)) old later
+    header_there = own_header
+
+    pub stopped_there : EachKeeps (layout_shape layout) s0 later → EachStands w later
+    stopped_there kept = each_stands old later s0 h.begun (size_there later kept.size) own_header (subst (λ (s : Shape). EachKeeps s s0 later) h.shape_is kept)
+
+    module _ (end : IsCleared layout s0 later) where
+      own_settled : HasSettled (shape_of w) s0 end.state later
+      own_settled = subst (λ (s : Shape). HasSettled s s0 end.state later) h.shape_is end.settled
+
+      pub restored_there : Restores w (newest_at later)
+      restored_there = restored old later s0 h.begun (size_there later end.settled.come.size) own_header end.state own_settled end.empty
+
+      pub finished_there : IsFinished later.size (newest_at later)
+      finished_there = finished old later s0 h.begun (size_there later end.settled.come.size) own_header end.state own_settled end.empty
+          (subst (λ (s : Shape). AreQuiet s later) h.shape_is end.quiet) (subst (λ (s : Shape). AreShort s later) h.shape_is end.short)
+
+  -- ---- nothing to do
+
+  module _ (done : IsFinished old.size w) where
+    pub finished_empty : s0.log ≡ []
+    finished_empty = done.empty s0 h.begun.has
+
+    pub finished_quiet : AreQuiet (layout_shape layout) old
+    finished_quiet = subst (λ (s : Shape). AreQuiet s old) (sym h.shape_is) done.quiet
+
+    pub finished_short : AreShort (layout_shape layout) old
+    finished_short = subst (λ (s : Shape). AreShort s old) (sym h.shape_is) done.few
+
+-- ---- the counts
+
+pub made_counts : (most : ℕ) (before later : Counts) (events : ℕ) → HasCounted most Made before later → events ≡ later.events - before.events → later ≡ record before { events = before.events + events }
+made_counts most before later events h is =
+    let now = ap (λ (c : Counts). c.events) h.is in
+    h.is ∙ ap (λ n. record before { events = n }) (omega (arith, is, now))
+
+pub made_few : (most : ℕ) (before later : Counts) (events : ℕ) → HasCounted most Made before later → events ≡ later.events - before.events → events ≤ most
+made_few most before later events h is =
+    let now = ap (λ (c : Counts). c.events) h.is in
+    let few = h.few in
+    omega (arith, is, now, few)
+
+pub made_rises : (most : ℕ) (before later : Counts) → HasCounted most Made before later → before.events ≤ later.events
+made_rises most before later h = let now = ap (λ (c : Counts). c.events) h.is in omega (arith, now)
+
+pub stopped_counts : (most : ℕ) (before later : Counts) → HasCounted most Stopped before later → later ≡ record before { events = before.budget; stopped = counted before.stopped }
+stopped_counts most before later h = h.is ∙ ap (λ n. record before { events = n; stopped = counted before.stopped }) (h.cause refl)
+
+pub stopped_few : (most n : ℕ) (before later : Counts) → HasCounted most Stopped before later → before.events + n ≡ before.budget → n ≤ most
+stopped_few most n before later h is = let cause = h.cause refl in let few = h.few in omega (arith, is, cause, few)
+
+pub one_less : (layout : Layout) (s0 : State) (redo : List Change) (running : List Transaction) (checkpoint : Bool) (next : ℕ) (gates : Gates) (most : ℕ) (region : Region) →
+    IsPlanned layout s0 redo running checkpoint next gates most region → IsPlanned layout s0 redo running checkpoint next gates ((most - 1) + 1) region
+one_less layout s0 redo running checkpoint next gates most region h =
+    let is = h.work.most in
+    let same : most ≡ (most - 1) + 1 = omega (arith, is) in
+    subst (λ n. IsPlanned layout s0 redo running checkpoint next gates n region) same h
