@@ -1,6 +1,6 @@
 -- What recovery's clauses say, from what its stages did.
 use Rattle.std.proofs.Common.{◌≡◌, ◌≢◌, ◌⊎◌, inl, inr, ℕ, ◌+◌, ◌-◌, ◌*◌, ◌<◌, ◌≤◌, Bool, true, false, if◌then◌else◌, List, [], ◌∷◌, length, refl, sym, ap, ◌∙◌, subst, arith}
-use Rattle.std.specs.Prelude.{slice_index, IsTrue, ◌↔◌}
+use Rattle.std.specs.Prelude.{slice_index, IsTrue, ◌↔◌, Result, Err}
 use Rattle.persist_model.specs.Region.{Words, Region, AreSettled, newest_words}
 use Rattle.persist_model.specs.Records.{Log, IsAmong, IsCommitted, IsLoser}
 use Rattle.persist_model.specs.Shape.{Shape, shape_of, part_of, words_of_shape}
@@ -24,6 +24,14 @@ use Rattle.recovery_analysis.specs.declared.working.Work.{Work}
 use Rattle.recovery_analysis.specs.Grouping.{IsAscending as IsRising}
 use Rattle.recovery_analysis.specs.Analyses.{AreThose}
 use Rattle.recovery_analysis.specs.Works.{IsWorkOf, appends_of}
+use Rattle.persist_model.specs.Faults.{FaultSet, IsFirstFault}
+use Rattle.region_layout.specs.declared.reading.ImageFault.{ImageFault}
+use Rattle.sound_check.specs.declared.fault.CheckFault.{CheckFault}
+use Rattle.sound_check.specs.declared.fault.CheckFault.TheVariants.{Unsound as Faulty, NoMemory as Refused}
+use Rattle.sound_check.specs.Faulty.{IfUnsound}
+use Rattle.recovery_passes.specs.declared.recovering.RecoverFault.{RecoverFault}
+use Rattle.recovery_passes.specs.declared.recovering.RecoverFault.TheVariants.{Unsound, Stopped as Halted}
+use Rattle.recovery_passes.specs.Refusals.{recover_fault, IfRefused}
 use Rattle.recovery_passes.specs.Recovered.{IsFinished, Restores, EachStands, IsAscending, Lists, AreFates, HasNeed, with_checkpoint, forced, settled as no_checkpoint, most_events, AreFew}
 use Rattle.recovery_passes.specs.Stages.{AreQuiet, AreShort, IsIdle}
 use Rattle.recovery_passes.specs.Passing.{IsCleared}
@@ -190,3 +198,23 @@ one_less layout s0 redo running checkpoint next gates most region h =
     let is = h.work.most in
     let same : most ≡ (most - 1) + 1 = omega (arith, is) in
     subst (λ n. IsPlanned layout s0 redo running checkpoint next gates n region) same h
+
+-- ---- a refusal
+
+pub refused_is : (fault : CheckFault) (faults : FaultSet) → IfUnsound fault faults → IfRefused (recover_fault fault) faults
+refused_is (Faulty x) faults there = there
+refused_is Refused faults there = tt
+
+pub never_halted : (fault : CheckFault) → recover_fault fault ≡ Halted → ⊥
+never_halted (Faulty x) e = cc
+never_halted Refused e = cc
+
+pub unsound_read : (words : List ℕ) (region : Region) → words ≡ newest_words region → (fault : RecoverFault) → IfRefused fault (IsFirstFault (length words) (slice_index words)) → (found : ImageFault) →
+    fault ≡ Unsound found → IsFirstFault region.size (newest_at region) found.fault found.addr
+unsound_read words region is fault there found same =
+    subst (λ n. IsFirstFault n (newest_at region) found.fault found.addr) (length-newest_words region)
+    (subst (λ (xs : List ℕ). IsFirstFault (length xs) (slice_index xs) found.fault found.addr) is
+    (subst (λ (r : RecoverFault). IfRefused r (IsFirstFault (length words) (slice_index words))) same there))
+
+pub err_is : {X : Type 0} (a b : RecoverFault) → ◌≡◌ {A = Result X RecoverFault} (Err a) (Err b) → a ≡ b
+err_is a b e = cc

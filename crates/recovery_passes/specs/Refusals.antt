@@ -2,8 +2,15 @@
 use Rattle.sound_check.specs.declared.fault.CheckFault.{CheckFault}
 use Rattle.sound_check.specs.declared.fault.CheckFault.TheVariants.{Unsound as Faulty, NoMemory as Refused}
 use Rattle.recovery_passes.specs.declared.recovering.RecoverFault.{RecoverFault}
-use Rattle.recovery_passes.specs.declared.recovering.RecoverFault.TheVariants.{Unsound, NoMemory}
+use Rattle.recovery_passes.specs.declared.recovering.RecoverFault.TheVariants.{Unsound, Stopped, NoMemory}
+use Rattle.persist_model.specs.Faults.{FaultSet}
 
 abbrev pub recover_fault : CheckFault → RecoverFault
 recover_fault (Faulty found) = Unsound found
 recover_fault Refused = NoMemory
+
+-- where it is a rule that fails it is one of these faults
+abbrev pub IfRefused : RecoverFault → FaultSet → Type 0
+IfRefused (Unsound found) faults = faults found.fault found.addr
+IfRefused Stopped faults = Unit {0}
+IfRefused NoMemory faults = Unit {0}

@@ -1,4 +1,4 @@
-ghost use Rattle.std.specs.Prelude.{◌≡◌, ◌≤◌, ◌<◌, ◌+◌, ◌^◌, ℕ, Err, OnOk, IfOk};
+ghost use Rattle.std.specs.Prelude.{◌≡◌, ◌≤◌, ◌<◌, ◌+◌, ◌^◌, ℕ, Err, OnOk, IfOk, IfErr, length, slice_index};
 ghost use Rattle.persist_model.specs.Region.{AreSettled};
 ghost use Rattle.persist_model.specs.Shape.{shape_of};
 ghost use Rattle.persist_model.specs.Sound.{IsSound};
@@ -8,14 +8,15 @@ ghost use Rattle.lane_traits.specs.Device.{counted};
 ghost use Rattle.recovery_run.specs.Edges.{KeepsWords, IsHeaderWord};
 ghost use Rattle.recovery_run.specs.Reached.{newest_at};
 ghost use Rattle.recovery_passes.specs.Recovered.{IsFinished, Restores, EachStands, AreFates, AreFew};
-ghost use Rattle.recovery_passes.specs.Refusals.{recover_fault};
+ghost use Rattle.recovery_passes.specs.Refusals.{recover_fault, IfRefused};
+ghost use Rattle.region_layout.specs.Layout.{layout_shape};
 ghost use Rattle.recovery_passes.specs.declared.recovering.RecoverFault.{RecoverFault};
 
 use crate::making::make_events;
 use lane_traits::{Device, Done};
-use persist_model::{List, NoMemory};
+use persist_model::{List, Look, NoMemory};
 use recovery_analysis::{Work, work_of};
-use region_layout::ImageFault;
+use region_layout::{ImageFault, Layout};
 use sound_check::{CheckFault, check};
 use std::alloc::Global;
 
@@ -38,17 +39,6 @@ impl From<NoMemory> for RecoverFault {
     }
 }
 
-impl From<CheckFault> for RecoverFault {
-    ghost from_gives = { λ fault given. given ≡ recover_fault fault };
-
-    fn from(fault: CheckFault) -> Self {
-        match fault {
-            CheckFault::Unsound(found) => RecoverFault::Unsound(found),
-            CheckFault::NoMemory => RecoverFault::NoMemory,
-        }
-    }
-}
-
 /// What a finished recovery found and did.
 #[derive(Drop)]
 pub struct Recovered {
@@ -58,6 +48,29 @@ pub struct Recovered {
     pub losers: List<u64>,
     /// How many events were made.
     pub events: u64,
+}
+
+// What a refused check is to a recovery.
+fn refused(fault: CheckFault) -> RecoverFault
+    ensures { result ≡ recover_fault fault }
+{
+    match fault {
+        CheckFault::Unsound(found) => RecoverFault::Unsound(found),
+        CheckFault::NoMemory => RecoverFault::NoMemory,
+    }
+}
+
+// The layout of a sound image.
+fn checked_layout<W: Look>(alloc: Global, words: &W) -> Result<Layout, RecoverFault>
+    ensures shape { IfOk result (λ layout. layout_shape layout ≡ shape_of (slice_index (W.words words.now))) }
+    ensures sound { OnOk result (IsSound (length (W.words words.now)) (slice_index (W.words words.now))) }
+    ensures unsound { IfErr result (λ fault. IfRefused fault (IsFirstFault (length (W.words words.now)) (slice_index (W.words words.now)))) }
+    ensures unstopped { result ≡ Err RecoverFault.Stopped → ⊥ }
+{
+    match check(alloc, words) {
+        Ok(layout) => Ok(layout),
+        Err(fault) => Err(refused(fault)),
+    }
 }
 
 // Makes room for so many stores.
@@ -107,7 +120,10 @@ pub fn recover<D: Device>(alloc: Global, device: &mut D) -> Result<Recovered, Re
     // Whatever it answers
     ensures header { KeepsWords (IsHeaderWord (shape_of (newest_at (D.cells device.old)))) (D.cells device.old) (D.cells device.new) }
 {
-    let layout = check(alloc, device)?;
+    let layout = match checked_layout(alloc, device) {
+        Ok(layout) => layout,
+        Err(fault) => return Err(fault),
+    };
     let work = work_of(alloc, device, layout)?;
     let Work {
         winners,

@@ -8,17 +8,18 @@ use Rattle.region_layout.specs.Layout.{layout_shape}
 use Rattle.recovery_run.specs.Edges.{HasCounted, KeepsWords, IsHeaderWord}
 use Rattle.recovery_run.specs.Reached.{newest_at}
 use Rattle.recovery_passes.specs.Stages.{AreQuiet, AreShort}
-use Rattle.recovery_passes.proofs.Results.{sound_read, start_of, read_state, plan_of, fates_of, few_are, size_there, header_there, stopped_there, restored_there, finished_there, finished_empty, finished_quiet, finished_short, made_counts, made_few, made_rises, stopped_counts, stopped_few, one_less}
+use Rattle.recovery_passes.proofs.Results.{sound_read, start_of, read_state, plan_of, fates_of, few_are, size_there, header_there, stopped_there, restored_there, finished_there, finished_empty, finished_quiet, finished_short, made_counts, made_few, made_rises, stopped_counts, stopped_few, one_less, unsound_read, err_is}
+use Rattle.recovery_passes.specs.declared.recovering.RecoverFault.TheVariants.{Unsound}
 use Rattle.recovery_passes.proofs.recovering.recover.Goals as goal
 
 pub make_events-done-requires : goal.make_events-done-requires
 make_events-done-requires g c =
-    let layout = c.in_ok-layout.layout in
+    let layout = c.in-Ok.layout in
     let words = g.D.Look.words c.args.device.now in
     let old = g.D.Device.cells c.args.device.now in
     let is = g.met.D.Device.reads c.args.device.now in
-    let sound = c.in_ok-layout.ensures.sound in
-    let start = start_of layout words old c.requires.settled is sound c.in_ok-layout.ensures.shape in
+    let sound = c.in-Ok.ensures.sound in
+    let start = start_of layout words old c.requires.settled is sound c.in-Ok.ensures.shape in
     let s0 = (sound_read words old is sound).state in
     let work = c.in_ok-work.work in
     let is_work = c.in_ok-work.ensures s0 (read_state layout words old s0 is start) in
@@ -29,12 +30,12 @@ make_events-done-requires g c =
 
 pub overflow_sub-result : goal.overflow_sub-result
 overflow_sub-result g c =
-    let layout = c.in_ok-layout.layout in
+    let layout = c.in-Ok.layout in
     let words = g.D.Look.words c.args.device.now in
     let old = g.D.Device.cells c.args.device.now in
     let is = g.met.D.Device.reads c.args.device.now in
-    let sound = c.in_ok-layout.ensures.sound in
-    let start = start_of layout words old c.requires.settled is sound c.in_ok-layout.ensures.shape in
+    let sound = c.in-Ok.ensures.sound in
+    let start = start_of layout words old c.requires.settled is sound c.in-Ok.ensures.shape in
     let s0 = (sound_read words old is sound).state in
     let work = c.in_ok-work.work in
     let is_work = c.in_ok-work.ensures s0 (read_state layout words old s0 is start) in
@@ -52,12 +53,12 @@ overflow_sub-result g c =
 
 pub returns-in-Stopped-clause-size : goal.returns-in-Stopped-clause-size
 returns-in-Stopped-clause-size g c =
-    let layout = c.in_ok-layout.layout in
+    let layout = c.in-Ok.layout in
     let words = g.D.Look.words c.args.device.now in
     let old = g.D.Device.cells c.args.device.now in
     let is = g.met.D.Device.reads c.args.device.now in
-    let sound = c.in_ok-layout.ensures.sound in
-    let start = start_of layout words old c.requires.settled is sound c.in_ok-layout.ensures.shape in
+    let sound = c.in-Ok.ensures.sound in
+    let start = start_of layout words old c.requires.settled is sound c.in-Ok.ensures.shape in
     let s0 = (sound_read words old is sound).state in
     let work = c.in_ok-work.work in
     let is_work = c.in_ok-work.ensures s0 (read_state layout words old s0 is start) in
@@ -70,12 +71,12 @@ returns-in-Stopped-clause-size g c =
 
 pub returns-in-Stopped-clause-stopped_sound : goal.returns-in-Stopped-clause-stopped_sound
 returns-in-Stopped-clause-stopped_sound g c = λ stopped.
-    let layout = c.in_ok-layout.layout in
+    let layout = c.in-Ok.layout in
     let words = g.D.Look.words c.args.device.now in
     let old = g.D.Device.cells c.args.device.now in
     let is = g.met.D.Device.reads c.args.device.now in
-    let sound = c.in_ok-layout.ensures.sound in
-    let start = start_of layout words old c.requires.settled is sound c.in_ok-layout.ensures.shape in
+    let sound = c.in-Ok.ensures.sound in
+    let start = start_of layout words old c.requires.settled is sound c.in-Ok.ensures.shape in
     let s0 = (sound_read words old is sound).state in
     let work = c.in_ok-work.work in
     let is_work = c.in_ok-work.ensures s0 (read_state layout words old s0 is start) in
@@ -83,12 +84,12 @@ returns-in-Stopped-clause-stopped_sound g c = λ stopped.
 
 pub returns-in-Stopped-clause-stopped : goal.returns-in-Stopped-clause-stopped
 returns-in-Stopped-clause-stopped g c = λ stopped.
-    let layout = c.in_ok-layout.layout in
+    let layout = c.in-Ok.layout in
     let words = g.D.Look.words c.args.device.now in
     let old = g.D.Device.cells c.args.device.now in
     let is = g.met.D.Device.reads c.args.device.now in
-    let sound = c.in_ok-layout.ensures.sound in
-    let start = start_of layout words old c.requires.settled is sound c.in_ok-layout.ensures.shape in
+    let sound = c.in-Ok.ensures.sound in
+    let start = start_of layout words old c.requires.settled is sound c.in-Ok.ensures.shape in
     let s0 = (sound_read words old is sound).state in
     let work = c.in_ok-work.work in
     let is_work = c.in_ok-work.ensures s0 (read_state layout words old s0 is start) in
@@ -102,12 +103,12 @@ returns-in-Stopped-clause-stopped g c = λ stopped.
 
 pub returns-in-Stopped-clause-stopped_counts : goal.returns-in-Stopped-clause-stopped_counts
 returns-in-Stopped-clause-stopped_counts g c = λ stopped.
-    let layout = c.in_ok-layout.layout in
+    let layout = c.in-Ok.layout in
     let words = g.D.Look.words c.args.device.now in
     let old = g.D.Device.cells c.args.device.now in
     let is = g.met.D.Device.reads c.args.device.now in
-    let sound = c.in_ok-layout.ensures.sound in
-    let start = start_of layout words old c.requires.settled is sound c.in_ok-layout.ensures.shape in
+    let sound = c.in-Ok.ensures.sound in
+    let start = start_of layout words old c.requires.settled is sound c.in-Ok.ensures.shape in
     let s0 = (sound_read words old is sound).state in
     let work = c.in_ok-work.work in
     let is_work = c.in_ok-work.ensures s0 (read_state layout words old s0 is start) in
@@ -121,12 +122,12 @@ returns-in-Stopped-clause-stopped_counts g c = λ stopped.
 
 pub returns-in-Stopped-clause-stopped_early : goal.returns-in-Stopped-clause-stopped_early
 returns-in-Stopped-clause-stopped_early g c = λ stopped n sum.
-    let layout = c.in_ok-layout.layout in
+    let layout = c.in-Ok.layout in
     let words = g.D.Look.words c.args.device.now in
     let old = g.D.Device.cells c.args.device.now in
     let is = g.met.D.Device.reads c.args.device.now in
-    let sound = c.in_ok-layout.ensures.sound in
-    let start = start_of layout words old c.requires.settled is sound c.in_ok-layout.ensures.shape in
+    let sound = c.in-Ok.ensures.sound in
+    let start = start_of layout words old c.requires.settled is sound c.in-Ok.ensures.shape in
     let s0 = (sound_read words old is sound).state in
     let work = c.in_ok-work.work in
     let is_work = c.in_ok-work.ensures s0 (read_state layout words old s0 is start) in
@@ -141,12 +142,12 @@ returns-in-Stopped-clause-stopped_early g c = λ stopped n sum.
 
 pub returns-in-Stopped-clause-unfinished : goal.returns-in-Stopped-clause-unfinished
 returns-in-Stopped-clause-unfinished g c = λ finished stopped.
-    let layout = c.in_ok-layout.layout in
+    let layout = c.in-Ok.layout in
     let words = g.D.Look.words c.args.device.now in
     let old = g.D.Device.cells c.args.device.now in
     let is = g.met.D.Device.reads c.args.device.now in
-    let sound = c.in_ok-layout.ensures.sound in
-    let start = start_of layout words old c.requires.settled is sound c.in_ok-layout.ensures.shape in
+    let sound = c.in-Ok.ensures.sound in
+    let start = start_of layout words old c.requires.settled is sound c.in-Ok.ensures.shape in
     let s0 = (sound_read words old is sound).state in
     let work = c.in_ok-work.work in
     let is_work = c.in_ok-work.ensures s0 (read_state layout words old s0 is start) in
@@ -161,12 +162,12 @@ returns-in-Stopped-clause-unfinished g c = λ finished stopped.
 
 pub returns-in-Stopped-clause-header : goal.returns-in-Stopped-clause-header
 returns-in-Stopped-clause-header g c =
-    let layout = c.in_ok-layout.layout in
+    let layout = c.in-Ok.layout in
     let words = g.D.Look.words c.args.device.now in
     let old = g.D.Device.cells c.args.device.now in
     let is = g.met.D.Device.reads c.args.device.now in
-    let sound = c.in_ok-layout.ensures.sound in
-    let start = start_of layout words old c.requires.settled is sound c.in_ok-layout.ensures.shape in
+    let sound = c.in-Ok.ensures.sound in
+    let start = start_of layout words old c.requires.settled is sound c.in-Ok.ensures.shape in
     let s0 = (sound_read words old is sound).state in
     let work = c.in_ok-work.work in
     let is_work = c.in_ok-work.ensures s0 (read_state layout words old s0 is start) in
@@ -179,12 +180,12 @@ returns-in-Stopped-clause-header g c =
 
 pub returns-in-Made-clause-sound : goal.returns-in-Made-clause-sound
 returns-in-Made-clause-sound g c =
-    let layout = c.in_ok-layout.layout in
+    let layout = c.in-Ok.layout in
     let words = g.D.Look.words c.args.device.now in
     let old = g.D.Device.cells c.args.device.now in
     let is = g.met.D.Device.reads c.args.device.now in
-    let sound = c.in_ok-layout.ensures.sound in
-    let start = start_of layout words old c.requires.settled is sound c.in_ok-layout.ensures.shape in
+    let sound = c.in-Ok.ensures.sound in
+    let start = start_of layout words old c.requires.settled is sound c.in-Ok.ensures.shape in
     let s0 = (sound_read words old is sound).state in
     let work = c.in_ok-work.work in
     let is_work = c.in_ok-work.ensures s0 (read_state layout words old s0 is start) in
@@ -192,12 +193,12 @@ returns-in-Made-clause-sound g c =
 
 pub returns-in-Made-clause-fates : goal.returns-in-Made-clause-fates
 returns-in-Made-clause-fates g c =
-    let layout = c.in_ok-layout.layout in
+    let layout = c.in-Ok.layout in
     let words = g.D.Look.words c.args.device.now in
     let old = g.D.Device.cells c.args.device.now in
     let is = g.met.D.Device.reads c.args.device.now in
-    let sound = c.in_ok-layout.ensures.sound in
-    let start = start_of layout words old c.requires.settled is sound c.in_ok-layout.ensures.shape in
+    let sound = c.in-Ok.ensures.sound in
+    let start = start_of layout words old c.requires.settled is sound c.in-Ok.ensures.shape in
     let s0 = (sound_read words old is sound).state in
     let work = c.in_ok-work.work in
     let is_work = c.in_ok-work.ensures s0 (read_state layout words old s0 is start) in
@@ -205,12 +206,12 @@ returns-in-Made-clause-fates g c =
 
 pub returns-in-Made-clause-restored : goal.returns-in-Made-clause-restored
 returns-in-Made-clause-restored g c =
-    let layout = c.in_ok-layout.layout in
+    let layout = c.in-Ok.layout in
     let words = g.D.Look.words c.args.device.now in
     let old = g.D.Device.cells c.args.device.now in
     let is = g.met.D.Device.reads c.args.device.now in
-    let sound = c.in_ok-layout.ensures.sound in
-    let start = start_of layout words old c.requires.settled is sound c.in_ok-layout.ensures.shape in
+    let sound = c.in-Ok.ensures.sound in
+    let start = start_of layout words old c.requires.settled is sound c.in-Ok.ensures.shape in
     let s0 = (sound_read words old is sound).state in
     let work = c.in_ok-work.work in
     let is_work = c.in_ok-work.ensures s0 (read_state layout words old s0 is start) in
@@ -224,12 +225,12 @@ returns-in-Made-clause-restored g c =
 
 pub returns-in-Made-clause-settled : goal.returns-in-Made-clause-settled
 returns-in-Made-clause-settled g c =
-    let layout = c.in_ok-layout.layout in
+    let layout = c.in-Ok.layout in
     let words = g.D.Look.words c.args.device.now in
     let old = g.D.Device.cells c.args.device.now in
     let is = g.met.D.Device.reads c.args.device.now in
-    let sound = c.in_ok-layout.ensures.sound in
-    let start = start_of layout words old c.requires.settled is sound c.in_ok-layout.ensures.shape in
+    let sound = c.in-Ok.ensures.sound in
+    let start = start_of layout words old c.requires.settled is sound c.in-Ok.ensures.shape in
     let s0 = (sound_read words old is sound).state in
     let work = c.in_ok-work.work in
     let is_work = c.in_ok-work.ensures s0 (read_state layout words old s0 is start) in
@@ -241,12 +242,12 @@ returns-in-Made-clause-settled g c =
 
 pub returns-in-Made-clause-finished : goal.returns-in-Made-clause-finished
 returns-in-Made-clause-finished g c =
-    let layout = c.in_ok-layout.layout in
+    let layout = c.in-Ok.layout in
     let words = g.D.Look.words c.args.device.now in
     let old = g.D.Device.cells c.args.device.now in
     let is = g.met.D.Device.reads c.args.device.now in
-    let sound = c.in_ok-layout.ensures.sound in
-    let start = start_of layout words old c.requires.settled is sound c.in_ok-layout.ensures.shape in
+    let sound = c.in-Ok.ensures.sound in
+    let start = start_of layout words old c.requires.settled is sound c.in-Ok.ensures.shape in
     let s0 = (sound_read words old is sound).state in
     let work = c.in_ok-work.work in
     let is_work = c.in_ok-work.ensures s0 (read_state layout words old s0 is start) in
@@ -260,12 +261,12 @@ returns-in-Made-clause-finished g c =
 
 pub returns-in-Made-clause-size : goal.returns-in-Made-clause-size
 returns-in-Made-clause-size g c =
-    let layout = c.in_ok-layout.layout in
+    let layout = c.in-Ok.layout in
     let words = g.D.Look.words c.args.device.now in
     let old = g.D.Device.cells c.args.device.now in
     let is = g.met.D.Device.reads c.args.device.now in
-    let sound = c.in_ok-layout.ensures.sound in
-    let start = start_of layout words old c.requires.settled is sound c.in_ok-layout.ensures.shape in
+    let sound = c.in-Ok.ensures.sound in
+    let start = start_of layout words old c.requires.settled is sound c.in-Ok.ensures.shape in
     let s0 = (sound_read words old is sound).state in
     let work = c.in_ok-work.work in
     let is_work = c.in_ok-work.ensures s0 (read_state layout words old s0 is start) in
@@ -278,12 +279,12 @@ returns-in-Made-clause-size g c =
 
 pub returns-in-Made-clause-events : goal.returns-in-Made-clause-events
 returns-in-Made-clause-events g c =
-    let layout = c.in_ok-layout.layout in
+    let layout = c.in-Ok.layout in
     let words = g.D.Look.words c.args.device.now in
     let old = g.D.Device.cells c.args.device.now in
     let is = g.met.D.Device.reads c.args.device.now in
-    let sound = c.in_ok-layout.ensures.sound in
-    let start = start_of layout words old c.requires.settled is sound c.in_ok-layout.ensures.shape in
+    let sound = c.in-Ok.ensures.sound in
+    let start = start_of layout words old c.requires.settled is sound c.in-Ok.ensures.shape in
     let s0 = (sound_read words old is sound).state in
     let work = c.in_ok-work.work in
     let is_work = c.in_ok-work.ensures s0 (read_state layout words old s0 is start) in
@@ -299,12 +300,12 @@ returns-in-Made-clause-events g c =
 
 pub returns-in-Made-clause-few : goal.returns-in-Made-clause-few
 returns-in-Made-clause-few g c =
-    let layout = c.in_ok-layout.layout in
+    let layout = c.in-Ok.layout in
     let words = g.D.Look.words c.args.device.now in
     let old = g.D.Device.cells c.args.device.now in
     let is = g.met.D.Device.reads c.args.device.now in
-    let sound = c.in_ok-layout.ensures.sound in
-    let start = start_of layout words old c.requires.settled is sound c.in_ok-layout.ensures.shape in
+    let sound = c.in-Ok.ensures.sound in
+    let start = start_of layout words old c.requires.settled is sound c.in-Ok.ensures.shape in
     let s0 = (sound_read words old is sound).state in
     let work = c.in_ok-work.work in
     let is_work = c.in_ok-work.ensures s0 (read_state layout words old s0 is start) in
@@ -321,12 +322,12 @@ returns-in-Made-clause-few g c =
 
 pub returns-in-Made-clause-again : goal.returns-in-Made-clause-again
 returns-in-Made-clause-again g c = λ finished.
-    let layout = c.in_ok-layout.layout in
+    let layout = c.in-Ok.layout in
     let words = g.D.Look.words c.args.device.now in
     let old = g.D.Device.cells c.args.device.now in
     let is = g.met.D.Device.reads c.args.device.now in
-    let sound = c.in_ok-layout.ensures.sound in
-    let start = start_of layout words old c.requires.settled is sound c.in_ok-layout.ensures.shape in
+    let sound = c.in-Ok.ensures.sound in
+    let start = start_of layout words old c.requires.settled is sound c.in-Ok.ensures.shape in
     let s0 = (sound_read words old is sound).state in
     let work = c.in_ok-work.work in
     let is_work = c.in_ok-work.ensures s0 (read_state layout words old s0 is start) in
@@ -343,12 +344,12 @@ returns-in-Made-clause-again g c = λ finished.
 
 pub returns-in-Made-clause-header : goal.returns-in-Made-clause-header
 returns-in-Made-clause-header g c =
-    let layout = c.in_ok-layout.layout in
+    let layout = c.in-Ok.layout in
     let words = g.D.Look.words c.args.device.now in
     let old = g.D.Device.cells c.args.device.now in
     let is = g.met.D.Device.reads c.args.device.now in
-    let sound = c.in_ok-layout.ensures.sound in
-    let start = start_of layout words old c.requires.settled is sound c.in_ok-layout.ensures.shape in
+    let sound = c.in-Ok.ensures.sound in
+    let start = start_of layout words old c.requires.settled is sound c.in-Ok.ensures.shape in
     let s0 = (sound_read words old is sound).state in
     let work = c.in_ok-work.work in
     let is_work = c.in_ok-work.ensures s0 (read_state layout words old s0 is start) in
@@ -359,3 +360,8 @@ returns-in-Made-clause-header g c =
     let keeps = subst (λ (r : Region). KeepsWords (IsHeaderWord (layout_shape layout)) r later) c.in_ok-make_room.ensures.cells c.in-Made.ensures.header in
     header_there layout old s0 start later keeps
 
+
+pub returns-in-Err-clause-unsound : goal.returns-in-Err-clause-unsound
+returns-in-Err-clause-unsound g c = λ found e.
+    unsound_read (g.D.Look.words c.args.device.now) (g.D.Device.cells c.args.device.now) (g.met.D.Device.reads c.args.device.now) c.in-Err.fault c.in-Err.ensures.unsound found
+    (err_is c.in-Err.fault (Unsound found) e)
