@@ -9,7 +9,6 @@ ghost use Rattle.image_runner.specs.Ends.{words_of, IsAdmitted, IsRefusedBy, IsE
 ghost use Rattle.image_runner.specs.Tells.{Tells, end_of_refusal, end_of_fault};
 
 use crate::checking::check;
-use sound_check::CheckFault;
 use crate::map_lines::wrong_line;
 use crate::maps::{MapFault, read_maps};
 use image_text::{Image, TextFault, read_image, write_image};
@@ -18,6 +17,7 @@ use persist_model::{List, Look, NoMemory};
 use recovery_passes::{RecoverFault, Recovered, recover};
 use region_layout::{ImageFault, Kind, Layout};
 use rewind_script::{RecoveryReport, write_recovery};
+use sound_check::CheckFault;
 use std::alloc::Global;
 
 /// What is to be told of a recovery.

@@ -49,7 +49,13 @@ fn close_gates<D: Device>(device: &mut D, layout: Layout, gates: Gates) -> Done
 }
 
 // The checkpoint record, where it is wanted.
-fn checkpoint_if<D: Device>(device: &mut D, layout: Layout, wanted: bool, next: &mut u64, gates: &mut Gates) -> Done
+fn checkpoint_if<D: Device>(
+    device: &mut D,
+    layout: Layout,
+    wanted: bool,
+    next: &mut u64,
+    gates: &mut Gates,
+) -> Done
     requires can { (first : State) × (total : ℕ) × Undoes layout first total [] next.old gates.old (D.cells device.old)
         × IsSoundState (layout_shape layout) first × IsWanted layout first wanted }
     requires spare { (if wanted then layout.cells + 21 else 0) ≤ D.spare device.old }
@@ -72,7 +78,13 @@ fn checkpoint_if<D: Device>(device: &mut D, layout: Layout, wanted: bool, next: 
 }
 
 /// Behind the undo: a checkpoint record where it is wanted, the closing of all records, and the closed buckets.
-pub fn clear<D: Device>(device: &mut D, layout: Layout, wanted: bool, next: u64, gates: Gates) -> Done
+pub fn clear<D: Device>(
+    device: &mut D,
+    layout: Layout,
+    wanted: bool,
+    next: u64,
+    gates: Gates,
+) -> Done
     requires can { (first : State) × (total : ℕ) × Undoes layout first total [] next gates (D.cells device.old)
         × IsSoundState (layout_shape layout) first × IsWanted layout first wanted }
     requires spare { clear_events layout wanted (gates_len gates) ≤ D.spare device.old }

@@ -40,7 +40,14 @@ pub fn undo_all<D: Device>(
     ensures idle_gates { running.now ≡ [] → gates.new ≡ gates.old }
 {
     for transaction in running {
-        match undo(device, layout, transaction.number, transaction.records.as_slice(), next, gates) {
+        match undo(
+            device,
+            layout,
+            transaction.number,
+            transaction.records.as_slice(),
+            next,
+            gates,
+        ) {
             Done::Stopped => return Done::Stopped,
             Done::Made => {}
         }

@@ -181,7 +181,7 @@ to_append_zero cells p place r region few h at one = by_test place.fresh
     by_test true =
         let before : Region = after_plan RECOVERY region (map (out_event p) (front_of cells place)) in
         let whole : after_plan RECOVERY region (map (out_event p) ((closing place.bucket cells ++ insertion (insertion_of place)) ++ cell_plan r))
-            ≡ after_plan RECOVERY before (PStore (list_words p + 2) 0 ∷ Fence ∷ map (out_event p) (cell_plan r)) =
+        ≡ after_plan RECOVERY before (PStore (list_words p + 2) 0 ∷ Fence ∷ map (out_event p) (cell_plan r)) =
         ap (λ es. after_plan RECOVERY region (map (out_event p) es)) split
         ∙ ap (after_plan RECOVERY region) (map-append (out_event p) (front_of cells place) (PStore 10 0 ∷ Fence ∷ cell_plan r))
         ∙ after_both RECOVERY region (map (out_event p) (front_of cells place)) (PStore (list_words p + 2) 0 ∷ Fence ∷ map (out_event p) (cell_plan r)) in

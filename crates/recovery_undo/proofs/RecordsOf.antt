@@ -20,7 +20,6 @@ not_of_kind t k r off ne = elim (eqb_tells r.transaction t) [
   ]
 ]
 
-
 pub to_undo-records_of : (t : ℕ) (log : Log) → to_undo t (records_of t log) ≡ to_undo t log
 to_undo-records_of t [] = refl
 to_undo-records_of t (r ∷ log) = by_test (is_of t r) refl (to_undo-records_of t log)
@@ -29,9 +28,9 @@ to_undo-records_of t (r ∷ log) = by_test (is_of t r) refl (to_undo-records_of 
         to_undo t (if b then r ∷ records_of t log else records_of t log) ≡ (if is_kind_of t 1 r then r ∷ to_undo t log else (if is_kind_of t 2 r then rest (to_undo t log) else to_undo t log))
     by_test true is again = ap (λ stack. if is_kind_of t 1 r then r ∷ stack else (if is_kind_of t 2 r then rest stack else stack)) again
     by_test false off again = (
-      let one = not_of_kind t 1 r off (omega arith) in
-      let two = not_of_kind t 2 r off (omega arith) in
-      rw (one, two) again)
+        let one = not_of_kind t 1 r off (omega arith) in
+        let two = not_of_kind t 2 r off (omega arith) in
+        rw (one, two) again)
 
 pub undone_words-records_of : (t : ℕ) (log : Log) (w : Words) → undone_words t (records_of t log) w ≡ undone_words t log w
 undone_words-records_of t [] w = refl

@@ -14,7 +14,12 @@ use region_layout::Layout;
 
 /// Appends a checkpoint record to the first partition, once nothing runs and each word has its standing value: from then on
 /// nothing is to be redone. `next` is raised, and the gate is put into `gates`, in memory that is there.
-pub fn append_checkpoint<D: Device>(device: &mut D, layout: Layout, next: &mut u64, gates: &mut Gates) -> Done
+pub fn append_checkpoint<D: Device>(
+    device: &mut D,
+    layout: Layout,
+    next: &mut u64,
+    gates: &mut Gates,
+) -> Done
     requires can { (first y : State) × CanCheckpoint layout next.old gates.old first y (D.cells device.old) }
     requires spare { layout.cells + 21 ≤ D.spare device.old }
     ensures made { result ≡ Done.Made → (first y : State) → CanCheckpoint layout next.old gates.old first y (D.cells device.old)

@@ -21,7 +21,13 @@ use recovery_run::{Gates, fence, put, store};
 use region_layout::{Cell, Layout};
 
 // Appends a compensation or a rollback record.
-fn append_note<D: Device>(device: &mut D, target: Target, cell: &Cell, next: &mut u64, gates: &mut Gates) -> Done
+fn append_note<D: Device>(
+    device: &mut D,
+    target: Target,
+    cell: &Cell,
+    next: &mut u64,
+    gates: &mut Gates,
+) -> Done
     requires { (start : Start) × (z : State) × (left : ℕ) × HasGone target start z left next.old gates.old (seen (D.cells device.old) (D.counts device.old) (D.spare device.old))
         × CanNote target start.state z cell.now }
     ensures made { result ≡ Done.Made → (start : Start) (z : State) (left : ℕ)
@@ -49,7 +55,13 @@ fn has_rollback(records: &[Placed]) -> bool
 }
 
 // Appends the rollback record, if it isn't there.
-fn begin<D: Device>(device: &mut D, target: Target, records: &[Placed], next: &mut u64, gates: &mut Gates) -> Done
+fn begin<D: Device>(
+    device: &mut D,
+    target: Target,
+    records: &[Placed],
+    next: &mut u64,
+    gates: &mut Gates,
+) -> Done
     requires { (start : Start) × Begins target start records.now next.old gates.old (seen (D.cells device.old) (D.counts device.old) (D.spare device.old)) }
     ensures made { result ≡ Done.Made → (start : Start)
         → Begins target start records.now next.old gates.old (seen (D.cells device.old) (D.counts device.old) (D.spare device.old))
@@ -66,7 +78,13 @@ fn begin<D: Device>(device: &mut D, target: Target, records: &[Placed], next: &m
 }
 
 // Appends the compensation of an update that has none.
-fn compensate<D: Device>(device: &mut D, target: Target, update: &Placed, next: &mut u64, gates: &mut Gates) -> Done
+fn compensate<D: Device>(
+    device: &mut D,
+    target: Target,
+    update: &Placed,
+    next: &mut u64,
+    gates: &mut Gates,
+) -> Done
     requires passes { (start : Start) × (left : Log) × Passes target start (record_of_placed update.now ∷ left) 0 next.old gates.old
         (seen (D.cells device.old) (D.counts device.old) (D.spare device.old)) }
     requires update { update.now.cell.kind ≡ 1 }
@@ -158,7 +176,13 @@ fn turn<D: Device>(
 }
 
 // Passes the records, newest first.
-fn pass<D: Device>(device: &mut D, target: Target, records: &[Placed], next: &mut u64, gates: &mut Gates) -> Done
+fn pass<D: Device>(
+    device: &mut D,
+    target: Target,
+    records: &[Placed],
+    next: &mut u64,
+    gates: &mut Gates,
+) -> Done
     requires { (start : Start) × Passes target start (reverse (map record_of_placed records.now)) 0 next.old gates.old
         (seen (D.cells device.old) (D.counts device.old) (D.spare device.old)) }
     ensures made { result ≡ Done.Made → (start : Start)
@@ -206,7 +230,13 @@ fn finish<D: Device>(device: &mut D, target: Target, next: &mut u64, gates: &mut
 }
 
 // Undoes the transaction of these records.
-fn undo_target<D: Device>(device: &mut D, target: Target, records: &[Placed], next: &mut u64, gates: &mut Gates) -> Done
+fn undo_target<D: Device>(
+    device: &mut D,
+    target: Target,
+    records: &[Placed],
+    next: &mut u64,
+    gates: &mut Gates,
+) -> Done
     requires { (start : Start) × Begins target start records.now next.old gates.old (seen (D.cells device.old) (D.counts device.old) (D.spare device.old)) }
     ensures made { result ≡ Done.Made → (start : Start)
         → Begins target start records.now next.old gates.old (seen (D.cells device.old) (D.counts device.old) (D.spare device.old))

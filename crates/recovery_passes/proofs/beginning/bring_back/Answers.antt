@@ -43,9 +43,9 @@ undo_all-requires g c =
     let few = c.args.layout.partitions_within in
     let settled = c.in-Made.ensures.made refl r.0 r.0 r.2.settled in
     let there = c.in-Made-redo_all.ensures.made refl (layout_shape c.args.layout) r.0 r.0 settled
-        (may_store c.args.layout r.0 r.1 c.args.redo.now c.args.running.now c.args.next.now c.args.gates.now (g.D.Device.cells c.args.device.now) r.2) in
+    (may_store c.args.layout r.0 r.1 c.args.redo.now c.args.running.now c.args.next.now c.args.gates.now (g.D.Device.cells c.args.device.now) r.2) in
     let undoes = undoes_at c.args.layout r.0 r.1 c.args.redo.now c.args.running.now c.args.next.now c.args.gates.now (g.D.Device.cells c.args.device.now) r.2 (g.D.Device.cells c.repair_all.new.device)
-        (g.D.Device.cells c.redo_all.new.device) (omega (arith, few)) settled (c.in-Made.ensures.quiet refl) there c.in-Made-redo_all.ensures.aside in
+    (g.D.Device.cells c.redo_all.new.device) (omega (arith, few)) settled (c.in-Made.ensures.quiet refl) there c.in-Made-redo_all.ensures.aside in
     let enough = r.4 in
     let first_left = c.in-Made.ensures.spare_left in
     let second_left = c.in-Made-redo_all.ensures.spare_left in
@@ -56,9 +56,9 @@ returns-clause-made g c = λ made first total h sound enough.
     let few = c.args.layout.partitions_within in
     let settled = c.in-Made.ensures.made refl first first h.settled in
     let there = c.in-Made-redo_all.ensures.made refl (layout_shape c.args.layout) first first settled
-        (may_store c.args.layout first total c.args.redo.now c.args.running.now c.args.next.now c.args.gates.now (g.D.Device.cells c.args.device.now) h) in
+    (may_store c.args.layout first total c.args.redo.now c.args.running.now c.args.next.now c.args.gates.now (g.D.Device.cells c.args.device.now) h) in
     let undoes = undoes_at c.args.layout first total c.args.redo.now c.args.running.now c.args.next.now c.args.gates.now (g.D.Device.cells c.args.device.now) h (g.D.Device.cells c.repair_all.new.device)
-        (g.D.Device.cells c.redo_all.new.device) (omega (arith, few)) settled (c.in-Made.ensures.quiet refl) there c.in-Made-redo_all.ensures.aside in
+    (g.D.Device.cells c.redo_all.new.device) (omega (arith, few)) settled (c.in-Made.ensures.quiet refl) there c.in-Made-redo_all.ensures.aside in
     let first_left = c.in-Made.ensures.spare_left in
     let second_left = c.in-Made-redo_all.ensures.spare_left in
     c.undo_all.ensures.made made first total undoes sound (omega (arith, enough, first_left, second_left))
@@ -68,9 +68,9 @@ returns-clause-stopped g c = λ stopped first total h sound enough.
     let few = c.args.layout.partitions_within in
     let settled = c.in-Made.ensures.made refl first first h.settled in
     let there = c.in-Made-redo_all.ensures.made refl (layout_shape c.args.layout) first first settled
-        (may_store c.args.layout first total c.args.redo.now c.args.running.now c.args.next.now c.args.gates.now (g.D.Device.cells c.args.device.now) h) in
+    (may_store c.args.layout first total c.args.redo.now c.args.running.now c.args.next.now c.args.gates.now (g.D.Device.cells c.args.device.now) h) in
     let undoes = undoes_at c.args.layout first total c.args.redo.now c.args.running.now c.args.next.now c.args.gates.now (g.D.Device.cells c.args.device.now) h (g.D.Device.cells c.repair_all.new.device)
-        (g.D.Device.cells c.redo_all.new.device) (omega (arith, few)) settled (c.in-Made.ensures.quiet refl) there c.in-Made-redo_all.ensures.aside in
+    (g.D.Device.cells c.redo_all.new.device) (omega (arith, few)) settled (c.in-Made.ensures.quiet refl) there c.in-Made-redo_all.ensures.aside in
     let first_left = c.in-Made.ensures.spare_left in
     let second_left = c.in-Made-redo_all.ensures.spare_left in
     c.undo_all.ensures.stopped stopped first total undoes sound (omega (arith, enough, first_left, second_left))
@@ -80,9 +80,9 @@ returns-clause-counted g c = λ first total h sound enough.
     let few = c.args.layout.partitions_within in
     let settled = c.in-Made.ensures.made refl first first h.settled in
     let there = c.in-Made-redo_all.ensures.made refl (layout_shape c.args.layout) first first settled
-        (may_store c.args.layout first total c.args.redo.now c.args.running.now c.args.next.now c.args.gates.now (g.D.Device.cells c.args.device.now) h) in
+    (may_store c.args.layout first total c.args.redo.now c.args.running.now c.args.next.now c.args.gates.now (g.D.Device.cells c.args.device.now) h) in
     let undoes = undoes_at c.args.layout first total c.args.redo.now c.args.running.now c.args.next.now c.args.gates.now (g.D.Device.cells c.args.device.now) h (g.D.Device.cells c.repair_all.new.device)
-        (g.D.Device.cells c.redo_all.new.device) (omega (arith, few)) settled (c.in-Made.ensures.quiet refl) there c.in-Made-redo_all.ensures.aside in
+    (g.D.Device.cells c.redo_all.new.device) (omega (arith, few)) settled (c.in-Made.ensures.quiet refl) there c.in-Made-redo_all.ensures.aside in
     let first_left = c.in-Made.ensures.spare_left in
     let second_left = c.in-Made-redo_all.ensures.spare_left in
     counted_then (15 + (length c.args.redo.now + 1)) (undo_all_events c.args.layout first.log c.args.running.now) c.undo_all.result (g.D.Device.counts c.args.device.now) (g.D.Device.counts c.redo_all.new.device)
@@ -95,9 +95,9 @@ returns-clause-spare_left g c = λ first total h sound enough.
     let few = c.args.layout.partitions_within in
     let settled = c.in-Made.ensures.made refl first first h.settled in
     let there = c.in-Made-redo_all.ensures.made refl (layout_shape c.args.layout) first first settled
-        (may_store c.args.layout first total c.args.redo.now c.args.running.now c.args.next.now c.args.gates.now (g.D.Device.cells c.args.device.now) h) in
+    (may_store c.args.layout first total c.args.redo.now c.args.running.now c.args.next.now c.args.gates.now (g.D.Device.cells c.args.device.now) h) in
     let undoes = undoes_at c.args.layout first total c.args.redo.now c.args.running.now c.args.next.now c.args.gates.now (g.D.Device.cells c.args.device.now) h (g.D.Device.cells c.repair_all.new.device)
-        (g.D.Device.cells c.redo_all.new.device) (omega (arith, few)) settled (c.in-Made.ensures.quiet refl) there c.in-Made-redo_all.ensures.aside in
+    (g.D.Device.cells c.redo_all.new.device) (omega (arith, few)) settled (c.in-Made.ensures.quiet refl) there c.in-Made-redo_all.ensures.aside in
     let first_left = c.in-Made.ensures.spare_left in
     let second_left = c.in-Made-redo_all.ensures.spare_left in
     let third_left = c.undo_all.ensures.spare_left first total undoes sound (omega (arith, enough, first_left, second_left)) in

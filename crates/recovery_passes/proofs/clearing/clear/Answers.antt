@@ -56,7 +56,7 @@ returns-clause-counted g c =
     let mark = if c.args.wanted then c.args.layout.cells + 21 else 0 in
     let len = c.in-Made.ensures.count refl in
     let first_two = counted_then mark (gates_len c.checkpoint_if.new.gates + 3) Made (g.D.Device.counts c.args.device.now) (g.D.Device.counts c.checkpoint_if.new.device) (g.D.Device.counts c.close_gates.new.device)
-        c.in-Made.ensures.counted c.in-Made-close_gates.ensures.counted in
+    c.in-Made.ensures.counted c.in-Made-close_gates.ensures.counted in
     counted_more (mark + (gates_len c.checkpoint_if.new.gates + 3) + 7 * c.args.layout.buckets) (clear_events c.args.layout c.args.wanted (gates_len c.args.gates)) c.drop_all.result (g.D.Device.counts c.args.device.now)
     (g.D.Device.counts c.drop_all.new.device) (clear_fits c.args.layout c.args.wanted (gates_len c.args.gates) (gates_len c.checkpoint_if.new.gates) len)
     (counted_then (mark + (gates_len c.checkpoint_if.new.gates + 3)) (7 * c.args.layout.buckets) c.drop_all.result (g.D.Device.counts c.args.device.now) (g.D.Device.counts c.close_gates.new.device)

@@ -40,8 +40,8 @@ returns-in-Stopped-clause-counted g c = λ first some h enough.
 pub returns-in-Stopped-clause-idle : goal.returns-in-Stopped-clause-idle
 returns-in-Stopped-clause-idle g c = λ first most h empty quiet short.
     let a = c.in-Stopped.ensures.idle quiet
-        (none_redone c.args.layout first c.args.redo.now c.args.running.now c.args.checkpoint c.args.next c.args.gates most (g.D.Device.cells c.args.device.now) h empty)
-        (none_running c.args.layout first c.args.redo.now c.args.running.now c.args.checkpoint c.args.next c.args.gates most (g.D.Device.cells c.args.device.now) h empty) in
+    (none_redone c.args.layout first c.args.redo.now c.args.running.now c.args.checkpoint c.args.next c.args.gates most (g.D.Device.cells c.args.device.now) h empty)
+    (none_running c.args.layout first c.args.redo.now c.args.running.now c.args.checkpoint c.args.next c.args.gates most (g.D.Device.cells c.args.device.now) h empty) in
     let made = a.made in
     cc
 
@@ -132,12 +132,12 @@ pub returns-clause-idle : goal.returns-clause-idle
 returns-clause-idle g c = λ first most h empty quiet short.
     let running = none_running c.args.layout first c.args.redo.now c.args.running.now c.args.checkpoint c.args.next c.args.gates most (g.D.Device.cells c.args.device.now) h empty in
     let a = c.in-Made.ensures.idle quiet
-        (none_redone c.args.layout first c.args.redo.now c.args.running.now c.args.checkpoint c.args.next c.args.gates most (g.D.Device.cells c.args.device.now) h empty) running in
+    (none_redone c.args.layout first c.args.redo.now c.args.running.now c.args.checkpoint c.args.next c.args.gates most (g.D.Device.cells c.args.device.now) h empty) running in
     let gates = c.args.gates in
     let none = no_gates c.args.layout first c.args.redo.now c.args.running.now c.args.checkpoint c.args.next c.args.gates most (g.D.Device.cells c.args.device.now) h empty (omega (arith, gates.gates.ok.0))
-        (omega (arith, gates.ends.ok.0)) (omega (arith, gates.checkpoints.ok.0)) in
+    (omega (arith, gates.ends.ok.0)) (omega (arith, gates.checkpoints.ok.0)) in
     let same = c.in-Made.ensures.idle_gates running in
     let b = c.clear.ensures.idle
-        (none_wanted c.args.layout first c.args.redo.now c.args.running.now c.args.checkpoint c.args.next c.args.gates most (g.D.Device.cells c.args.device.now) h empty)
-        (subst HasNoGates (sym same) none) (subst (λ (r : Region). AreShort (layout_shape c.args.layout) r) (sym a.cells) short) in
+    (none_wanted c.args.layout first c.args.redo.now c.args.running.now c.args.checkpoint c.args.next c.args.gates most (g.D.Device.cells c.args.device.now) h empty)
+    (subst HasNoGates (sym same) none) (subst (λ (r : Region). AreShort (layout_shape c.args.layout) r) (sym a.cells) short) in
     record { made = b.made; cells = b.cells ∙ a.cells; same = b.same ∙ a.same }

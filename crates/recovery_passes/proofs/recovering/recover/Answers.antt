@@ -44,7 +44,7 @@ overflow_sub-result g c =
     let enough = c.in_ok-make_room.ensures.spare in
     let positive = is_work.most in
     let counted = subst (λ (n : Counts). HasCounted (work.most - 1) Made n (g.D.Device.counts c.make_events-done.new.device)) c.in_ok-make_room.ensures.counts
-        (c.in-Made.ensures.counted s0 (work.most - 1) (one_less layout s0 c.as_slice.result.now c.as_slice-2.result.now work.checkpoint work.next work.gates work.most now plan) (omega (arith, enough, positive))) in
+    (c.in-Made.ensures.counted s0 (work.most - 1) (one_less layout s0 c.as_slice.result.now c.as_slice-2.result.now work.checkpoint work.next work.gates work.most now plan) (omega (arith, enough, positive))) in
     let rises = made_rises (work.most - 1) (g.D.Device.counts c.args.device.now) (g.D.Device.counts c.make_events-done.new.device) counted in
     let a = c.events.ensures in
     let b = c.events-before.ensures in
@@ -117,7 +117,7 @@ returns-in-Stopped-clause-stopped_counts g c = λ stopped.
     let enough = c.in_ok-make_room.ensures.spare in
     let positive = is_work.most in
     let counted = subst (λ (n : Counts). HasCounted (work.most - 1) Stopped n (g.D.Device.counts c.make_events-done.new.device)) c.in_ok-make_room.ensures.counts
-        (c.in-Stopped.ensures.counted s0 (work.most - 1) (one_less layout s0 c.as_slice.result.now c.as_slice-2.result.now work.checkpoint work.next work.gates work.most now plan) (omega (arith, enough, positive))) in
+    (c.in-Stopped.ensures.counted s0 (work.most - 1) (one_less layout s0 c.as_slice.result.now c.as_slice-2.result.now work.checkpoint work.next work.gates work.most now plan) (omega (arith, enough, positive))) in
     stopped_counts (work.most - 1) (g.D.Device.counts c.args.device.now) (g.D.Device.counts c.make_events-done.new.device) counted
 
 pub returns-in-Stopped-clause-stopped_early : goal.returns-in-Stopped-clause-stopped_early
@@ -136,7 +136,7 @@ returns-in-Stopped-clause-stopped_early g c = λ stopped n sum.
     let enough = c.in_ok-make_room.ensures.spare in
     let positive = is_work.most in
     let counted = subst (λ (n : Counts). HasCounted (work.most - 1) Stopped n (g.D.Device.counts c.make_events-done.new.device)) c.in_ok-make_room.ensures.counts
-        (c.in-Stopped.ensures.counted s0 (work.most - 1) (one_less layout s0 c.as_slice.result.now c.as_slice-2.result.now work.checkpoint work.next work.gates work.most now plan) (omega (arith, enough, positive))) in
+    (c.in-Stopped.ensures.counted s0 (work.most - 1) (one_less layout s0 c.as_slice.result.now c.as_slice-2.result.now work.checkpoint work.next work.gates work.most now plan) (omega (arith, enough, positive))) in
     let few = stopped_few (work.most - 1) n (g.D.Device.counts c.args.device.now) (g.D.Device.counts c.make_events-done.new.device) counted sum in
     few_are layout old s0 start work (n + 1) is_work (omega (arith, few, positive))
 
@@ -155,8 +155,8 @@ returns-in-Stopped-clause-unfinished g c = λ finished stopped.
     let plan = plan_of layout old s0 start now work c.as_slice.result.now c.as_slice-2.result.now c.in_ok-make_room.ensures.cells is_work c.as_slice.ensures c.as_slice-2.ensures in
     let enough = c.in_ok-make_room.ensures.spare in
     let idle = c.in-Stopped.ensures.idle s0 work.most plan (finished_empty layout old s0 start finished)
-        (subst (λ (r : Region). AreQuiet (layout_shape layout) r) (sym c.in_ok-make_room.ensures.cells) (finished_quiet layout old s0 start finished))
-        (subst (λ (r : Region). AreShort (layout_shape layout) r) (sym c.in_ok-make_room.ensures.cells) (finished_short layout old s0 start finished)) in
+    (subst (λ (r : Region). AreQuiet (layout_shape layout) r) (sym c.in_ok-make_room.ensures.cells) (finished_quiet layout old s0 start finished))
+    (subst (λ (r : Region). AreShort (layout_shape layout) r) (sym c.in_ok-make_room.ensures.cells) (finished_short layout old s0 start finished)) in
     let made = idle.made in
     cc
 
@@ -293,9 +293,9 @@ returns-in-Made-clause-events g c =
     let enough = c.in_ok-make_room.ensures.spare in
     let positive = is_work.most in
     let counted = subst (λ (n : Counts). HasCounted (work.most - 1) Made n (g.D.Device.counts c.make_events-done.new.device)) c.in_ok-make_room.ensures.counts
-        (c.in-Made.ensures.counted s0 (work.most - 1) (one_less layout s0 c.as_slice.result.now c.as_slice-2.result.now work.checkpoint work.next work.gates work.most now plan) (omega (arith, enough, positive))) in
+    (c.in-Made.ensures.counted s0 (work.most - 1) (one_less layout s0 c.as_slice.result.now c.as_slice-2.result.now work.checkpoint work.next work.gates work.most now plan) (omega (arith, enough, positive))) in
     let events : c.events.result - c.events-before.result ≡ (g.D.Device.counts c.make_events-done.new.device).events - (g.D.Device.counts c.args.device.now).events =
-        (let a = c.events.ensures in let b = c.events-before.ensures in let e = ap (λ (n : Counts). n.events) c.in_ok-make_room.ensures.counts in omega (arith, a, b, e)) in
+    (let a = c.events.ensures in let b = c.events-before.ensures in let e = ap (λ (n : Counts). n.events) c.in_ok-make_room.ensures.counts in omega (arith, a, b, e)) in
     made_counts (work.most - 1) (g.D.Device.counts c.args.device.now) (g.D.Device.counts c.make_events-done.new.device) (c.events.result - c.events-before.result) counted events
 
 pub returns-in-Made-clause-few : goal.returns-in-Made-clause-few
@@ -314,9 +314,9 @@ returns-in-Made-clause-few g c =
     let enough = c.in_ok-make_room.ensures.spare in
     let positive = is_work.most in
     let counted = subst (λ (n : Counts). HasCounted (work.most - 1) Made n (g.D.Device.counts c.make_events-done.new.device)) c.in_ok-make_room.ensures.counts
-        (c.in-Made.ensures.counted s0 (work.most - 1) (one_less layout s0 c.as_slice.result.now c.as_slice-2.result.now work.checkpoint work.next work.gates work.most now plan) (omega (arith, enough, positive))) in
+    (c.in-Made.ensures.counted s0 (work.most - 1) (one_less layout s0 c.as_slice.result.now c.as_slice-2.result.now work.checkpoint work.next work.gates work.most now plan) (omega (arith, enough, positive))) in
     let events : c.events.result - c.events-before.result ≡ (g.D.Device.counts c.make_events-done.new.device).events - (g.D.Device.counts c.args.device.now).events =
-        (let a = c.events.ensures in let b = c.events-before.ensures in let e = ap (λ (n : Counts). n.events) c.in_ok-make_room.ensures.counts in omega (arith, a, b, e)) in
+    (let a = c.events.ensures in let b = c.events-before.ensures in let e = ap (λ (n : Counts). n.events) c.in_ok-make_room.ensures.counts in omega (arith, a, b, e)) in
     let few = made_few (work.most - 1) (g.D.Device.counts c.args.device.now) (g.D.Device.counts c.make_events-done.new.device) (c.events.result - c.events-before.result) counted events in
     few_are layout old s0 start work (c.events.result - c.events-before.result) is_work (omega (arith, few))
 
@@ -335,8 +335,8 @@ returns-in-Made-clause-again g c = λ finished.
     let plan = plan_of layout old s0 start now work c.as_slice.result.now c.as_slice-2.result.now c.in_ok-make_room.ensures.cells is_work c.as_slice.ensures c.as_slice-2.ensures in
     let enough = c.in_ok-make_room.ensures.spare in
     let idle = c.in-Made.ensures.idle s0 work.most plan (finished_empty layout old s0 start finished)
-        (subst (λ (r : Region). AreQuiet (layout_shape layout) r) (sym c.in_ok-make_room.ensures.cells) (finished_quiet layout old s0 start finished))
-        (subst (λ (r : Region). AreShort (layout_shape layout) r) (sym c.in_ok-make_room.ensures.cells) (finished_short layout old s0 start finished)) in
+    (subst (λ (r : Region). AreQuiet (layout_shape layout) r) (sym c.in_ok-make_room.ensures.cells) (finished_quiet layout old s0 start finished))
+    (subst (λ (r : Region). AreShort (layout_shape layout) r) (sym c.in_ok-make_room.ensures.cells) (finished_short layout old s0 start finished)) in
     let same = ap (λ (n : Counts). n.events) idle.same in
     let a = c.events.ensures in
     let b = c.events-before.ensures in
@@ -359,7 +359,6 @@ returns-in-Made-clause-header g c =
     let later = g.D.Device.cells c.make_events-done.new.device in
     let keeps = subst (λ (r : Region). KeepsWords (IsHeaderWord (layout_shape layout)) r later) c.in_ok-make_room.ensures.cells c.in-Made.ensures.header in
     header_there layout old s0 start later keeps
-
 
 pub returns-in-Err-clause-unsound : goal.returns-in-Err-clause-unsound
 returns-in-Err-clause-unsound g c = λ found e.

@@ -18,8 +18,8 @@ undo-requires g c =
     let is = item_first c.args.running.now i t c.loop-transaction-test.true c.transaction-item.is in
     let gone = c.loop-transaction.invariant.each first total c.requires.2 c.requires.3 c.requires.4 in
     let can = gone_can c.args.layout first total c.args.running.now (drop i c.args.running.now) t (drop (i + 1) c.args.running.now) c.loop-transaction.next c.loop-transaction.gates
-        (g.D.Device.cells c.loop-transaction.device) (g.D.Device.counts c.args.device.now) (g.D.Device.counts c.loop-transaction.device) (g.D.Device.spare c.args.device.now)
-        (g.D.Device.spare c.loop-transaction.device) c.as_slice.result.now c.as_slice.ensures gone is c.requires.3 c.requires.4 in
+    (g.D.Device.cells c.loop-transaction.device) (g.D.Device.counts c.args.device.now) (g.D.Device.counts c.loop-transaction.device) (g.D.Device.spare c.args.device.now)
+    (g.D.Device.spare c.loop-transaction.device) c.as_slice.result.now c.as_slice.ensures gone is c.requires.3 c.requires.4 in
     (first, _, can)
 
 pub returns-in-Stopped-clause-stopped : goal.returns-in-Stopped-clause-stopped
@@ -40,8 +40,8 @@ returns-in-Stopped-clause-counted g c = λ first total h sound enough.
     let is = item_first c.args.running.now i t c.loop-transaction-test.true c.transaction-item.is in
     let gone = c.loop-transaction.invariant.each first total h sound enough in
     let can = gone_can c.args.layout first total c.args.running.now (drop i c.args.running.now) t (drop (i + 1) c.args.running.now) c.loop-transaction.next c.loop-transaction.gates
-        (g.D.Device.cells c.loop-transaction.device) (g.D.Device.counts c.args.device.now) (g.D.Device.counts c.loop-transaction.device) (g.D.Device.spare c.args.device.now)
-        (g.D.Device.spare c.loop-transaction.device) c.as_slice.result.now c.as_slice.ensures gone is sound enough in
+    (g.D.Device.cells c.loop-transaction.device) (g.D.Device.counts c.args.device.now) (g.D.Device.counts c.loop-transaction.device) (g.D.Device.spare c.args.device.now)
+    (g.D.Device.spare c.loop-transaction.device) c.as_slice.result.now c.as_slice.ensures gone is sound enough in
     gone_stopped c.args.layout first total c.args.running.now (drop i c.args.running.now) t (drop (i + 1) c.args.running.now) c.loop-transaction.next c.loop-transaction.gates
     (g.D.Device.cells c.loop-transaction.device) (g.D.Device.counts c.args.device.now) (g.D.Device.counts c.loop-transaction.device) (g.D.Device.spare c.args.device.now)
     (g.D.Device.spare c.loop-transaction.device) c.as_slice.result.now c.as_slice.ensures gone is sound enough (g.D.Device.counts c.undo.new.device) (c.in-Stopped.ensures.counted first _ can)
@@ -53,8 +53,8 @@ returns-in-Stopped-clause-spare_left g c = λ first total h sound enough.
     let is = item_first c.args.running.now i t c.loop-transaction-test.true c.transaction-item.is in
     let gone = c.loop-transaction.invariant.each first total h sound enough in
     let can = gone_can c.args.layout first total c.args.running.now (drop i c.args.running.now) t (drop (i + 1) c.args.running.now) c.loop-transaction.next c.loop-transaction.gates
-        (g.D.Device.cells c.loop-transaction.device) (g.D.Device.counts c.args.device.now) (g.D.Device.counts c.loop-transaction.device) (g.D.Device.spare c.args.device.now)
-        (g.D.Device.spare c.loop-transaction.device) c.as_slice.result.now c.as_slice.ensures gone is sound enough in
+    (g.D.Device.cells c.loop-transaction.device) (g.D.Device.counts c.args.device.now) (g.D.Device.counts c.loop-transaction.device) (g.D.Device.spare c.args.device.now)
+    (g.D.Device.spare c.loop-transaction.device) c.as_slice.result.now c.as_slice.ensures gone is sound enough in
     gone_spare c.args.layout first total c.args.running.now (drop i c.args.running.now) t (drop (i + 1) c.args.running.now) c.loop-transaction.next c.loop-transaction.gates
     (g.D.Device.cells c.loop-transaction.device) (g.D.Device.counts c.args.device.now) (g.D.Device.counts c.loop-transaction.device) (g.D.Device.spare c.args.device.now)
     (g.D.Device.spare c.loop-transaction.device) c.as_slice.result.now c.as_slice.ensures gone is sound enough (g.D.Device.spare c.undo.new.device) (c.in-Stopped.ensures.spare first _ can)
@@ -74,8 +74,8 @@ loop-transaction-preserved g c =
       each = λ first total h sound enough.
           let gone = c.loop-transaction.invariant.each first total h sound enough in
           let can = gone_can c.args.layout first total c.args.running.now (drop i c.args.running.now) t (drop (i + 1) c.args.running.now) c.loop-transaction.next c.loop-transaction.gates
-              (g.D.Device.cells c.loop-transaction.device) (g.D.Device.counts c.args.device.now) (g.D.Device.counts c.loop-transaction.device) (g.D.Device.spare c.args.device.now)
-              (g.D.Device.spare c.loop-transaction.device) c.as_slice.result.now c.as_slice.ensures gone is sound enough in
+          (g.D.Device.cells c.loop-transaction.device) (g.D.Device.counts c.args.device.now) (g.D.Device.counts c.loop-transaction.device) (g.D.Device.spare c.args.device.now)
+          (g.D.Device.spare c.loop-transaction.device) c.as_slice.result.now c.as_slice.ensures gone is sound enough in
           gone_next c.args.layout first total c.args.running.now (drop i c.args.running.now) t (drop (i + 1) c.args.running.now) c.loop-transaction.next c.loop-transaction.gates
           (g.D.Device.cells c.loop-transaction.device) (g.D.Device.counts c.args.device.now) (g.D.Device.counts c.loop-transaction.device) (g.D.Device.spare c.args.device.now)
           (g.D.Device.spare c.loop-transaction.device) c.as_slice.result.now c.as_slice.ensures gone is sound enough c.undo.new.next c.undo.new.gates (g.D.Device.cells c.undo.new.device) (g.D.Device.counts c.undo.new.device)

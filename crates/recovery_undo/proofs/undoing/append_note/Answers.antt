@@ -39,8 +39,8 @@ returns-in-At-clause-made g c = λ same start z left h can.
       c.in-At.at,
       c.in-At.ensures.part,
       note_goes c.args.target start z left c.args.next.now c.args.gates.now _ h c.args.cell.now can c.in-At.at _ _
-      (c.in-At.ensures.made start.first z take can.comes)
-      (λ q lt. c.in-At.ensures.quiet q lt (h.quiet q lt))
-      (record { counted = c.in-At.ensures.counted; spare = c.in-At.ensures.spare; header = c.in-At.ensures.header })
-      c.put.ensures.items c.put.ensures.len c.put.ensures.capacity refl refl,
+          (c.in-At.ensures.made start.first z take can.comes)
+          (λ q lt. c.in-At.ensures.quiet q lt (h.quiet q lt))
+          (record { counted = c.in-At.ensures.counted; spare = c.in-At.ensures.spare; header = c.in-At.ensures.header })
+          c.put.ensures.items c.put.ensures.len c.put.ensures.capacity refl refl,
     )

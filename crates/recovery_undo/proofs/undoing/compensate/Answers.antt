@@ -5,9 +5,14 @@ use Rattle.recovery_undo.proofs.undoing.compensate.Goals as goal
 
 pub append_note-requires : goal.append_note-requires
 append_note-requires g c =
-    let at = c.requires.passes in
-    (at.0, at.2.state, length (record_of_placed c.args.update.now ∷ at.1), at.2.gone, can_compensate c.args.target at.0 (record_of_placed c.args.update.now) at.1 c.args.next.now c.args.gates.now _ at.2 c.requires.update
-    c.compensation_cell-cell.result (λ a. c.compensation_cell-cell.ensures a c.args.update.now.at))
+    let at = c.requires.passes in (
+      at.0,
+      at.2.state,
+      length (record_of_placed c.args.update.now ∷ at.1),
+      at.2.gone,
+      can_compensate c.args.target at.0 (record_of_placed c.args.update.now) at.1 c.args.next.now c.args.gates.now _ at.2 c.requires.update
+          c.compensation_cell-cell.result (λ a. c.compensation_cell-cell.ensures a c.args.update.now.at),
+    )
 
 pub returns-clause-made : goal.returns-clause-made
 returns-clause-made g c = λ made start left h.

@@ -14,10 +14,13 @@ returns-in-Stopped-clause-stopped g c = λ same start counter h.
 
 pub append_record-requires-clause-can : goal.append_record-requires-clause-can
 append_record-requires-clause-can g c =
-    let at = c.requires in
-    (at.0.first, at.2.state, end_take c.args.target at.0 at.1 c.args.next.now c.args.gates.now _ at.2 (seen (g.D.Device.cells c.fence.new.device) (g.D.Device.counts c.fence.new.device) (g.D.Device.spare c.fence.new.device))
-    (c.in-Made.ensures.made refl (layout_shape c.args.target.layout) at.0.first at.2.state at.2.gone.reached) c.in-Made.ensures.counted c.in-Made.ensures.spare_left c.in-Made.ensures.aside
-    (g.met.D.Device.full c.fence.new.device) c.plain_cell-cell.result c.plain_cell-cell.ensures)
+    let at = c.requires in (
+      at.0.first,
+      at.2.state,
+      end_take c.args.target at.0 at.1 c.args.next.now c.args.gates.now _ at.2 (seen (g.D.Device.cells c.fence.new.device) (g.D.Device.counts c.fence.new.device) (g.D.Device.spare c.fence.new.device))
+          (c.in-Made.ensures.made refl (layout_shape c.args.target.layout) at.0.first at.2.state at.2.gone.reached) c.in-Made.ensures.counted c.in-Made.ensures.spare_left c.in-Made.ensures.aside
+          (g.met.D.Device.full c.fence.new.device) c.plain_cell-cell.result c.plain_cell-cell.ensures,
+    )
 
 pub append_record-requires-clause-spare : goal.append_record-requires-clause-spare
 append_record-requires-clause-spare g c =

@@ -46,6 +46,8 @@ loop-left-preserved g c =
 
 pub returns-clause-made : goal.returns-clause-made
 returns-clause-made g c = λ same start h.
-    let none : c.loop-left.left ≡ 0 = omega arith in
-    (c.loop-left.counter, passes_on c.args.target start (reverse (map record_of_placed (take c.loop-left.left c.args.records.now))) [] c.loop-left.counter c.loop-left.next c.loop-left.gates _
-    (ap (λ n. reverse (map record_of_placed (take n c.args.records.now))) none) (c.loop-left.invariant.so_far start h))
+    let none : c.loop-left.left ≡ 0 = omega arith in (
+      c.loop-left.counter,
+      passes_on c.args.target start (reverse (map record_of_placed (take c.loop-left.left c.args.records.now))) [] c.loop-left.counter c.loop-left.next c.loop-left.gates _
+          (ap (λ n. reverse (map record_of_placed (take n c.args.records.now))) none) (c.loop-left.invariant.so_far start h),
+    )

@@ -14,10 +14,11 @@ bounds-records-0 g c =
 
 pub undo_target-requires : goal.undo_target-requires
 undo_target-requires g c =
-    let at = c.requires in
-    ((start_of c.args.layout c.args.transaction c.args.records.now c.args.gates.now at.0 at.1 (seen (g.D.Device.cells c.args.device.now) (g.D.Device.counts c.args.device.now) (g.D.Device.spare c.args.device.now))),
-    (begins c.args.layout c.args.transaction c.args.next.now c.args.records.now c.args.gates.now at.0 at.1 (seen (g.D.Device.cells c.args.device.now) (g.D.Device.counts c.args.device.now) (g.D.Device.spare c.args.device.now)) at.2
-    c.partition_of.result _ no_placed c.partition_of.ensures.is))
+    let at = c.requires in (
+      (start_of c.args.layout c.args.transaction c.args.records.now c.args.gates.now at.0 at.1 (seen (g.D.Device.cells c.args.device.now) (g.D.Device.counts c.args.device.now) (g.D.Device.spare c.args.device.now))),
+      (begins c.args.layout c.args.transaction c.args.next.now c.args.records.now c.args.gates.now at.0 at.1 (seen (g.D.Device.cells c.args.device.now) (g.D.Device.counts c.args.device.now) (g.D.Device.spare c.args.device.now)) at.2
+          c.partition_of.result _ no_placed c.partition_of.ensures.is),
+    )
 
 pub returns-clause-made : goal.returns-clause-made
 returns-clause-made g c = λ made first y h.

@@ -30,9 +30,15 @@ compensate-requires-clause-passes g c =
 pub store_old-requires-in-Made-clause-passes : goal.store_old-requires-in-Made-clause-passes
 store_old-requires-in-Made-clause-passes g c =
     let at = c.requires.passes in
-    let none : c.args.counter.now ≡ 0 = omega arith in
-    (at.0, at.1, 0, c.compensate.new.next, c.compensate.new.gates, c.in-Made.ensures.made refl at.0 at.1
-    (passes_at c.args.target at.0 (record_of_placed c.args.update.now ∷ at.1) c.args.counter.now 0 c.args.next.now c.args.gates.now _ none at.2))
+    let none : c.args.counter.now ≡ 0 = omega arith in (
+      at.0,
+      at.1,
+      0,
+      c.compensate.new.next,
+      c.compensate.new.gates,
+      c.in-Made.ensures.made refl at.0 at.1
+          (passes_at c.args.target at.0 (record_of_placed c.args.update.now ∷ at.1) c.args.counter.now 0 c.args.next.now c.args.gates.now _ none at.2),
+    )
 
 pub returns-in-Stopped-clause-stopped : goal.returns-in-Stopped-clause-stopped
 returns-in-Stopped-clause-stopped g c = λ stopped start left h.
