@@ -8,7 +8,7 @@ use Rattle.persist_model.specs.declared.event.Event.TheVariants.{Store, PStore, 
 use Rattle.persist_model.specs.Region.{Words, Region}
 use Rattle.persist_model.specs.Progress.{Progress, start, advance_all, Reaches, Wrote, IsDurable, Tracks, AreSettledAt}
 use Rattle.persist_model.specs.Runs.{progress_at, Run}
-use Rattle.persist_model.specs.Records.{Record, IsAmong}
+use Rattle.persist_model.specs.Records.{Record, Log, IsAmong}
 use Rattle.persist_model.specs.Shape.{Shape, IsBucketOf, heap, log_words, heap_words, part_of}
 use Rattle.persist_model.specs.Chain.{view, out_address, out_event, last_or, AreBuckets}
 use Rattle.persist_model.specs.ImageRecords.{cell_address, record_at, IsRecordOf}
@@ -18,7 +18,6 @@ use Rattle.persist_model.proofs.Tracking.{Reaches-image}
 use Rattle.persist_model.proofs.Running.{Tracks-run}
 use Rattle.persist_model.proofs.Projecting.{advance_all-append, AreAway-take, IsFixed-start, IsFixed-aways, Reaches-fixed, SameOn, SameOn-events, Reaches-same}
 use Rattle.log_laws.specs.Recovering.{with_heap, IsOnLog, AreOnLog}
-use Rattle.log_laws.specs.Recovery.{grown}
 use Rattle.log_laws.specs.Parts.{AreDurable}
 use Rattle.log_laws.specs.Appending.{IsAppend}
 use Rattle.log_laws.specs.MoveRoom.{TakesCell}
@@ -36,11 +35,11 @@ use Rattle.bucket_log.specs.Words.{IsLogWord, IsPartWord, SameRecords, AddsRecor
 use Rattle.bucket_log.specs.Plans.{closing, body, insertion_of, append_plan}
 use Rattle.bucket_log.specs.Places.{IsPlaceBy}
 use Rattle.bucket_log.specs.Appends.{CanAppend, NextPlacesTake, KeepsOrAdds, region_append, EachAppendingImage, AppendEnds, EachImageOfAppends, AppendsEnd}
-use Rattle.bucket_log.specs.States.{less_room, AppendsAreStates, AppendsTakeCell}
+use Rattle.bucket_log.specs.States.{less_room, AppendsAreStates, AppendsTakeCell, Gains, with_log, LeadsTo, AppendsGain}
 use Rattle.bucket_log.proofs.Partitions.{few_parts, log_word_out, log_word_own, part_word_below, part_of_cell}
 use Rattle.bucket_log.proofs.RecordSets.{same_cell}
 use Rattle.bucket_log.proofs.Rooms.{room_same}
-use Rattle.bucket_log.proofs.PartStates.{less_here, less_elsewhere, part_kept, part_grown}
+use Rattle.bucket_log.proofs.PartStates.{less_here, less_elsewhere, part_kept, part_gained}
 use Rattle.bucket_log.proofs.Appending.{Each-among, among_last, append_images, append_end, append_stores}
 
 -- ---- the events
@@ -185,7 +184,7 @@ list_of_view shape p w chain list none = record { rules = rules_of_list shape p 
 -- ---- the state
 
 module _ (shape : Shape) (ok : IsAllowed shape) (p : ℕ) (inside : p < shape.partitions) (z : Words) (s : State) (has : HasState shape z s) (xs : List ℕ) (place : Place) (r : Record)
-    (can : CanAppend shape p (view p (log_words shape z)) xs place r) (above : (x : Record) → IsAmong s.log x → x.lsn < r.lsn) where
+    (can : CanAppend shape p (view p (log_words shape z)) xs place r) where
   abbrev before : Words
   before = log_words shape z
 
@@ -237,31 +236,37 @@ module _ (shape : Shape) (ok : IsAllowed shape) (p : ℕ) (inside : p < shape.pa
       (records_kept v keeps.chain buckets_before buckets keeps.records)
       (sym (view_room shape p (log_words shape v) keeps.chain buckets) ∙ keeps.room ∙ room_before)
 
-  grown_state : (k : ℕ) (v : Words) → Reached k v → AddsToLog shape p (view p before) xs r (view p (log_words shape v)) →
-      HasState shape v (with_heap (grown s r (less_room p s.room)) (heap_words shape v))
-  grown_state k v h adds =
-      let buckets = adds.at_rest.buckets in
-      part_grown shape ok z v s p inside has (same k v h) adds.chain (list_of_view shape p (log_words shape v) adds.chain (at_rest adds.at_rest) adds.at_rest.to_remove) r above
-      (records_added v adds.chain buckets_before buckets adds.records)
-      (ap (λ n. n + 1) (sym (view_room shape p (log_words shape v) adds.chain buckets)) ∙ adds.room ∙ room_before)
+  module _ (later : Log) (gains : Gains s.log r later) where
+    gained_state : (k : ℕ) (v : Words) → Reached k v → AddsToLog shape p (view p before) xs r (view p (log_words shape v)) →
+        HasState shape v (with_heap (with_log p s later) (heap_words shape v))
+    gained_state k v h adds =
+        let buckets = adds.at_rest.buckets in
+        part_gained shape ok z v s p inside has (same k v h) adds.chain (list_of_view shape p (log_words shape v) adds.chain (at_rest adds.at_rest) adds.at_rest.to_remove) r later gains
+        (records_added v adds.chain buckets_before buckets adds.records)
+        (ap (λ n. n + 1) (sym (view_room shape p (log_words shape v) adds.chain buckets)) ∙ adds.room ∙ room_before)
 
-  state_images : (k : ℕ) (v : Words) → Reached k v → HasState shape v (with_heap s (heap_words shape v)) ⊎ HasState shape v (with_heap (grown s r (less_room p s.room)) (heap_words shape v))
-  state_images k v h = elim (view_images shape ok p inside before (log_words shape v) xs place r can (λ a. a < heap shape) k below_heap (log_reached k v h))
-      [ inl keeps ↦ inl (kept_state k v h keeps) | inr adds ↦ inr (grown_state k v h adds) ]
+    state_images : (k : ℕ) (v : Words) → Reached k v → HasState shape v (with_heap s (heap_words shape v)) ⊎ HasState shape v (with_heap (with_log p s later) (heap_words shape v))
+    state_images k v h = elim (view_images shape ok p inside before (log_words shape v) xs place r can (λ a. a < heap shape) k below_heap (log_reached k v h))
+        [ inl keeps ↦ inl (kept_state k v h keeps) | inr adds ↦ inr (gained_state k v h adds) ]
 
-  state_end : (v : Words) → Reached (length (region_append shape p place r)) v → HasState shape v (with_heap (grown s r (less_room p s.room)) (heap_words shape v))
-  state_end v h = grown_state (length (region_append shape p place r)) v h
-      (view_end shape ok p inside before (log_words shape v) xs place r can (λ a. a < heap shape) below_heap (log_reached (length (region_append shape p place r)) v h))
+    state_end : (v : Words) → Reached (length (region_append shape p place r)) v → HasState shape v (with_heap (with_log p s later) (heap_words shape v))
+    state_end v h = gained_state (length (region_append shape p place r)) v h
+        (view_end shape ok p inside before (log_words shape v) xs place r can (λ a. a < heap shape) below_heap (log_reached (length (region_append shape p place r)) v h))
 
-  pub append_is_append : IsAppend shape z s r (less_room p s.room) (region_append shape p place r)
-  append_is_append = record {
-    on_log = AreOnLog-stores shape (IsPartWord shape p) below_heap (region_append shape p place r) (region_stores shape ok p inside before z xs place r can);
-    durable = AreDurable-out p (append_plan shape.cells place r) (append_durable shape.cells place r);
-    front = map (out_event p) (to_gate shape place r);
-    fenced = gate_is_last shape p place r;
-    images = state_images;
-    last = state_end;
-  }
+    pub append_leads : LeadsTo shape z s (with_log p s later) (region_append shape p place r)
+    append_leads = record { images = state_images; last = state_end }
+
+  pub append_is_append : ((x : Record) → IsAmong s.log x → x.lsn < r.lsn) → IsAppend shape z s r (less_room p s.room) (region_append shape p place r)
+  append_is_append above =
+      let leads = append_leads (r ∷ s.log) (record { newest_first = (λ x m. inl (above x m), has.records.newest_first); each = λ x. ((λ m. m), (λ m. m)) }) in
+      record {
+        on_log = AreOnLog-stores shape (IsPartWord shape p) below_heap (region_append shape p place r) (region_stores shape ok p inside before z xs place r can);
+        durable = AreDurable-out p (append_plan shape.cells place r) (append_durable shape.cells place r);
+        front = map (out_event p) (to_gate shape place r);
+        fenced = gate_is_last shape p place r;
+        images = leads.images;
+        last = leads.last;
+      }
 
   abbrev ended : Words
   ended = (progress_at z (region_append shape p place r) (length (region_append shape p place r))).durable
@@ -345,4 +350,7 @@ pub appends_are_states : AppendsAreStates
 appends_are_states shape p z s xs place r ok inside has can above = append_is_append shape ok p inside z s has xs place r can above
 
 pub appends_take_cell : AppendsTakeCell
-appends_take_cell shape p z s xs place r ok inside has can above = append_takes_cell shape ok p inside z s has xs place r can above
+appends_take_cell shape p z s xs place r ok inside has can = append_takes_cell shape ok p inside z s has xs place r can
+
+pub appends_gain : AppendsGain
+appends_gain shape p z s xs place r later ok inside has can gains = append_leads shape ok p inside z s has xs place r can later gains

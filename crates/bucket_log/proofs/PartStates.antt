@@ -10,12 +10,11 @@ use Rattle.persist_model.specs.ImageRecords.{cell_address, record_at, IsRecordOf
 use Rattle.persist_model.specs.Sound.{IsListOf, IsClosedBucket, HaveChains, HasState, room_of}
 use Rattle.persist_model.specs.State.{State}
 use Rattle.log_laws.specs.Recovering.{with_heap}
-use Rattle.log_laws.specs.Recovery.{grown}
 use Rattle.log_laws.proofs.SameLists.{chain_buckets, rules_same}
 use Rattle.log_laws.proofs.Views.{out_cases, view-out, view_behind}
 use Rattle.region_layout.specs.Layout.{IsAllowed}
 use Rattle.bucket_log.specs.Words.{IsPartWord, SameRecords, AddsRecord}
-use Rattle.bucket_log.specs.States.{less_room}
+use Rattle.bucket_log.specs.States.{less_room, Gains, with_log}
 use Rattle.bucket_log.proofs.Partitions.{part_words_apart}
 use Rattle.bucket_log.proofs.RecordSets.{same_cell}
 use Rattle.bucket_log.proofs.Rooms.{room_same}
@@ -201,16 +200,16 @@ module _ (shape : Shape) (ok : IsAllowed shape) (z v : Words) (s : State) (p : �
     )) here elsewhere
 
     -- one record more, and one cell less room
-    pub part_grown : (new : Record) → ((r : Record) → IsAmong s.log r → r.lsn < new.lsn) → AddsRecord shape.cells before (has.chains p) later ys new →
+    pub part_gained : (new : Record) (log : Log) → Gains s.log new log → AddsRecord shape.cells before (has.chains p) later ys new →
         room_of shape later p ys + 1 ≡ room_of shape before p (has.chains p) →
-        HasState shape v (with_heap (grown s new (less_room p s.room)) (heap_words shape v))
-    part_grown new above records room = changed (new ∷ s.log) (less_room p s.room) (λ r m. inl (above r m), has.records.newest_first) (λ r. (
-      (λ m. elim m [
+        HasState shape v (with_heap (with_log p s log) (heap_words shape v))
+    part_gained new log gains records room = changed log (less_room p s.room) gains.newest_first (λ r. (
+      (λ m. elim ((gains.each r).0 m) [
         | inl e ↦ inl ((records r).1 (inr e))
         | inr k ↦ elim ((was_record r).0 k) [ inl j ↦ inl ((records r).1 (inl j)) | inr j ↦ inr j ]
       ]),
-      (λ h. elim h [
+      (λ h. (gains.each r).1 (elim h [
         | inl k ↦ elim ((records r).0 k) [ inl j ↦ inr ((was_record r).1 (inl j)) | inr e ↦ inl e ]
         | inr k ↦ inr ((was_record r).1 (inr k))
-      ]),
+      ])),
     )) (less_here p s.room (room_of shape later p ys) (has.room p inside ∙ sym room)) (less_elsewhere p s.room)

@@ -1,7 +1,7 @@
 //! What the layers above use of the log, as functions that do nothing: the clause is the law.
 ghost use Rattle.bucket_log.specs.Plans.{AppendsHaveEvents};
 ghost use Rattle.bucket_log.specs.Appends.{NextPlacesTake, EachAppendingImage, AppendEnds, EachImageOfAppends, AppendsEnd};
-ghost use Rattle.bucket_log.specs.States.{AppendsAreStates, AppendsTakeCell};
+ghost use Rattle.bucket_log.specs.States.{AppendsAreStates, AppendsTakeCell, AppendsGain};
 ghost use Rattle.bucket_log.specs.Scans.{ViewsHaveLogs, LogsAreStates};
 
 /// A fresh append has exactly 21 events and one for each cell of a bucket, another has 10.
@@ -42,6 +42,11 @@ pub fn appends_are_states()
 /// An append takes one cell of the record's partition.
 pub fn appends_take_cell()
     ensures { AppendsTakeCell }
+{}
+
+/// An append whose number was drawn before a newer record's takes the state to the one that has gained the record.
+pub fn appends_gain()
+    ensures { AppendsGain }
 {}
 
 /// The log that is read in a partition's view is the partition's own.
