@@ -1,12 +1,10 @@
 -- The room and the next place that are read are those of the partition.
 use Rattle.std.proofs.Common.{◌≡◌, ◌≢◌, ◌↔◌, inl, inr, ℕ, zero, suc, ◌+◌, ◌-◌, ◌*◌, ◌<◌, ◌≤◌, true, cond, ◌==◌, ◌||◌, IsTrue, List, [], ◌∷◌, ◌++◌, length, Option, Some, None, refl, ap, sym, ◌∙◌, arith, subst, length-append}
 use Rattle.std.specs.Prelude.{IfSome}
-use Rattle.std.proofs.lemmas.Bool.{cases_lt}
-use Rattle.std.proofs.lemmas.Bool.Decides.{eqb_tells}
 use Rattle.persist_model.specs.Region.{Words}
 use Rattle.persist_model.specs.Records.{IsAmong}
-use Rattle.persist_model.specs.Shape.{Shape, bucket, bucket_size, IsBucketOf, count_buckets}
-use Rattle.persist_model.specs.Chain.{IsAbsent, last_or, without}
+use Rattle.persist_model.specs.Shape.{Shape, bucket, IsBucketOf, count_buckets}
+use Rattle.persist_model.specs.Chain.{IsAbsent, last_or}
 use Rattle.persist_model.specs.ImageRecords.{cell_address}
 use Rattle.persist_model.specs.Sound.{closed_cells, room_of}
 use Rattle.atomic_list.specs.Reads.{SameLog}
@@ -21,60 +19,9 @@ use Rattle.bucket_log.specs.declared.append.Place.{Place}
 use Rattle.bucket_log.specs.Places.{IsPlaceBy, IsNextPlace}
 use Rattle.bucket_log.specs.Reads.{IsLogOfPart, room_in, IsInPart, IsLeastOutside, IsUsedIn, IsFreshIn, IsNextIn}
 use Rattle.bucket_log.proofs.Appending.{Each-among, among_last}
+use Rattle.bucket_log.proofs.Counting.{covered_few, bucket_one, bucket_order, of_part}
 use Rattle.bucket_log.proofs.Rooms.{room_same, room_full, room-last, closed_some}
 use Rattle.bucket_log.proofs.Walking.{IsGoodChain, good_chain, same_chain, same_below}
-
--- ---- a list that has the values of f below n
-
-among_without : (b x : ℕ) (xs : List ℕ) → x ≢ b → IsAmong xs x → IsAmong (without b xs) x
-among_without b x [] ne m = absurd m
-among_without b x (y ∷ ys) ne m = elim (eqb_tells y b) [
-  | inl e ↦ rw e.0 (elim m [ inl q ↦ absurd (ne (q ∙ e.1)) | inr k ↦ among_without b x ys ne k ])
-  | inr e ↦ rw e.0 (elim m [ inl q ↦ inl q | inr k ↦ inr (among_without b x ys ne k) ])
-]
-
-without_no_more : (b : ℕ) (xs : List ℕ) → length (without b xs) ≤ length xs
-without_no_more b [] = omega arith
-without_no_more b (y ∷ ys) =
-    let rest = without_no_more b ys in
-    elim (eqb_tells y b) [ inl e ↦ rw e.0 (omega (arith, rest)) | inr e ↦ rw e.0 (omega (arith, rest)) ]
-
-without_less : (b : ℕ) (xs : List ℕ) → IsAmong xs b → length (without b xs) + 1 ≤ length xs
-without_less b [] m = absurd m
-without_less b (y ∷ ys) m = elim (eqb_tells y b) [
-  | inl e ↦ (let rest = without_no_more b ys in rw e.0 (omega (arith, rest)))
-  | inr e ↦ rw e.0 (elim m [ inl q ↦ absurd (e.1 (sym q)) | inr k ↦ (let rest = without_less b ys k in omega (arith, rest)) ])
-]
-
-covered_few : (f : ℕ → ℕ) (n : ℕ) (xs : List ℕ) → ((i j : ℕ) → f i ≡ f j → i ≡ j) → ((i : ℕ) → i < n → IsAmong xs (f i)) → n ≤ length xs
-covered_few f zero xs one each = omega arith
-covered_few f (suc n) xs one each =
-    let rest = covered_few f n (without (f n) xs) one (λ i lt. among_without (f n) (f i) xs (λ e. (let same = one i n e in omega (arith, same, lt))) (each i (omega (arith, lt)))) in
-    let less = without_less (f n) xs (each n (omega arith)) in
-    omega (arith, rest, less)
-
--- ---- bucket addresses
-
-rising : (s i j : ℕ) → i < j → i * s + s ≤ j * s
-rising s i j h = grind arith
-
-bucket_one : (shape : Shape) (i j : ℕ) → bucket shape i ≡ bucket shape j → i ≡ j
-bucket_one shape i j e = elim (cases_lt i j) [
-  | inl lt ↦ (let g = rising (bucket_size shape) i j lt in absurd (omega (arith, g, e)))
-  | inr ge ↦ elim (cases_lt j i) [
-    | inl lt ↦ (let g = rising (bucket_size shape) j i lt in absurd (omega (arith, g, e)))
-    | inr le ↦ omega (arith, ge, le)
-  ]
-]
-
-bucket_order : (shape : Shape) (i j : ℕ) → bucket shape i < bucket shape j → i < j
-bucket_order shape i j lt = elim (cases_lt i j) [
-  | inl is ↦ is
-  | inr ge ↦ elim (cases_lt j i) [
-    | inl more ↦ (let g = rising (bucket_size shape) j i more in absurd (omega (arith, g, lt)))
-    | inr le ↦ (let same : i ≡ j = omega (arith, ge, le) in let z : bucket shape i ≡ bucket shape j = ap (bucket shape) same in absurd (omega (arith, z, lt)))
-  ]
-]
 
 at_least : (k n : ℕ) → 1 ≤ k → 1 ≤ n → 1 ≤ k * n
 at_least k n a b = grind arith
@@ -112,10 +59,6 @@ module _ (layout : Layout) (part : Buckets) (size : ℕ) (w : Words) (log : IsLo
 
   count_is : count_buckets shape p ≡ part.count
   count_is = sym is.1
-
-  -- the buckets of p are those of the part
-  of_part : (b : ℕ) → IsBucketOf shape p b → (j : ℕ) × IsInPart part j × (b ≡ bucket shape j)
-  of_part b h = let first = is.0 in let count = is.1 in let low = h.1 in let high = h.2 in (h.0, (omega (arith, low, first), omega (arith, high, first, count)), h.3)
 
   to_part : (q j : ℕ) → IsPart shape q part → IsInPart part j → IsBucketOf shape q (bucket shape j)
   to_part q j k h = let first = k.0 in let count = k.1 in let low = h.0 in let high = h.1 in (j, omega (arith, low, first), omega (arith, high, first, count), refl)
@@ -182,7 +125,7 @@ module _ (layout : Layout) (part : Buckets) (size : ℕ) (w : Words) (log : IsLo
     tail = tail;
     first_cell = λ e. cell;
     first_closed = λ e. cc;
-    least = λ e b own lt. (let k = of_part b own in
+    least = λ e b own lt. (let k = of_part shape part p is b own in
         let at : bucket shape k.0 < bucket shape out.0 = (let x = k.2 in let y = out.2 in omega (arith, lt, x, y)) in
         subst (IsAmong chain) (sym k.2) (out.4 k.0 k.1.0 (bucket_order shape k.0 out.0 at)));
   }

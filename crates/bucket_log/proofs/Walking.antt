@@ -1,15 +1,16 @@
 -- How far a loop has walked along a chain.
 use Rattle.std.proofs.Common.{◌≡◌, ◌≢◌, ◌⊎◌, inl, inr, ℕ, ◌+◌, ◌*◌, ◌<◌, ◌≤◌, ◌^◌, List, [], ◌∷◌, ◌++◌, length, refl, ap, sym, ◌∙◌, arith, subst, append-nil, append_assoc, length-append}
+use Rattle.std.proofs.lemmas.Bool.Decides.{eqb_tells}
 use Rattle.persist_model.specs.Region.{Words}
 use Rattle.persist_model.specs.Records.{IsAmong}
 use Rattle.persist_model.specs.Shape.{Shape, shape_of, heap, IsBucketOf, count_buckets}
-use Rattle.persist_model.specs.Chain.{AreBuckets, HasNoRepeats, first_or, last_or}
-use Rattle.atomic_list.specs.Rules.{IsList}
+use Rattle.persist_model.specs.Chain.{TAIL, TO_APPEND, TO_REMOVE, AreBuckets, HasNoRepeats, first_or, last_or}
+use Rattle.atomic_list.specs.Rules.{IsList, at_rest, appending, removing}
 use Rattle.atomic_list.specs.Reads.{SameLog, IsInChain, next_in}
 use Rattle.atomic_list.specs.Walk.{chain_of}
 use Rattle.atomic_list.proofs.Agreeing.{list_of, shape_same, chain_same}
 use Rattle.atomic_list.proofs.Cases.{chain_is_buckets, chain_has_no_repeats}
-use Rattle.atomic_list.proofs.Chains.{last-push}
+use Rattle.atomic_list.proofs.Chains.{bucket_above, last-push}
 use Rattle.atomic_list.proofs.NextBuckets.{among_not_0, next_in-bucket, behind-front}
 use Rattle.atomic_list.proofs.Parts.{parts_fit, whole_bucket_fits, shape_fits}
 use Rattle.atomic_list.proofs.Splits.{HasNoRepeats-left, Each-right}
@@ -65,6 +66,27 @@ bucket_inside layout size w b log m =
 pub last_inside : (layout : Layout) (size : ℕ) (w : Words) → IsLogOf layout size w → last_or 0 (chain_of (layout_shape layout) w) ≢ 0 →
     last_or 0 (chain_of (layout_shape layout) w) + (8 + 8 * layout.cells) ≤ size
 last_inside layout size w log ne = bucket_inside layout size w (last_or 0 (chain_of (layout_shape layout) w)) log (among_last (chain_of (layout_shape layout) w) ne)
+
+-- where no bucket is being put behind or taken out TAIL names the last one
+tail_of : (shape : Shape) (part : ℕ) (w : Words) (xs : List ℕ) → IsList shape part w xs → w TO_APPEND ≡ 0 → w TO_REMOVE ≡ 0 → w TAIL ≡ last_or 0 xs
+tail_of shape part w xs (at_rest h) none still = h.tail
+tail_of shape part w xs (appending front node h e) none still =
+    let above = bucket_above shape part node h.bucket in let is = h.to_append in absurd (omega (arith, above, is, none))
+tail_of shape part w xs (removing front node rest h e) none still =
+    let above = bucket_above shape part node h.bucket in let is = h.to_remove in absurd (omega (arith, above, is, still))
+
+pub tail_is : (layout : Layout) (size : ℕ) (w : Words) → IsLogOf layout size w → w TO_APPEND ≡ 0 → w TO_REMOVE ≡ 0 → w TAIL ≡ last_or 0 (chain_of (layout_shape layout) w)
+tail_is layout size w log none still =
+    let list = list_of size w log.has_list in
+    let found = chain_of_list (shape_of w) log.has_list.part w log.has_list.chain log.has_list.below list in
+    tail_of (shape_of w) log.has_list.part w log.has_list.chain list none still
+    ∙ ap (last_or 0) (sym found.0) ∙ ap (λ s. last_or 0 (chain_of s w)) log.has_layout
+
+pub last_small : (layout : Layout) (size : ℕ) (w : Words) → IsLogOf layout size w → last_or 0 (chain_of (layout_shape layout) w) < 2 ^ 31
+last_small layout size w log = elim (eqb_tells (last_or 0 (chain_of (layout_shape layout) w)) 0) [
+  | inl e ↦ (let z = e.1 in omega (arith, z))
+  | inr e ↦ (let inside = last_inside layout size w log e.1 in let small = (roomy layout size w log).small in omega (arith, inside, small))
+]
 
 -- the part's buckets are among all
 pub part_inside : (layout : Layout) (part : Buckets) (size : ℕ) (w : Words) → IsLogOfPart layout part size w → part.first + part.count ≤ layout.buckets

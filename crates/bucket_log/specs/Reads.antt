@@ -1,5 +1,5 @@
 -- What is read of the log, in words whose list is sound.
-use Rattle.std.specs.Prelude.{◌≡◌, ◌≢◌, ◌⊎◌, ℕ, ◌+◌, ◌-◌, ◌*◌, ◌<◌, ◌≤◌, ◌==◌, if◌then◌else◌, true, false, List, length, Option, Some, None}
+use Rattle.std.specs.Prelude.{◌≡◌, ◌≢◌, ◌⊎◌, ℕ, ◌+◌, ◌-◌, ◌*◌, ◌<◌, ◌≤◌, ◌==◌, if◌then◌else◌, true, false, nat_le, List, length, filter, Option, Some, None}
 use Rattle.persist_model.specs.Region.{Words}
 use Rattle.persist_model.specs.Records.{IsAmong}
 use Rattle.persist_model.specs.Shape.{Shape, shape_of, bucket}
@@ -33,6 +33,14 @@ IsFirstClosed w b cells (Some c) = (c < cells) × (w (cell_address b c) ≡ 0) �
 
 abbrev pub IsInPart : Buckets → ℕ → Type 0
 IsInPart part j = (part.first ≤ j) × (j < part.first + part.count)
+
+-- all buckets of the part up to number j are in the chain
+abbrev pub HasAllTo : Shape → Buckets → List ℕ → ℕ → Type 0
+HasAllTo shape part chain j = (i : ℕ) → part.first ≤ i → i ≤ j → IsAmong chain (bucket shape i)
+
+-- how many of the chain's buckets stand at this address or before it
+abbrev pub count_to : ℕ → List ℕ → ℕ
+count_to at chain = length (filter (λ b. nat_le b at) chain)
 
 -- the least bucket of the part that isn't in the chain, or none
 abbrev pub IsLeastOutside : Shape → Buckets → List ℕ → Option ℕ → Type 0

@@ -1,12 +1,11 @@
 // What is read along the chain.
-ghost use Rattle.std.specs.Prelude.{◌≡◌, ◌↔◌, IsTrue, length, slice_index};
+ghost use Rattle.std.specs.Prelude.{◌≡◌, length, slice_index};
 ghost use Rattle.persist_model.specs.Chain.{last_or};
-ghost use Rattle.persist_model.specs.Records.{IsAmong};
 ghost use Rattle.atomic_list.specs.Walk.{chain_of};
 ghost use Rattle.region_layout.specs.Layout.{layout_shape};
-ghost use Rattle.bucket_log.specs.Reads.{IsLogOf};
+ghost use Rattle.bucket_log.specs.Reads.{IsLogOf, count_to};
 
-use atomic_list::after;
+use atomic_list::{TAIL, TO_APPEND, TO_REMOVE, after};
 use persist_model::Look;
 use region_layout::Layout;
 
@@ -35,20 +34,35 @@ pub(crate) fn chain_end<W: Look>(words: &W, layout: Layout) -> ChainEnd
     ChainEnd { last, count }
 }
 
-pub(crate) fn is_in_chain<W: Look>(words: &W, layout: Layout, bucket: u32) -> bool
+/// The chain's last bucket, or 0. Where no bucket is being put behind or taken out, one word names it.
+pub(crate) fn last_bucket<W: Look>(words: &W, layout: Layout) -> u32
     requires { IsLogOf layout (length (W.words words.now)) (slice_index (W.words words.now)) }
-    ensures { IsTrue result ↔ IsAmong (chain_of (layout_shape layout) (slice_index (W.words words.now))) bucket }
+    ensures { result ≡ last_or 0 (chain_of (layout_shape layout) (slice_index (W.words words.now))) }
+{
+    let appended = words.word(TO_APPEND);
+    let removed = words.word(TO_REMOVE);
+    if appended == 0 && removed == 0 {
+        return words.word(TAIL) as u32;
+    }
+    chain_end(words, layout).last
+}
+
+/// How many of the chain's buckets stand at this address or before it.
+pub(crate) fn count_buckets_to<W: Look>(words: &W, layout: Layout, bucket: u32) -> u32
+    requires { IsLogOf layout (length (W.words words.now)) (slice_index (W.words words.now)) }
+    ensures { result ≡ count_to bucket (chain_of (layout_shape layout) (slice_index (W.words words.now))) }
 {
     let mut last = 0;
+    let mut count = 0;
     for _ in 0..layout.buckets {
         let next = after(words, last);
         if next == 0 {
-            return false;
+            break;
         }
-        if next == bucket {
-            return true;
+        if next <= bucket {
+            count += 1;
         }
         last = next;
     }
-    false
+    count
 }

@@ -1,5 +1,5 @@
 // Where the next record goes.
-ghost use Rattle.std.specs.Prelude.{◌≡◌, ◌↔◌, ◌<◌, ◌≤◌, ◌*◌, ◌+◌, ◌^◌, ℕ, IfSome, length, slice_index};
+ghost use Rattle.std.specs.Prelude.{◌≡◌, ◌↔◌, IsTrue, ◌<◌, ◌≤◌, ◌*◌, ◌+◌, ◌^◌, ℕ, IfSome, length, slice_index};
 ghost use Rattle.persist_model.specs.Chain.{last_or};
 ghost use Rattle.persist_model.specs.Region.{Words};
 ghost use Rattle.persist_model.specs.Sound.{room_of};
@@ -7,10 +7,10 @@ ghost use Rattle.atomic_list.specs.Reads.{SameLog};
 ghost use Rattle.atomic_list.specs.Walk.{chain_of};
 ghost use Rattle.region_layout.specs.Layout.{layout_shape, IsPart};
 ghost use Rattle.bucket_log.specs.Places.{IsNextPlace};
-ghost use Rattle.bucket_log.specs.Reads.{IsLogOf, IsLogOfPart, IsFirstClosed, IsLeastOutside, IsUsedIn, IsFreshIn, IsNextIn};
+ghost use Rattle.bucket_log.specs.Reads.{IsLogOf, IsLogOfPart, IsFirstClosed, IsInPart, HasAllTo, IsLeastOutside, IsUsedIn, IsFreshIn, IsNextIn};
 
 use crate::append::Place;
-use crate::chain::{chain_end, is_in_chain};
+use crate::chain::{count_buckets_to, last_bucket};
 use persist_model::Look;
 use region_layout::{Buckets, Layout};
 
@@ -28,18 +28,35 @@ fn first_closed<W: Look>(words: &W, layout: Layout, bucket: u32) -> Option<u32>
     None
 }
 
-// The least bucket of the part that isn't in the chain.
+// Whether the chain has all buckets of the part up to this number, and that one.
+fn has_all_to<W: Look>(words: &W, layout: Layout, part: Buckets, j: u32) -> bool
+    requires part { IsLogOfPart layout part (length (W.words words.now)) (slice_index (W.words words.now)) }
+    requires number { IsInPart part j }
+    ensures { IsTrue result ↔ HasAllTo (layout_shape layout) part (chain_of (layout_shape layout) (slice_index (W.words words.now))) j }
+{
+    let used = count_buckets_to(words, layout, layout.bucket(j));
+    used == j + 1 - part.first
+}
+
+// The least bucket of the part that isn't in the chain. It is looked for between low and high, a walk for each halving.
 fn least_outside<W: Look>(words: &W, layout: Layout, part: Buckets) -> Option<u32>
     requires { IsLogOfPart layout part (length (W.words words.now)) (slice_index (W.words words.now)) }
     ensures { IsLeastOutside (layout_shape layout) part (chain_of (layout_shape layout) (slice_index (W.words words.now))) result }
 {
-    for j in part.first..part.first + part.count {
-        let bucket = layout.bucket(j);
-        if !is_in_chain(words, layout, bucket) {
-            return Some(bucket);
+    let mut low = part.first;
+    let mut high = part.first + part.count;
+    while low < high {
+        let middle = low + (high - low) / 2;
+        if has_all_to(words, layout, part, middle) {
+            low = middle + 1;
+        } else {
+            high = middle;
         }
     }
-    None
+    if low == part.first + part.count {
+        return None;
+    }
+    Some(layout.bucket(low))
 }
 
 // The first closed cell of the chain's last bucket.
@@ -78,7 +95,7 @@ fn read_place<W: Look>(words: &W, layout: Layout, part: Buckets) -> Option<Place
     requires { IsLogOfPart layout part (length (W.words words.now)) (slice_index (W.words words.now)) }
     ensures { IsNextIn (layout_shape layout) part (slice_index (W.words words.now)) (chain_of (layout_shape layout) (slice_index (W.words words.now))) result }
 {
-    let tail = chain_end(words, layout).last;
+    let tail = last_bucket(words, layout);
     match used_place(words, layout, tail) {
         Some(place) => Some(place),
         None => fresh_place(words, layout, part, tail),

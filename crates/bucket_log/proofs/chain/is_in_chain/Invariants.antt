@@ -1,9 +1,0 @@
-use Rattle.std.specs.Prelude.{slice_index}
-use Rattle.persist_model.specs.Records.{IsAmong}
-use Rattle.atomic_list.specs.Walk.{chain_of}
-use Rattle.region_layout.specs.Layout.{layout_shape}
-use Rattle.bucket_log.proofs.Walking.{IsWalked}
-use Rattle.bucket_log.proofs.chain.is_in_chain.Given as goal
-
-abbrev pub invariant-loop : goal.invariant-loop
-invariant-loop g l = IsWalked (λ front. IsAmong front l.bucket → ⊥) (chain_of (layout_shape l.fn.layout) (slice_index (g.W.Look.words l.words))) l.last l.counter
