@@ -9,6 +9,7 @@ pub mod Tried
 pub mod Asking
 pub mod Oldest
 pub mod Ordering
+pub mod Tabled
 pub mod Needing
 pub mod PartsTried
 pub mod RoomRead

@@ -15,7 +15,7 @@ use Rattle.bucket_log.specs.declared.scanning.Placed.{Placed}
 use Rattle.bucket_log.specs.Scans.{record_of_placed}
 use Rattle.bucket_log.proofs.Scans.{reverse-cons}
 use Rattle.sound_check.specs.Rows.{log_of_rows, is_skipped_row, IsDrawn}
-use Rattle.sound_check.proofs.Asking.{any_has, both_true, equal_true, not_true, as_told}
+use Rattle.sound_check.proofs.Asking.{kinds_any, of_any, any_has, both_true, equal_true, not_true, as_told}
 use Rattle.sound_check.proofs.Ordering.{has_as}
 
 or_comm : (s t : Bool) → (s || t) ≡ (t || s)
@@ -40,14 +40,6 @@ any_map f (x ∷ rows) = ap (λ t. f (record_of_placed x) || t) (any_map f rows)
 
 any_log : (f : Record → Bool) (rows : List Placed) → list_any (λ s. f (record_of_placed s)) rows ≡ list_any f (log_of_rows rows)
 any_log f rows = any_map f rows ∙ sym (any_reverse f (map record_of_placed rows))
-
-kinds_any : (t kind : ℕ) (log : Log) → list_any (is_kind_of t kind) log ≡ has_kind_of t kind log
-kinds_any t kind [] = refl
-kinds_any t kind (r ∷ log) = ap (λ b. is_kind_of t kind r || b) (kinds_any t kind log)
-
-of_any : (t : ℕ) (log : Log) → list_any (is_of t) log ≡ has_of t log
-of_any t [] = refl
-of_any t (r ∷ log) = ap (λ b. is_of t r || b) (of_any t log)
 
 pub has_kind_is : (t kind : ℕ) (rows : List Placed) → list_any (λ (s : Placed). (s.cell.transaction == t) && (s.cell.kind == kind)) rows ≡ has_kind_of t kind (log_of_rows rows)
 has_kind_is t kind rows = any_log (is_kind_of t kind) rows ∙ kinds_any t kind (log_of_rows rows)

@@ -11,7 +11,10 @@ mod log_rules;
 mod log_words;
 mod numbers;
 mod order;
+mod past;
 mod points;
+mod seen;
+mod summaries;
 mod walk;
 
 pub use checking::{SoundLog, check, read_sound};
