@@ -11,6 +11,7 @@ pub mod Oldest
 pub mod Ordering
 pub mod Tabled
 pub mod Needing
+pub mod Homed
 pub mod PartsTried
 pub mod RoomRead
 pub mod LogTried

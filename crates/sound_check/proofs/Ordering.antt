@@ -18,7 +18,7 @@ number_tells log n t e = log_has (λ s. s.lsn ≡ n) (λ (s : Record). (s.lsn ==
 abbrev pub IsKindOf : ℕ → ℕ → Record → Type 0
 IsKindOf tr k s = (s.transaction ≡ tr) × (s.kind ≡ k)
 
-kind_of_true : (tr k : ℕ) (r : Record) → (is_kind_of tr k r ≡ true) ↔ IsKindOf tr k r
+pub kind_of_true : (tr k : ℕ) (r : Record) → (is_kind_of tr k r ≡ true) ↔ IsKindOf tr k r
 kind_of_true tr k r = both_true _ _ _ _ (equal_true r.transaction tr) (equal_true r.kind k)
 
 pub kind_tells : (log : Log) (tr k : ℕ) (t : Bool) → t ≡ has_kind_of tr k log → (t ≡ true) ↔ Has (IsKindOf tr k) log

@@ -7,3 +7,4 @@ pub mod Seen
 pub mod Tables
 pub mod Passed
 pub mod Barring
+pub mod Homes

@@ -59,8 +59,11 @@ no_summary = record {
   undo_count = 0;
 }
 
+abbrev pub summary_of : Summaries → ℕ → Summary
+summary_of all t = unwrap_or (get nat_cmp all.table t) no_summary
+
 abbrev pub AreSummaries : (ℕ → ℕ) → Summaries → Log → Type 0
-AreSummaries part all log = (t : ℕ) → IsSummary part (unwrap_or (get nat_cmp all.table t) no_summary) t log
+AreSummaries part all log = (t : ℕ) → IsSummary part (summary_of all t) t log
 
 -- ---- tables
 

@@ -14,8 +14,9 @@ ghost use Rattle.sound_check.specs.Passed.{IsPast};
 ghost use Rattle.sound_check.specs.Barring.{names_word as names_word_of, is_barring as is_barring_of, compensates as compensates_it, IsClaim};
 
 use crate::fault::CheckFault;
+use crate::parts::part_of;
 use crate::past::Past;
-use crate::summaries::{Summaries, Summary, summarize};
+use crate::summaries::{Summaries, Summary};
 use bucket_log::Placed;
 use persist_model::format::{CHECKPOINT, COMPENSATION, DELETION, ROLLBACK, UPDATE};
 use region_layout::{ImageFault, Layout};
@@ -23,15 +24,6 @@ use std::alloc::Global;
 
 /// The number of the rule on the order of records.
 const ORDER_FAULT: u32 = 8;
-
-/// The partition in which the cell at this address stands.
-pub(crate) fn part_of(layout: Layout, at: u32) -> u32
-    ensures { result ≡ part_of_shape (layout_shape layout) at }
-{
-    let bucket = at.saturating_sub(32) / (8 + 8 * layout.cells);
-    let part = bucket / (layout.buckets / layout.partitions);
-    part.min(layout.partitions - 1)
-}
 
 // Whether a record names a word.
 fn names_word(s: &Placed) -> bool
@@ -162,8 +154,8 @@ fn follows(layout: Layout, whole: &Summaries, past: &Past, r: &Placed) -> bool
     undoes_well(past, own, r)
 }
 
-// Tries the order rule, the oldest record first, by what the records of the whole log come to.
-fn try_each(
+/// Tries the order rule, the oldest record first, by what the records of the whole log come to.
+pub(crate) fn try_order(
     alloc: Global,
     layout: Layout,
     whole: &Summaries,
@@ -185,13 +177,4 @@ fn try_each(
         past.add(layout, &r, is_barring(whole, &r))?;
     }
     Ok(())
-}
-
-/// Tries the order rule, the oldest record first.
-pub(crate) fn try_order(alloc: Global, layout: Layout, rows: &[Placed]) -> Result<(), CheckFault>
-    ensures ok { OnOk result (IsInOrder (part_of_shape (layout_shape layout)) (log_of_rows rows.now)) }
-    ensures fault { IfErr result (λ e. IfUnsound e (TriedOldest (Follows (part_of_shape (layout_shape layout)) (log_of_rows rows.now)) 8 (log_of_rows rows.now) NoFault)) }
-{
-    let whole = summarize(alloc, layout, rows)?;
-    try_each(alloc, layout, &whole, rows)
 }

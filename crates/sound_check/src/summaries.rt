@@ -1,5 +1,5 @@
 //! What the records of each transaction come to.
-ghost use Rattle.std.specs.Prelude.{◌≡◌, ◌==◌, ◌&&◌, ◌||◌, ◌+◌, ◌<◌, ◌≤◌, ◌^◌, ◌∷◌, [], ℕ, not, nat_lt, is_some, length, IfOk, OnOk};
+ghost use Rattle.std.specs.Prelude.{◌≡◌, ◌==◌, ◌&&◌, ◌||◌, ◌+◌, ◌<◌, ◌≤◌, ◌^◌, ◌∷◌, [], ℕ, not, nat_lt, is_some, length, OnOk};
 ghost use Rattle.std.specs.BTreeMap.{get};
 ghost use Rattle.std.specs.Ordering.{nat_cmp};
 ghost use Rattle.persist_model.specs.Records.{Log};
@@ -8,11 +8,10 @@ ghost use Rattle.persist_model.specs.Need.{to_undo};
 ghost use Rattle.persist_model.specs.Shape.{part_of as part_of_shape};
 ghost use Rattle.bucket_log.specs.Scans.{record_of_placed};
 ghost use Rattle.region_layout.specs.Layout.{layout_shape};
-ghost use Rattle.sound_check.specs.Tables.{IsSummary, AreSummaries, no_summary, is_end_below, after_put};
+ghost use Rattle.sound_check.specs.Tables.{IsSummary, AreSummaries, no_summary, is_end_below, after_put, summary_of};
 ghost use Rattle.sound_check.specs.Seen.{has_other};
-ghost use Rattle.sound_check.specs.Rows.{log_of_rows};
 
-use crate::order::part_of;
+use crate::parts::part_of;
 use crate::seen::Seen;
 use bucket_log::Placed;
 use persist_model::NoMemory;
@@ -161,7 +160,8 @@ impl Summaries {
 
     /// That of this transaction.
     pub(crate) fn of(&self, transaction: u64) -> Summary
-        ensures { (part : ℕ → ℕ) (log : Log) → AreSummaries part self.now log → IsSummary part result transaction log }
+        ensures value { result ≡ summary_of self.now transaction }
+        ensures summary { (part : ℕ → ℕ) (log : Log) → AreSummaries part self.now log → IsSummary part result transaction log }
     {
         self.table.get(&transaction).copied().unwrap_or(nothing())
     }
@@ -185,19 +185,4 @@ impl Summaries {
         self.put(s.cell.transaction, before.behind(layout, s))?;
         Ok(())
     }
-}
-
-/// Those of all these records.
-pub(crate) fn summarize(
-    alloc: Global,
-    layout: Layout,
-    rows: &[Placed],
-) -> Result<Summaries, NoMemory>
-    ensures { IfOk result (λ all. AreSummaries (part_of_shape (layout_shape layout)) all (log_of_rows rows.now)) }
-{
-    let mut all = Summaries::new(alloc);
-    for s in rows {
-        all.add(layout, s)?;
-    }
-    Ok(all)
 }

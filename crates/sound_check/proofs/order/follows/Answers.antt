@@ -45,7 +45,7 @@ returns-then-has_end-2 c = λ log earlier whole past. (
       (told_none _ earlier c.is_scattered.result (c.is_scattered.ensures earlier (c.of-own.ensures _ _ earlier past)) c.if-is_scattered.false)
       (λ h. let e = (c.has_end.ensures _ _ earlier (c.of-own.ensures _ _ earlier past)).1 h in cc)
       (λ k s m p. let e = (c.is_barred.ensures _ log earlier past).1 (k, (s, m, p)) in cc)
-      (λ running. let h = (c.has_end-2.ensures _ _ log (c.of.ensures _ log whole)).0 c.if-has_end-2.true in absurd (running h.0 h.1 h.2))),
+      (λ running. let h = (c.has_end-2.ensures _ _ log (c.of.ensures.summary _ log whole)).0 c.if-has_end-2.true in absurd (running h.0 h.1 h.2))),
   (λ f. refl),
 )
 
@@ -58,5 +58,5 @@ returns c = λ log earlier whole past. (
       (λ k s m p. let e = (c.is_barred.ensures _ log earlier past).1 (k, (s, m, p)) in cc)
       (λ running. (c.undoes_well.ensures _ _ earlier past (c.of-own.ensures _ _ earlier past)).0 t)),
   (λ f. (c.undoes_well.ensures _ _ earlier past (c.of-own.ensures _ _ earlier past)).1 (f.undo c.if-r-eq-CHECKPOINT.false
-      (told_none _ log c.has_end-2.result (c.has_end-2.ensures _ _ log (c.of.ensures _ log whole)) c.if-has_end-2.false))),
+      (told_none _ log c.has_end-2.result (c.has_end-2.ensures _ _ log (c.of.ensures.summary _ log whole)) c.if-has_end-2.false))),
 )

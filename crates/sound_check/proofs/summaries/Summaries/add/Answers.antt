@@ -9,8 +9,8 @@ use Rattle.sound_check.proofs.summaries.Summaries.add.Goals as goal
 
 pub behind-requires : goal.behind-requires
 behind-requires c =
-    let le = (c.of-before.ensures (part_of (layout_shape c.args.layout)) c.requires.0 c.requires.1).bound in let lt = c.requires.2 in omega (arith, le, lt)
+    let le = (c.of-before.ensures.summary (part_of (layout_shape c.args.layout)) c.requires.0 c.requires.1).bound in let lt = c.requires.2 in omega (arith, le, lt)
 
 pub returns : goal.returns
 returns c = λ log sums. summaries_more (part_of (layout_shape c.args.layout)) (record_of_placed c.args.s.now) log (get nat_cmp c.args.self.now.table) (get nat_cmp c.put.new.self.table) c.behind.result
-    c.in_ok-put.ensures sums (c.behind.ensures log (c.of-before.ensures (part_of (layout_shape c.args.layout)) log sums))
+    c.in_ok-put.ensures sums (c.behind.ensures log (c.of-before.ensures.summary (part_of (layout_shape c.args.layout)) log sums))

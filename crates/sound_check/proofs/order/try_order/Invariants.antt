@@ -6,7 +6,7 @@ use Rattle.region_layout.specs.Layout.{layout_shape}
 use Rattle.sound_check.specs.Rows.{log_of_rows}
 use Rattle.sound_check.specs.Passed.{IsPast}
 use Rattle.sound_check.specs.Barring.{is_barring}
-use Rattle.sound_check.proofs.order.try_each.Given as goal
+use Rattle.sound_check.proofs.order.try_order.Given as goal
 
 abbrev pub invariant-loop-i : goal.invariant-loop-i
 invariant-loop-i l = record {

@@ -9,7 +9,7 @@ use Rattle.sound_check.specs.Rows.{log_of_rows}
 use Rattle.sound_check.specs.Passed.{IsPast}
 use Rattle.sound_check.specs.Barring.{is_barring}
 use Rattle.sound_check.proofs.Oldest.{good_next, first_bad, log_next, log_short}
-use Rattle.sound_check.proofs.order.try_each.Goals as goal
+use Rattle.sound_check.proofs.order.try_order.Goals as goal
 
 pub loop-i-init : goal.loop-i-init
 loop-i-init c = record {
