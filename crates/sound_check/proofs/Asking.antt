@@ -29,11 +29,11 @@ any_by : {X : Type 0} (test : X → Bool) (x : X) (xs : List X) (t : Bool) → t
 any_by test x xs true h e more = (x, inl refl, h)
 any_by test x xs false h e more = let k = more (sym (ap (λ t. t || list_any test xs) h) ∙ e) in (k.0, inr k.1, k.2)
 
-any_item : {X : Type 0} (test : X → Bool) (xs : List X) → list_any test xs ≡ true → (x : X) × IsAmong xs x × (test x ≡ true)
+pub any_item : {X : Type 0} (test : X → Bool) (xs : List X) → list_any test xs ≡ true → (x : X) × IsAmong xs x × (test x ≡ true)
 any_item test [] e = cc
 any_item test (x ∷ xs) e = any_by test x xs (test x) refl e (any_item test xs)
 
-item_any : {X : Type 0} (test : X → Bool) (xs : List X) (x : X) → IsAmong xs x → test x ≡ true → list_any test xs ≡ true
+pub item_any : {X : Type 0} (test : X → Bool) (xs : List X) (x : X) → IsAmong xs x → test x ≡ true → list_any test xs ≡ true
 item_any test [] x m e = absurd m
 item_any test (y ∷ xs) x (inl same) e = ap (λ t. t || list_any test xs) (ap test (sym same) ∙ e)
 item_any test (y ∷ xs) x (inr m) e = or_true (test y) (list_any test xs) (item_any test xs x m e)

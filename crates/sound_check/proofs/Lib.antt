@@ -10,6 +10,7 @@ pub mod Asking
 pub mod Oldest
 pub mod Ordering
 pub mod Tabled
+pub mod Marked
 pub mod Needing
 pub mod Homed
 pub mod PartsTried

@@ -85,7 +85,7 @@ number_free numbers log n are none =
 
 -- ---- values by transaction and word
 
-nat_at : (a b : ℕ) → is_eq (nat_cmp a b) ≡ (a == b)
+pub nat_at : (a b : ℕ) → is_eq (nat_cmp a b) ≡ (a == b)
 nat_at a b = grind (arith, nat_tests)
 
 then_at : (x y : Ordering) → is_eq (ordering_then x y) ≡ (is_eq x && is_eq y)
