@@ -21,6 +21,6 @@ pub homes_more : (part : ℕ → ℕ) (homes : List Home) (r : Record) (log : Lo
     AreHomes part (homes ++ (if first then record { transaction = r.transaction; part = part r.at } ∷ [] else [])) (r ∷ log)
 homes_more part homes r log first has is_first is_has homes_are p number =
     ap (λ b. (if b then number r.transaction else 0) + sum_over part p number log)
-      (and_assoc (not (r.kind == 5)) (not (has_of r.transaction log)) (part r.at == p) ∙ ap (λ h. (not (r.kind == 5) && not h) && (part r.at == p)) (sym is_has) ∙ ap (λ b. b && (part r.at == p)) (sym is_first))
+    (and_assoc (not (r.kind == 5)) (not (has_of r.transaction log)) (part r.at == p) ∙ ap (λ h. (not (r.kind == 5) && not h) && (part r.at == p)) (sym is_has) ∙ ap (λ b. b && (part r.at == p)) (sym is_first))
     ∙ ap (λ n. (if first && (part r.at == p) then number r.transaction else 0) + n) (homes_are p number)
     ∙ pushed p number homes (record { transaction = r.transaction; part = part r.at }) first

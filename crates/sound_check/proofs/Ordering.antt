@@ -160,4 +160,3 @@ follows_by part log earlier r fresh here unended free undo = record {
 -- an earlier end of r's transaction
 pub follows_no_end : (part : ℕ → ℕ) (log earlier : Log) (r : Record) → r.kind ≢ 5 → IsEnded earlier r.transaction → Follows part log earlier r → ⊥
 follows_no_end part log earlier r ne h f = f.not_ended h.0 h.1 ((h.2.1, (λ five. let four = h.2.0 in omega (arith, four, five))), ne, h.2.0)
-

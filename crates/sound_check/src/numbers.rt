@@ -135,7 +135,13 @@ fn is_checkpointed(layout: Layout, whole: &Summaries, rows: &[Placed]) -> bool
 // ---- the rule
 
 /// Whether a partition with this much room has enough, by the transactions of these records.
-pub(crate) fn has_room(layout: Layout, all: &Transactions, rows: &[Placed], p: u32, room: u64) -> bool
+pub(crate) fn has_room(
+    layout: Layout,
+    all: &Transactions,
+    rows: &[Placed],
+    p: u32,
+    room: u64,
+) -> bool
     requires all { AreTransactions (part_of_shape (layout_shape layout)) all.now (log_of_rows rows.now) }
     requires small { room < 2 ^ 63 }
     ensures { IsTrue result ↔ HasRoom (layout_shape layout) (log_of_rows rows.now) p room }

@@ -29,14 +29,12 @@ type News = BTreeMap<(u64, u64), u64>;
 type Claims = BTreeMap<u64, Seen>;
 
 // Takes a record whose number is new.
-fn add_number(numbers: &mut Numbers, s: &Placed) -> Result<(), NoMemory>
+fn add_number(numbers: &mut Numbers, s: &Placed) -> Result<(), AllocError>
     requires { get nat_cmp numbers.old s.now.cell.gate ≡ None }
     ensures { OnOk result ((log : Log) → AreNumbers numbers.old log → AreNumbers numbers.new (record_of_placed s.now ∷ log)) }
 {
-    match numbers.insert(s.cell.gate, *s) {
-        Ok(_) => Ok(()),
-        Err(refused) => Err(AllocError::from(refused).into()),
-    }
+    numbers.insert(s.cell.gate, *s)?;
+    Ok(())
 }
 
 // Whether a record changes a word.
@@ -47,16 +45,14 @@ fn is_change(s: &Placed) -> bool
 }
 
 // Takes a record, which may be a change.
-fn add_new(news: &mut News, s: &Placed) -> Result<(), NoMemory>
+fn add_new(news: &mut News, s: &Placed) -> Result<(), AllocError>
     ensures { OnOk result ((log : Log) → AreNews news.old log → AreNews news.new (record_of_placed s.now ∷ log)) }
 {
     if !is_change(s) {
         return Ok(());
     }
-    match news.insert((s.cell.transaction, s.cell.address), s.cell.after) {
-        Ok(_) => Ok(()),
-        Err(refused) => Err(AllocError::from(refused).into()),
-    }
+    news.insert((s.cell.transaction, s.cell.address), s.cell.after)?;
+    Ok(())
 }
 
 // The transactions whose records bar others from this word.
@@ -67,7 +63,7 @@ fn claimers(claims: &Claims, word: u64) -> Seen
 }
 
 // Takes a record, which may bar others from its word.
-fn add_claim(claims: &mut Claims, s: &Placed, bars: bool) -> Result<(), NoMemory>
+fn add_claim(claims: &mut Claims, s: &Placed, bars: bool) -> Result<(), AllocError>
     ensures { OnOk result ((marks : Record → Bool) (log : Log) → bars ≡ marks (record_of_placed s.now) → AreClaims marks claims.old log
         → AreClaims marks claims.new (record_of_placed s.now ∷ log)) }
 {
@@ -75,10 +71,8 @@ fn add_claim(claims: &mut Claims, s: &Placed, bars: bool) -> Result<(), NoMemory
         return Ok(());
     }
     let seen = claimers(claims, s.cell.address).with(s.cell.transaction);
-    match claims.insert(s.cell.address, seen) {
-        Ok(_) => Ok(()),
-        Err(refused) => Err(AllocError::from(refused).into()),
-    }
+    claims.insert(s.cell.address, seen)?;
+    Ok(())
 }
 
 /// The records that were passed, as the next one asks for them.
@@ -122,7 +116,10 @@ impl Past {
     pub(crate) fn last_new(&self, transaction: u64, word: u64, other: u64) -> u64
         ensures { (part : ℕ → ℕ) (marks : Record → Bool) (log : Log) → IsPast part marks self.now log → result ≡ last_new_of transaction word other log }
     {
-        self.news.get(&(transaction, word)).copied().unwrap_or(other)
+        self.news
+            .get(&(transaction, word))
+            .copied()
+            .unwrap_or(other)
     }
 
     /// Whether a record of another transaction bars this one from the word.

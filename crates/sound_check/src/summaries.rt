@@ -166,13 +166,11 @@ impl Summaries {
         self.table.get(&transaction).copied().unwrap_or(nothing())
     }
 
-    fn put(&mut self, transaction: u64, summary: Summary) -> Result<(), NoMemory>
+    fn put(&mut self, transaction: u64, summary: Summary) -> Result<(), AllocError>
         ensures { OnOk result ((t : ℕ) → get nat_cmp self.new.table t ≡ after_put transaction summary (get nat_cmp self.old.table t) t) }
     {
-        match self.table.insert(transaction, summary) {
-            Ok(_) => Ok(()),
-            Err(refused) => Err(AllocError::from(refused).into()),
-        }
+        self.table.insert(transaction, summary)?;
+        Ok(())
     }
 
     /// Takes one record more.

@@ -42,7 +42,7 @@ fn add_home(
     layout: Layout,
     s: &Placed,
     first: bool,
-) -> Result<(), NoMemory>
+) -> Result<(), AllocError>
     ensures { OnOk result (homes.new.items ≡ homes.old.items
         ++ (if first then record { transaction = s.now.cell.transaction; part = part_of_shape (layout_shape layout) s.now.at } ∷ [] else [])) }
 {
@@ -53,10 +53,8 @@ fn add_home(
         transaction: s.cell.transaction,
         part: part_of(layout, s.at),
     };
-    match homes.push(home) {
-        Ok(()) => Ok(()),
-        Err(refused) => Err(AllocError::from(refused).into()),
-    }
+    homes.push(home)?;
+    Ok(())
 }
 
 impl Transactions {

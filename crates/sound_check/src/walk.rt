@@ -91,13 +91,11 @@ fn is_marked(marks: &Marks, b: u64) -> bool
 }
 
 // Marks a bucket.
-fn mark(marks: &mut Marks, b: u32) -> Result<(), NoMemory>
+fn mark(marks: &mut Marks, b: u32) -> Result<(), AllocError>
     ensures { OnOk result ((visited : List ℕ) → AreMarks marks.old visited → AreMarks marks.new (visited ++ b ∷ [])) }
 {
-    match marks.insert(u64::from(b)) {
-        Ok(_) => Ok(()),
-        Err(refused) => Err(AllocError::from(refused).into()),
-    }
+    marks.insert(u64::from(b))?;
+    Ok(())
 }
 
 // The bucket to which the walk goes on behind those that it visited, or none where it stops.

@@ -9,7 +9,7 @@ use Rattle.sound_check.proofs.numbers.need.Goals as goal
 
 pub loop-home-preserved : goal.loop-home-preserved
 loop-home-preserved c = λ part log all.
-    saturated_both 18446744073709551615 _ _ c.loop-home.sum c.share.result c.saturating_add-sum.result (c.loop-home.invariant part log all) 
+    saturated_both 18446744073709551615 _ _ c.loop-home.sum c.share.result c.saturating_add-sum.result (c.loop-home.invariant part log all)
     (c.share.ensures part log all.summaries
     ∙ ap (λ homes. min (share_of c.args.p (need_of log) (get_or homes c.loop-home.home-index (record { transaction = 0; part = 0 }))) 18446744073709551615) c.deref-home-items.ensures.value)
     c.saturating_add-sum.ensures

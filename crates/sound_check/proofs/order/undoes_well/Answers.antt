@@ -14,7 +14,7 @@ returns-in-1 c = λ part marks earlier past own. update_undoes earlier (record_o
     ∙ ap (λ b. not b && ((c.args.r.now.cell.undo_next == c.args.own.undo_point) && (c.args.r.now.cell.before == c.last_new-last.result))) own.rollback
     ∙ ap (λ n. not (has_kind_of c.args.r.now.cell.transaction 3 earlier) && ((c.args.r.now.cell.undo_next == n) && (c.args.r.now.cell.before == c.last_new-last.result))) own.point
     ∙ ap (λ n. not (has_kind_of c.args.r.now.cell.transaction 3 earlier) && ((c.args.r.now.cell.undo_next == undo_point c.args.r.now.cell.transaction earlier) && (c.args.r.now.cell.before == n)))
-      (c.last_new-last.ensures part marks earlier past))
+    (c.last_new-last.ensures part marks earlier past))
 
 pub returns-in-6 : goal.returns-in-6
 returns-in-6 c = λ part marks earlier past own. rest_undoes earlier (record_of_placed c.args.r.now) c.args.own.has_rollback (elim c.in-6.is [ inl three ↦ inr three | inr six ↦ inl six ]) own.rollback

@@ -20,7 +20,7 @@ next_visit-requires-clause-buckets g c = subst (AreBuckets (IsBucketOf (layout_s
 pub loop-b-preserved : goal.loop-b-preserved
 loop-b-preserved g c = record {
   going = going_push (layout_shape c.args.layout) c.args.p (slice_index (g.W.Look.words c.args.words.now)) c.loop-b.visited.items c.push.new.buckets.items c.in-Some.b c.loop-b.invariant.going
-    (subst (λ xs. GoesTo (IsBucketOf (layout_shape c.args.layout) c.args.p) (slice_index (g.W.Look.words c.args.words.now)) xs c.in-Some.b) c.as_slice.ensures.value c.in-Some.ensures) c.in_ok-push.ensures;
+      (subst (λ xs. GoesTo (IsBucketOf (layout_shape c.args.layout) c.args.p) (slice_index (g.W.Look.words c.args.words.now)) xs c.in-Some.b) c.as_slice.ensures.value c.in-Some.ensures) c.in_ok-push.ensures;
   marks = subst (AreMarks c.mark.new.marks) (sym c.in_ok-push.ensures) (c.in_ok-mark.ensures c.loop-b.visited.items c.loop-b.invariant.marks);
 }
 
