@@ -1,5 +1,5 @@
 -- What the tests of records say of the order rule.
-use Rattle.std.proofs.Common.{◌≡◌, ◌≢◌, ◌⊎◌, ◌↔◌, inl, inr, ℕ, Bool, true, not, ◌==◌, ◌&&◌, ◌||◌, List, [], ◌∷◌, refl, sym, ap, ◌∙◌, subst, arith}
+use Rattle.std.proofs.Common.{◌≡◌, ◌≢◌, ◌⊎◌, ◌↔◌, inl, inr, ℕ, Bool, true, not, ◌==◌, ◌&&◌, refl, sym, ◌∙◌, subst, arith}
 use Rattle.std.specs.List.{list_any}
 use Rattle.persist_model.specs.Records.{Record, Log, Has, HasNo, IsRollback, NamesWord, IsOf, IsEndOf, IsRunning, IsEnded, IsCommitted}
 use Rattle.persist_model.specs.Order.{is_kind_of, undo_point, last_new, Compensates, IsNextToUndo, UndoesWell, Bars, Follows}

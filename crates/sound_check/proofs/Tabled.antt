@@ -1,7 +1,6 @@
 -- One record more in the tables.
-use Rattle.std.proofs.Common.{◌≡◌, ◌≢◌, inl, inr, ℕ, ◌+◌, ◌<◌, ◌≤◌, ◌^◌, Bool, true, false, not, ◌==◌, ◌&&◌, ◌||◌, if◌then◌else◌, List, [], ◌∷◌, length, take, refl, sym, ap, ◌∙◌, subst, eq-eqb, arith}
+use Rattle.std.proofs.Common.{◌≡◌, inl, inr, ℕ, ◌+◌, ◌≤◌, Bool, true, false, not, ◌==◌, ◌&&◌, ◌||◌, if◌then◌else◌, ◌∷◌, length, refl, sym, ap, ◌∙◌, subst, eq-eqb, arith}
 use Rattle.std.specs.Prelude.{Option, Some, None, unwrap_or, is_some, nat_lt}
-use Rattle.std.specs.List.{list_any}
 use Rattle.std.specs.declared.cmp.Ordering.{Ordering}
 use Rattle.std.specs.declared.cmp.Ordering.TheVariants.{Less, Equal, Greater}
 use Rattle.std.specs.Ordering.{is_eq, nat_cmp, ordering_then}
@@ -11,7 +10,6 @@ use Rattle.persist_model.specs.Records.{Record, Log, HasNo}
 use Rattle.persist_model.specs.Order.{undo_point, last_new}
 use Rattle.persist_model.specs.Need.{has_of, has_kind_of, to_undo}
 use Rattle.bucket_log.specs.declared.scanning.Placed.{Placed}
-use Rattle.bucket_log.specs.Scans.{record_of_placed}
 use Rattle.sound_check.specs.declared.summaries.Summary.{Summary}
 use Rattle.sound_check.specs.Seen.{has_other}
 use Rattle.sound_check.specs.Tables.{IsSummary, no_summary, is_end_below, after_put, has_outside, has_commit_of, has_end_below, pair_cmp, holds_found, AreNumbers}

@@ -1,9 +1,7 @@
 use Rattle.std.proofs.Common.{refl}
 use Rattle.persist_model.specs.Shape.{part_of}
-use Rattle.persist_model.specs.Records.{Log}
 use Rattle.region_layout.specs.Layout.{layout_shape}
 use Rattle.bucket_log.specs.Scans.{record_of_placed}
-use Rattle.sound_check.specs.Barring.{is_barring}
 use Rattle.sound_check.proofs.Ordering.{follows_alone, follows_by, follows_no_end}
 use Rattle.sound_check.proofs.Asking.{told_none}
 use Rattle.sound_check.proofs.order.follows.Goals as goal

@@ -1,4 +1,4 @@
-use Rattle.std.proofs.Common.{take, ap, ◌∙◌, sym, subst, refl, arith}
+use Rattle.std.proofs.Common.{take, sym, subst, arith}
 use Rattle.std.proofs.lemmas.List.{take_all}
 use Rattle.persist_model.specs.Shape.{part_of}
 use Rattle.persist_model.specs.Order.{Follows}

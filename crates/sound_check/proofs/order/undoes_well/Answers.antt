@@ -1,7 +1,7 @@
-use Rattle.std.proofs.Common.{◌==◌, ◌&&◌, not, ℕ, inl, inr, ap, ◌∙◌}
+use Rattle.std.proofs.Common.{◌==◌, ◌&&◌, not, inl, inr, ap, ◌∙◌}
 use Rattle.std.specs.List.{list_any}
 use Rattle.persist_model.specs.Records.{Record}
-use Rattle.persist_model.specs.Order.{undo_point, last_new}
+use Rattle.persist_model.specs.Order.{undo_point}
 use Rattle.persist_model.specs.Need.{has_kind_of}
 use Rattle.bucket_log.specs.Scans.{record_of_placed}
 use Rattle.sound_check.specs.Barring.{compensates}

@@ -1,4 +1,4 @@
-use Rattle.std.proofs.Common.{take, ap, subst, sym, arith}
+use Rattle.std.proofs.Common.{take, subst, sym, arith}
 use Rattle.std.proofs.lemmas.List.{take_all}
 use Rattle.persist_model.specs.Shape.{part_of}
 use Rattle.region_layout.specs.Layout.{layout_shape}

@@ -1,4 +1,4 @@
-use Rattle.std.proofs.Common.{refl, sym, ap}
+use Rattle.std.proofs.Common.{sym, ap}
 use Rattle.std.specs.Prelude.{sum_by}
 use Rattle.sound_check.specs.Homes.{share_of}
 use Rattle.sound_check.proofs.transactions.Transactions.new.Goals as goal
