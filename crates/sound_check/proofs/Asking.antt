@@ -3,6 +3,8 @@ use Rattle.std.proofs.Common.{◌≡◌, ◌⊎◌, ◌↔◌, inl, inr, ℕ, Bo
 use Rattle.std.specs.List.{list_any}
 use Rattle.std.proofs.lemmas.Bool.{eqb-true}
 use Rattle.persist_model.specs.Records.{Record, Log, IsAmong, Has, HasNo}
+use Rattle.persist_model.specs.Order.{is_kind_of}
+use Rattle.persist_model.specs.Need.{is_of, has_of, has_kind_of}
 use Rattle.bucket_log.specs.declared.scanning.Placed.{Placed}
 use Rattle.bucket_log.specs.Scans.{record_of_placed}
 use Rattle.bucket_log.proofs.Scans.{among_map, map_among, reverse_among, among_reverse}
@@ -22,25 +24,41 @@ or_true : (s t : Bool) → t ≡ true → (s || t) ≡ true
 or_true true t e = refl
 or_true false t e = e
 
-any_by : (test : Placed → Bool) (x : Placed) (rows : List Placed) (t : Bool) → test x ≡ t → (test x || list_any test rows) ≡ true →
-    (list_any test rows ≡ true → (y : Placed) × IsAmong rows y × (test y ≡ true)) → (y : Placed) × IsAmong (x ∷ rows) y × (test y ≡ true)
-any_by test x rows true h e more = (x, inl refl, h)
-any_by test x rows false h e more = let k = more (sym (ap (λ t. t || list_any test rows) h) ∙ e) in (k.0, inr k.1, k.2)
+any_by : {X : Type 0} (test : X → Bool) (x : X) (xs : List X) (t : Bool) → test x ≡ t → (test x || list_any test xs) ≡ true →
+    (list_any test xs ≡ true → (y : X) × IsAmong xs y × (test y ≡ true)) → (y : X) × IsAmong (x ∷ xs) y × (test y ≡ true)
+any_by test x xs true h e more = (x, inl refl, h)
+any_by test x xs false h e more = let k = more (sym (ap (λ t. t || list_any test xs) h) ∙ e) in (k.0, inr k.1, k.2)
 
-any_row : (test : Placed → Bool) (rows : List Placed) → list_any test rows ≡ true → (x : Placed) × IsAmong rows x × (test x ≡ true)
-any_row test [] e = cc
-any_row test (x ∷ rows) e = any_by test x rows (test x) refl e (any_row test rows)
+pub any_item : {X : Type 0} (test : X → Bool) (xs : List X) → list_any test xs ≡ true → (x : X) × IsAmong xs x × (test x ≡ true)
+any_item test [] e = cc
+any_item test (x ∷ xs) e = any_by test x xs (test x) refl e (any_item test xs)
 
-row_any : (test : Placed → Bool) (rows : List Placed) (x : Placed) → IsAmong rows x → test x ≡ true → list_any test rows ≡ true
-row_any test [] x m e = absurd m
-row_any test (y ∷ rows) x (inl same) e = ap (λ t. t || list_any test rows) (ap test (sym same) ∙ e)
-row_any test (y ∷ rows) x (inr m) e = or_true (test y) (list_any test rows) (row_any test rows x m e)
+pub item_any : {X : Type 0} (test : X → Bool) (xs : List X) (x : X) → IsAmong xs x → test x ≡ true → list_any test xs ≡ true
+item_any test [] x m e = absurd m
+item_any test (y ∷ xs) x (inl same) e = ap (λ t. t || list_any test xs) (ap test (sym same) ∙ e)
+item_any test (y ∷ xs) x (inr m) e = or_true (test y) (list_any test xs) (item_any test xs x m e)
+
+-- the same of a log
+pub log_has : (P : Record → Type 0) (test : Record → Bool) (log : Log) (answer : Bool) → answer ≡ list_any test log → ((r : Record) → (test r ≡ true) ↔ P r) →
+    (answer ≡ true) ↔ Has P log
+log_has P test log answer e tells = (
+  (λ t. let k = any_item test log (sym e ∙ t) in (k.0, k.1, (tells k.0).0 k.2)),
+  (λ h. e ∙ item_any test log h.0 h.1 ((tells h.0).1 h.2)),
+)
+
+pub kinds_any : (t kind : ℕ) (log : Log) → list_any (is_kind_of t kind) log ≡ has_kind_of t kind log
+kinds_any t kind [] = refl
+kinds_any t kind (r ∷ log) = ap (λ b. is_kind_of t kind r || b) (kinds_any t kind log)
+
+pub of_any : (t : ℕ) (log : Log) → list_any (is_of t) log ≡ has_of t log
+of_any t [] = refl
+of_any t (r ∷ log) = ap (λ b. is_of t r || b) (of_any t log)
 
 pub any_has : (P : Record → Type 0) (test : Placed → Bool) (rows : List Placed) (answer : Bool) → answer ≡ list_any test rows → Tells P test →
     (answer ≡ true) ↔ Has P (log_of_rows rows)
 any_has P test rows answer e tells = (
-  (λ t. let k = any_row test rows (sym e ∙ t) in (record_of_placed k.0, row_among rows k.0 k.1, (tells k.0).0 k.2)),
-  (λ h. let k = among_row rows h.0 h.1 in e ∙ row_any test rows k.0 k.1 ((tells k.0).1 (subst P k.2 h.2))),
+  (λ t. let k = any_item test rows (sym e ∙ t) in (record_of_placed k.0, row_among rows k.0 k.1, (tells k.0).0 k.2)),
+  (λ h. let k = among_row rows h.0 h.1 in e ∙ item_any test rows k.0 k.1 ((tells k.0).1 (subst P k.2 h.2))),
 )
 
 pub both_true : (s t : Bool) (P Q : Type 0) → (s ≡ true) ↔ P → (t ≡ true) ↔ Q → ((s && t) ≡ true) ↔ (P × Q)
@@ -65,3 +83,7 @@ as_told t P Q h on back = ((λ e. on (h.0 e)), (λ q. h.1 (back q)))
 -- where it isn't there, no record has P
 pub told_none : (P : Record → Type 0) (log : Log) (t : Bool) → (t ≡ true) ↔ Has P log → t ≡ false → HasNo P log
 told_none P log t h e r m p = let k = h.1 (r, m, p) in cc
+
+pub and_true : (t : Bool) → (t && true) ≡ t
+and_true true = refl
+and_true false = refl

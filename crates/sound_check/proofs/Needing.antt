@@ -1,59 +1,19 @@
 -- What the tests of rows say of needs.
-use Rattle.std.proofs.Common.{◌≡◌, inl, inr, ℕ, ◌+◌, ◌<◌, ◌^◌, min, Bool, true, false, not, ◌==◌, ◌&&◌, ◌||◌, List, [], ◌∷◌, map, reverse, refl, sym, ap, ◌∙◌, arith}
+use Rattle.std.proofs.Common.{◌≡◌, ◌≢◌, ◌↔◌, inl, inr, ℕ, ◌+◌, ◌<◌, ◌^◌, min, Bool, true, not, ◌==◌, ◌&&◌, List, refl, sym, subst, arith}
+use Rattle.std.specs.Prelude.{nat_lt}
 use Rattle.std.specs.List.{list_any}
-use Rattle.std.proofs.lemmas.List.Folds.{list_any-append}
-use Rattle.persist_model.specs.Records.{Record, Log}
-use Rattle.persist_model.specs.Order.{is_kind_of}
-use Rattle.persist_model.specs.Need.{is_of, has_of, has_kind_of}
-use Rattle.std.specs.Prelude.{◌≢◌, ◌↔◌, nat_lt}
-use Rattle.std.proofs.lemmas.Bool.Decides.{nat_tests}
 use Rattle.std.proofs.lemmas.Bool.{ltb-true}
-use Rattle.persist_model.specs.Records.{IsAmong, Has, IsSkipped}
+use Rattle.std.proofs.lemmas.Bool.Decides.{nat_tests}
+use Rattle.persist_model.specs.Records.{Record, Log, IsAmong, Has, IsSkipped}
+use Rattle.persist_model.specs.Order.{is_kind_of}
 use Rattle.persist_model.specs.Shape.{Shape, part_of}
 use Rattle.persist_model.specs.State.{HasOpen, HasNumbers, total_need}
 use Rattle.bucket_log.specs.declared.scanning.Placed.{Placed}
-use Rattle.bucket_log.specs.Scans.{record_of_placed}
-use Rattle.bucket_log.proofs.Scans.{reverse-cons}
-use Rattle.sound_check.specs.Rows.{log_of_rows, is_skipped_row, IsDrawn}
-use Rattle.sound_check.proofs.Asking.{any_has, both_true, equal_true, not_true, as_told}
-use Rattle.sound_check.proofs.Ordering.{has_as}
-
-or_comm : (s t : Bool) → (s || t) ≡ (t || s)
-or_comm true true = refl
-or_comm true false = refl
-or_comm false true = refl
-or_comm false false = refl
-
-or_none : (s : Bool) → (s || false) ≡ s
-or_none true = refl
-or_none false = refl
-
-any_reverse : (f : Record → Bool) (log : Log) → list_any f (reverse log) ≡ list_any f log
-any_reverse f [] = refl
-any_reverse f (r ∷ log) =
-    ap (list_any f) (reverse-cons r log) ∙ list_any-append f (reverse log) (r ∷ []) ∙ or_comm (list_any f (reverse log)) (f r || false) ∙ ap (λ t. t || list_any f (reverse log)) (or_none (f r))
-    ∙ ap (λ t. f r || t) (any_reverse f log)
-
-any_map : (f : Record → Bool) (rows : List Placed) → list_any (λ s. f (record_of_placed s)) rows ≡ list_any f (map record_of_placed rows)
-any_map f [] = refl
-any_map f (x ∷ rows) = ap (λ t. f (record_of_placed x) || t) (any_map f rows)
-
-any_log : (f : Record → Bool) (rows : List Placed) → list_any (λ s. f (record_of_placed s)) rows ≡ list_any f (log_of_rows rows)
-any_log f rows = any_map f rows ∙ sym (any_reverse f (map record_of_placed rows))
-
-kinds_any : (t kind : ℕ) (log : Log) → list_any (is_kind_of t kind) log ≡ has_kind_of t kind log
-kinds_any t kind [] = refl
-kinds_any t kind (r ∷ log) = ap (λ b. is_kind_of t kind r || b) (kinds_any t kind log)
-
-of_any : (t : ℕ) (log : Log) → list_any (is_of t) log ≡ has_of t log
-of_any t [] = refl
-of_any t (r ∷ log) = ap (λ b. is_of t r || b) (of_any t log)
-
-pub has_kind_is : (t kind : ℕ) (rows : List Placed) → list_any (λ (s : Placed). (s.cell.transaction == t) && (s.cell.kind == kind)) rows ≡ has_kind_of t kind (log_of_rows rows)
-has_kind_is t kind rows = any_log (is_kind_of t kind) rows ∙ kinds_any t kind (log_of_rows rows)
-
-pub has_of_is : (t : ℕ) (rows : List Placed) → list_any (λ (s : Placed). (s.cell.transaction == t) && not (s.cell.kind == 5)) rows ≡ has_of t (log_of_rows rows)
-has_of_is t rows = any_log (is_of t) rows ∙ of_any t (log_of_rows rows)
+use Rattle.sound_check.specs.declared.summaries.Summaries.{Summaries}
+use Rattle.sound_check.specs.Rows.{log_of_rows, has_checkpoint_behind, IsDrawn}
+use Rattle.sound_check.specs.Tables.{AreSummaries, has_end_below, is_end_below, summary_of}
+use Rattle.sound_check.proofs.Asking.{log_has, any_has, both_true, equal_true, not_true, as_told}
+use Rattle.sound_check.proofs.Ordering.{IsKindOf, kind_of_true, has_as}
 
 -- ---- sums that stand still at a greatest number
 
@@ -68,17 +28,21 @@ saturated_both most a b s n t e f g = omega (arith, e, f, g)
 pub less_true : (n m : ℕ) → (nat_lt n m ≡ true) ↔ (n < m)
 less_true n m = ((λ t. ltb-true n m t), (λ lt. grind (arith, nat_tests, lt)))
 
-skipped_tells : (rows : List Placed) (t : ℕ) → (is_skipped_row rows t ≡ true) ↔ IsSkipped (log_of_rows rows) t
-skipped_tells rows t = as_told (is_skipped_row rows t) _ (IsSkipped (log_of_rows rows) t)
-    (any_has (λ e. (e.transaction ≡ t) × ((e.kind ≡ 4) × Has (λ c. (c.kind ≡ 5) × (e.lsn < c.lsn)) (log_of_rows rows))) _ rows (is_skipped_row rows t) refl
-    (λ e. both_true _ _ _ _ (equal_true e.cell.transaction t) (both_true _ _ _ _ (equal_true e.cell.kind 4)
-    (any_has (λ c. (c.kind ≡ 5) × (e.cell.gate < c.lsn)) (λ (c : Placed). (c.cell.kind == 5) && nat_lt e.cell.gate c.cell.gate) rows _ refl
-    (λ c. both_true _ _ _ _ (equal_true c.cell.kind 5) (less_true e.cell.gate c.cell.gate))))))
-    (has_as _ _ (log_of_rows rows) (λ r p. ((p.1.0, p.0), p.1.1))) (has_as _ _ (log_of_rows rows) (λ r p. (p.0.1, (p.0.0, p.1))))
+checkpoint_tells : (log : Log) (n : ℕ) → (has_checkpoint_behind n log ≡ true) ↔ Has (λ c. (c.kind ≡ 5) × (n < c.lsn)) log
+checkpoint_tells log n = log_has (λ c. (c.kind ≡ 5) × (n < c.lsn)) (λ (c : Record). (c.kind == 5) && nat_lt n c.lsn) log _ refl (λ c. both_true _ _ _ _ (equal_true c.kind 5) (less_true n c.lsn))
 
-pub open_tells : (rows : List Placed) (t : Bool) → t ≡ list_any (λ (r : Placed). not (r.cell.kind == 5) && not (is_skipped_row rows r.cell.transaction)) rows → (t ≡ true) ↔ HasOpen (log_of_rows rows)
-open_tells rows t e = any_has (λ r. (r.kind ≢ 5) × (IsSkipped (log_of_rows rows) r.transaction → ⊥)) _ rows t e
-    (λ x. both_true _ _ _ _ (not_true _ _ (equal_true x.cell.kind 5)) (not_true _ _ (skipped_tells rows x.cell.transaction)))
+skipped_tells : (log : Log) (newest t : ℕ) → ((n : ℕ) → nat_lt n newest ≡ has_checkpoint_behind n log) → (has_end_below t newest log ≡ true) ↔ IsSkipped log t
+skipped_tells log newest t is =
+    as_told _ _ (IsSkipped log t) (log_has (λ e. IsKindOf t 4 e × Has (λ c. (c.kind ≡ 5) × (e.lsn < c.lsn)) log) (λ (e : Record). is_kind_of t 4 e && nat_lt e.lsn newest) log _ refl
+    (λ e. both_true _ _ _ _ (kind_of_true t 4 e) (subst (λ b. (b ≡ true) ↔ Has (λ c. (c.kind ≡ 5) × (e.lsn < c.lsn)) log) (sym (is e.lsn)) (checkpoint_tells log e.lsn))))
+    (has_as _ _ log (λ e p. ((p.0.1, p.0.0), p.1))) (has_as _ _ log (λ e p. ((p.0.1, p.0.0), p.1)))
+
+pub open_tells : (part : ℕ → ℕ) (rows : List Placed) (whole : Summaries) (newest : ℕ) (t : Bool) → AreSummaries part whole (log_of_rows rows) →
+    ((n : ℕ) → nat_lt n newest ≡ has_checkpoint_behind n (log_of_rows rows)) →
+    t ≡ list_any (λ (r : Placed). not (r.cell.kind == 5) && not (is_end_below (summary_of whole r.cell.transaction).first_end newest)) rows → (t ≡ true) ↔ HasOpen (log_of_rows rows)
+open_tells part rows whole newest t are is e = any_has (λ r. (r.kind ≢ 5) × (IsSkipped (log_of_rows rows) r.transaction → ⊥)) _ rows t e
+    (λ x. both_true _ _ _ _ (not_true _ _ (equal_true x.cell.kind 5)) (not_true _ _ (subst (λ b. (b ≡ true) ↔ IsSkipped (log_of_rows rows) x.cell.transaction)
+    (sym ((are x.cell.transaction).below newest)) (skipped_tells (log_of_rows rows) newest x.cell.transaction is))))
 
 -- ---- numbers
 

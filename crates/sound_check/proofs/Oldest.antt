@@ -1,7 +1,7 @@
 -- A loop over rows, from the oldest on.
-use Rattle.std.proofs.Common.{◌≡◌, ℕ, ◌+◌, ◌<◌, List, [], ◌∷◌, ◌++◌, length, map, reverse, get_or, take, drop, sym, ap, ◌∙◌, subst, append_assoc, add-one}
+use Rattle.std.proofs.Common.{◌≡◌, ℕ, ◌+◌, ◌<◌, List, [], ◌∷◌, ◌++◌, length, map, reverse, get_or, take, drop, sym, ap, ◌∙◌, subst, append_assoc, add-one, ◌≤◌, arith}
 use Rattle.std.proofs.Math.Seq.{split_at}
-use Rattle.std.proofs.lemmas.List.{map-append, reverse-append, take_more}
+use Rattle.std.proofs.lemmas.List.{map-append, reverse-append, take_more, length-reverse, length-map, length-take}
 use Rattle.persist_model.specs.Records.{Record, Log}
 use Rattle.persist_model.specs.Faults.{TriedOldest, NoFault}
 use Rattle.log_laws.proofs.Tries.{AllGood}
@@ -37,3 +37,8 @@ pub first_bad : (Good : Log → Record → Type 0) (n : ℕ) (rows : List Placed
 first_bad Good n rows i d lt h bad =
     subst (λ l. TriedOldest Good n l NoFault n (get_or rows i d).at) (sym (log_split rows i d lt))
     (oldest_here Good n (log_of_rows (drop (i + 1) rows)) (record_of_placed (get_or rows i d)) (log_of_rows (take i rows)) NoFault h bad)
+
+pub log_short : (i : ℕ) (rows : List Placed) → length (log_of_rows (take i rows)) ≤ i
+log_short i rows =
+    let reversed = length-reverse (map record_of_placed (take i rows)) in let mapped = length-map (take i rows) record_of_placed in let taken = length-take i rows in
+    omega (arith, reversed, mapped, taken)

@@ -1,5 +1,8 @@
 -- What a walk knows of its next step, behind the buckets that it visited.
-use Rattle.std.specs.Prelude.{◌≡◌, ◌⊎◌, ℕ, List}
+use Rattle.std.specs.Prelude.{◌≡◌, ◌⊎◌, ℕ, ◌==◌, List}
+use Rattle.std.specs.List.{list_any}
+use Rattle.std.specs.BTreeSet.{BTreeSet, contains}
+use Rattle.std.specs.Ordering.{nat_cmp}
 use Rattle.persist_model.specs.Region.{Words}
 use Rattle.persist_model.specs.Records.{IsAmong}
 use Rattle.persist_model.specs.Chain.{IsAbsent, last_or}
@@ -15,3 +18,7 @@ pub record GoesTo (bucket : ℕ → Type 0) (w : Words) (visited : List ℕ) (b 
   pub link : b ≡ link_behind w visited
   pub is_bucket : bucket b
   pub fresh : IsAbsent b visited
+
+-- these buckets are marked, and no others
+abbrev pub AreMarks : BTreeSet ℕ → List ℕ → Type 0
+AreMarks marks visited = (b : ℕ) → contains nat_cmp marks b ≡ list_any (λ x. x == b) visited

@@ -5,13 +5,17 @@ mod addresses;
 mod checking;
 mod fault;
 mod formed;
-mod history;
 mod lists;
 mod log_rules;
 mod log_words;
 mod numbers;
 mod order;
+mod parts;
+mod past;
 mod points;
+mod seen;
+mod summaries;
+mod transactions;
 mod walk;
 
 pub use checking::{SoundLog, check, read_sound};

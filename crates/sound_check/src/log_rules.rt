@@ -4,6 +4,8 @@ ghost use Rattle.persist_model.specs.State.{State, HasRoom};
 ghost use Rattle.persist_model.specs.Sound.{HasState};
 ghost use Rattle.region_layout.specs.Layout.{layout_shape};
 ghost use Rattle.log_partition.specs.Merging.{AreLogsOf};
+ghost use Rattle.persist_model.specs.Shape.{part_of};
+ghost use Rattle.sound_check.specs.Homes.{AreTransactions};
 ghost use Rattle.sound_check.specs.Faulty.{IfUnsound};
 ghost use Rattle.sound_check.specs.Rows.{log_of_rows};
 ghost use Rattle.sound_check.specs.Logs.{HasAllRoom, LacksRoom, HoldsLog, HasLogFault};
@@ -12,6 +14,7 @@ use crate::fault::CheckFault;
 use crate::formed::try_records;
 use crate::numbers::{has_room, keeps_numbers};
 use crate::order::try_order;
+use crate::transactions::{Transactions, read_transactions};
 use bucket_log::{Placed, room};
 use log_partition::PartView;
 use persist_model::Look;
@@ -36,13 +39,19 @@ fn room_of_part<W: Look>(words: &W, layout: Layout, p: u32) -> u64
 }
 
 // Tries the room of each partition.
-fn try_room<W: Look>(words: &W, layout: Layout, rows: &[Placed]) -> Result<(), ImageFault>
-    requires { AreLogsOf layout (length (W.words words.now)) (slice_index (W.words words.now)) }
+fn try_room<W: Look>(
+    words: &W,
+    layout: Layout,
+    all: &Transactions,
+    rows: &[Placed],
+) -> Result<(), ImageFault>
+    requires logs { AreLogsOf layout (length (W.words words.now)) (slice_index (W.words words.now)) }
+    requires all { AreTransactions (part_of (layout_shape layout)) all.now (log_of_rows rows.now) }
     ensures ok { OnOk result (HasAllRoom (layout_shape layout) (slice_index (W.words words.now)) (log_of_rows rows.now)) }
     ensures fault { IfErr result (λ found. LacksRoom (layout_shape layout) (slice_index (W.words words.now)) (log_of_rows rows.now) found.fault found.addr) }
 {
     for p in 0..layout.partitions {
-        if !has_room(layout, rows, p, room_of_part(words, layout, p)) {
+        if !has_room(layout, all, rows, p, room_of_part(words, layout, p)) {
             return Err(ImageFault {
                 fault: ROOM_FAULT,
                 addr: list_words(p) + 1,
@@ -64,9 +73,10 @@ pub(crate) fn try_log<W: Look>(
     ensures fault { IfErr result (λ e. IfUnsound e (HasLogFault (layout_shape layout) (slice_index (W.words words.now)) (log_of_rows rows.now))) }
 {
     try_records(layout, rows)?;
-    try_order(alloc, layout, rows)?;
-    try_room(words, layout, rows)?;
-    if !keeps_numbers(layout, rows) {
+    let all = read_transactions(alloc, layout, rows)?;
+    try_order(alloc, layout, &all.summaries, rows)?;
+    try_room(words, layout, &all, rows)?;
+    if !keeps_numbers(layout, &all, rows) {
         return Err(CheckFault::Unsound(ImageFault {
             fault: ROOM_FAULT,
             addr: NUMBERS_ADDRESS,

@@ -1,18 +1,23 @@
 //! The order rule.
-ghost use Rattle.std.specs.Prelude.{◌≡◌, ◌↔◌, ◌==◌, ◌&&◌, ◌||◌, not, map, IsTrue, IfOk, OnOk, IfErr};
-ghost use Rattle.std.specs.List.{list_any, zip};
-ghost use Rattle.persist_model.specs.Order.{UndoesWell, Follows, IsInOrder, undo_point as undo_point_of, last_new as last_new_of};
+ghost use Rattle.std.specs.Prelude.{◌≡◌, ◌≢◌, ◌↔◌, ◌==◌, ◌&&◌, ◌||◌, ℕ, not, Bool, is_some, IsTrue, OnOk, IfErr};
+ghost use Rattle.std.specs.List.{list_any};
+ghost use Rattle.persist_model.specs.Records.{Record, Log, Has, IsOf, IsEnded, NamesWord};
+ghost use Rattle.persist_model.specs.Order.{UndoesWell, Follows, IsInOrder};
 ghost use Rattle.persist_model.specs.Shape.{part_of as part_of_shape};
 ghost use Rattle.persist_model.specs.Faults.{TriedOldest, NoFault};
 ghost use Rattle.bucket_log.specs.Scans.{record_of_placed};
 ghost use Rattle.region_layout.specs.Layout.{layout_shape};
-ghost use Rattle.sound_check.specs.Rows.{log_of_rows, is_barring_row};
+ghost use Rattle.sound_check.specs.Rows.{log_of_rows};
 ghost use Rattle.sound_check.specs.Faulty.{IfUnsound};
+ghost use Rattle.sound_check.specs.Tables.{IsSummary, AreSummaries, has_outside};
+ghost use Rattle.sound_check.specs.Passed.{IsPast};
+ghost use Rattle.sound_check.specs.Barring.{names_word as names_word_of, is_barring as is_barring_of, compensates as compensates_it, IsClaim};
 
 use crate::fault::CheckFault;
-use crate::history::{has_commit, has_end, has_number, has_rollback, last_new, undo_point};
+use crate::parts::part_of;
+use crate::past::Past;
+use crate::summaries::{Summaries, Summary};
 use bucket_log::Placed;
-use persist_model::NoMemory;
 use persist_model::format::{CHECKPOINT, COMPENSATION, DELETION, ROLLBACK, UPDATE};
 use region_layout::{ImageFault, Layout};
 use std::alloc::Global;
@@ -20,160 +25,156 @@ use std::alloc::Global;
 /// The number of the rule on the order of records.
 const ORDER_FAULT: u32 = 8;
 
-/// The partition in which the cell at this address stands.
-pub(crate) fn part_of(layout: Layout, at: u32) -> u32
-    ensures { result ≡ part_of_shape (layout_shape layout) at }
+// Whether a record names a word.
+fn names_word(s: &Placed) -> bool
+    ensures { result ≡ names_word_of (record_of_placed s.now) }
 {
-    let bucket = at.saturating_sub(32) / (8 + 8 * layout.cells);
-    let part = bucket / (layout.buckets / layout.partitions);
-    part.min(layout.partitions - 1)
+    s.cell.kind == UPDATE || s.cell.kind == COMPENSATION || s.cell.kind == DELETION
 }
 
-// Whether a record of this kind names a word.
-fn names_word(kind: u64) -> bool
-    ensures { result ≡ ((kind == 1) || ((kind == 2) || (kind == 6))) }
+// Whether a record bars other transactions from its word, by what the records of its own come to.
+fn bars(own: Summary, s: &Placed) -> bool
+    ensures { result ≡ ((names_word_of (record_of_placed s.now) && not (is_some own.first_end)) || ((s.now.cell.kind == 6) && own.has_commit)) }
 {
-    kind == UPDATE || kind == COMPENSATION || kind == DELETION
+    let running = names_word(s) && own.first_end.is_none();
+    running || (s.cell.kind == DELETION && own.has_commit)
 }
 
 // Whether a record bars other transactions from its word.
-fn is_barring(rows: &[Placed], s: &Placed) -> bool
-    ensures { result ≡ is_barring_row rows.now s.now }
+fn is_barring(whole: &Summaries, s: &Placed) -> bool
+    ensures { (part : ℕ → ℕ) (log : Log) → AreSummaries part whole.now log → result ≡ is_barring_of log (record_of_placed s.now) }
 {
-    let running = names_word(s.cell.kind) && !has_end(rows, s.cell.transaction);
-    running || (s.cell.kind == DELETION && has_commit(rows, s.cell.transaction))
+    bars(whole.of(s.cell.transaction), s)
 }
 
-// Of each record whether it bars others.
-fn barring_rows(alloc: Global, rows: &[Placed]) -> Result<Vec<bool>, NoMemory>
-    ensures { IfOk result (λ marks. marks.items ≡ map (is_barring_row rows.now) rows.now) }
+// Whether a record that was passed has this number.
+fn has_number(past: &Past, number: u64) -> bool
+    ensures { (part : ℕ → ℕ) (marks : Record → Bool) (earlier : Log) → IsPast part marks past.now earlier
+        → IsTrue result ↔ Has (λ s. s.lsn ≡ number) earlier }
 {
-    let marks = rows.iter().map(|s| is_barring(rows, s)).collect(alloc)?;
-    Ok(marks)
+    past.numbered(number).is_some()
 }
 
-// Whether an earlier record of another transaction bars others from r's word.
-fn is_claimed(earlier: &[Placed], marks: &[bool], r: &Placed) -> bool
-    ensures { result ≡ list_any (λ x. x.1 && ((x.0.cell.address == r.now.cell.address) && not (x.0.cell.transaction == r.now.cell.transaction))) (zip earlier.now marks.now) }
+// Whether r names a word from which a record that was passed bars it.
+fn is_barred(past: &Past, r: &Placed) -> bool
+    ensures { (part : ℕ → ℕ) (log earlier : Log) → IsPast part (is_barring_of log) past.now earlier
+        → IsTrue result ↔ (NamesWord (record_of_placed r.now) × Has (IsClaim log (record_of_placed r.now)) earlier) }
 {
-    earlier.iter().zip(marks.iter()).any(|(s, bars)| {
-        *bars && s.cell.address == r.cell.address && s.cell.transaction != r.cell.transaction
-    })
-}
-
-// Whether r names a word from which an earlier record bars it.
-fn is_barred(earlier: &[Placed], marks: &[bool], r: &Placed) -> bool
-    ensures { result ≡ (((r.now.cell.kind == 1) || ((r.now.cell.kind == 2) || (r.now.cell.kind == 6)))
-        && list_any (λ x. x.1 && ((x.0.cell.address == r.now.cell.address) && not (x.0.cell.transaction == r.now.cell.transaction))) (zip earlier.now marks.now)) }
-{
-    let named = names_word(r.cell.kind);
-    let claimed = is_claimed(earlier, marks, r);
+    let named = names_word(r);
+    let claimed = past.is_claimed(r.cell.address, r.cell.transaction);
     named && claimed
 }
 
-// Whether an earlier record of r's transaction stands in another partition.
-fn is_scattered(layout: Layout, earlier: &[Placed], r: &Placed) -> bool
-    ensures { result ≡ list_any (λ s. (s.cell.transaction == r.now.cell.transaction) && (not (s.cell.kind == 5)
-        && not (part_of_shape (layout_shape layout) s.at == part_of_shape (layout_shape layout) r.now.at))) earlier.now }
+// Whether a record of r's transaction stands in another partition.
+fn is_scattered(layout: Layout, own: Summary, r: &Placed) -> bool
+    ensures { (earlier : Log) → IsSummary (part_of_shape (layout_shape layout)) own r.now.cell.transaction earlier
+        → IsTrue result ↔ Has (λ s. IsOf r.now.cell.transaction s × (part_of_shape (layout_shape layout) s.at ≢ part_of_shape (layout_shape layout) r.now.at)) earlier }
 {
-    let here = part_of(layout, r.at);
-    earlier.iter().any(|s| {
-        s.cell.transaction == r.cell.transaction
-            && s.cell.kind != CHECKPOINT
-            && part_of(layout, s.at) != here
-    })
+    own.parts.has_other(u64::from(part_of(layout, r.at)))
 }
 
-// Whether the update with this number is an earlier one of r's transaction, and r has the fields of its compensation.
-fn is_compensated(earlier: &[Placed], r: &Placed, point: u64) -> bool
-    ensures { result ≡ list_any (λ u. ((u.cell.kind == 1) && ((u.cell.transaction == r.now.cell.transaction) && (u.cell.gate == point)))
-        && ((r.now.cell.address == u.cell.address) && ((r.now.cell.before == u.cell.after) && ((r.now.cell.after == u.cell.before) && (r.now.cell.undo_next == u.cell.undo_next))))) earlier.now }
+// Whether a transaction has an end.
+fn has_end(own: Summary) -> bool
+    ensures { (part : ℕ → ℕ) (t : ℕ) (log : Log) → IsSummary part own t log → IsTrue result ↔ IsEnded log t }
 {
-    earlier.iter().any(|u| {
-        u.cell.kind == UPDATE
-            && u.cell.transaction == r.cell.transaction
-            && u.cell.gate == point
-            && r.cell.address == u.cell.address
-            && r.cell.before == u.cell.after
-            && r.cell.after == u.cell.before
-            && r.cell.undo_next == u.cell.undo_next
-    })
+    own.first_end.is_some()
+}
+
+// Whether u is an update of r's transaction, and r has the fields of its compensation.
+fn compensates(r: &Placed, u: &Placed) -> bool
+    ensures { result ≡ compensates_it (record_of_placed r.now) (record_of_placed u.now) }
+{
+    u.cell.transaction == r.cell.transaction
+        && u.cell.kind == UPDATE
+        && r.cell.address == u.cell.address
+        && r.cell.before == u.cell.after
+        && r.cell.after == u.cell.before
+        && r.cell.undo_next == u.cell.undo_next
+}
+
+// Whether r has the fields of the compensation of the record with this number, which is an update of its transaction.
+fn compensates_at(past: &Past, r: &Placed, number: u64) -> bool
+    ensures { (part : ℕ → ℕ) (marks : Record → Bool) (earlier : Log) → IsPast part marks past.now earlier
+        → result ≡ list_any (λ u. (u.lsn == number) && compensates_it (record_of_placed r.now) u) earlier }
+{
+    match past.numbered(number) {
+        Some(u) => compensates(r, &u),
+        None => false,
+    }
 }
 
 // Whether r, an update, stands behind no rollback record, and names the undo point and what its transaction last wrote.
-fn updates_well(earlier: &[Placed], r: &Placed) -> bool
-    ensures { result ≡ (not (list_any (λ s. (s.cell.transaction == r.now.cell.transaction) && (s.cell.kind == 3)) earlier.now)
-        && ((r.now.cell.undo_next == undo_point_of r.now.cell.transaction (log_of_rows earlier.now))
-        && (r.now.cell.before == last_new_of r.now.cell.transaction r.now.cell.address r.now.cell.before (log_of_rows earlier.now)))) }
+fn updates_well(own: Summary, r: &Placed, last: u64) -> bool
+    ensures { result ≡ (not own.has_rollback && ((r.now.cell.undo_next == own.undo_point) && (r.now.cell.before == last))) }
 {
-    let cell = r.cell;
-    !has_rollback(earlier, cell.transaction)
-        && cell.undo_next == undo_point(earlier, cell.transaction)
-        && cell.before == last_new(earlier, cell.transaction, cell.address, cell.before)
+    !own.has_rollback && r.cell.undo_next == own.undo_point && r.cell.before == last
 }
 
-// Whether r, of a running transaction, undoes and is undone as the records before it want.
-fn undoes_well(earlier: &[Placed], r: &Placed) -> bool
-    ensures { IsTrue result ↔ UndoesWell (log_of_rows earlier.now) (record_of_placed r.now) }
+// Whether r, of a running transaction, undoes and is undone as the records that were passed want.
+fn undoes_well(past: &Past, own: Summary, r: &Placed) -> bool
+    ensures { (part : ℕ → ℕ) (marks : Record → Bool) (earlier : Log) → IsPast part marks past.now earlier → IsSummary part own r.now.cell.transaction earlier
+        → IsTrue result ↔ UndoesWell earlier (record_of_placed r.now) }
 {
     match r.cell.kind {
-        UPDATE => updates_well(earlier, r),
-        DELETION | ROLLBACK => !has_rollback(earlier, r.cell.transaction),
-        COMPENSATION => is_compensated(earlier, r, undo_point(earlier, r.cell.transaction)),
+        UPDATE => {
+            let last = past.last_new(r.cell.transaction, r.cell.address, r.cell.before);
+            updates_well(own, r, last)
+        }
+        DELETION | ROLLBACK => !own.has_rollback,
+        COMPENSATION => compensates_at(past, r, own.undo_point),
         _ => true,
     }
 }
 
-// Whether the order rule holds of r, by the records before it, of which marks says whether they bar others.
-fn follows(layout: Layout, rows: &[Placed], earlier: &[Placed], marks: &[bool], r: &Placed) -> bool
-    requires { marks.now ≡ map (is_barring_row rows.now) earlier.now }
-    ensures { IsTrue result ↔ Follows (part_of_shape (layout_shape layout)) (log_of_rows rows.now) (log_of_rows earlier.now) (record_of_placed r.now) }
+// Whether the order rule holds of r, by the records that were passed and by those of the whole log.
+fn follows(layout: Layout, whole: &Summaries, past: &Past, r: &Placed) -> bool
+    ensures { (log earlier : Log) → AreSummaries (part_of_shape (layout_shape layout)) whole.now log
+        → IsPast (part_of_shape (layout_shape layout)) (is_barring_of log) past.now earlier
+        → IsTrue result ↔ Follows (part_of_shape (layout_shape layout)) log earlier (record_of_placed r.now) }
 {
-    if has_number(earlier, r.cell.gate) {
+    if has_number(past, r.cell.gate) {
         return false;
     }
     if r.cell.kind == CHECKPOINT {
         return true;
     }
-    if is_scattered(layout, earlier, r) {
+    let own = past.of(r.cell.transaction);
+    if is_scattered(layout, own, r) {
         return false;
     }
-    if has_end(earlier, r.cell.transaction) {
+    if has_end(own) {
         return false;
     }
-    if is_barred(earlier, marks, r) {
+    if is_barred(past, r) {
         return false;
     }
-    if has_end(rows, r.cell.transaction) {
+    if has_end(whole.of(r.cell.transaction)) {
         return true;
     }
-    undoes_well(earlier, r)
+    undoes_well(past, own, r)
 }
 
-// Tries the order rule, the oldest record first.
-fn try_each(layout: Layout, rows: &[Placed], marks: &[bool]) -> Result<(), ImageFault>
-    requires { marks.now ≡ map (is_barring_row rows.now) rows.now }
-    ensures ok { OnOk result (IsInOrder (part_of_shape (layout_shape layout)) (log_of_rows rows.now)) }
-    ensures fault { IfErr result (λ found. TriedOldest (Follows (part_of_shape (layout_shape layout)) (log_of_rows rows.now)) 8 (log_of_rows rows.now) NoFault found.fault found.addr) }
-{
-    for i in 0..rows.len() {
-        let r = rows[i];
-        if !follows(layout, rows, &rows[..i], &marks[..i], &r) {
-            return Err(ImageFault {
-                fault: ORDER_FAULT,
-                addr: r.at,
-            });
-        }
-    }
-    Ok(())
-}
-
-/// Tries the order rule, the oldest record first.
-pub(crate) fn try_order(alloc: Global, layout: Layout, rows: &[Placed]) -> Result<(), CheckFault>
+/// Tries the order rule, the oldest record first, by what the records of the whole log come to.
+pub(crate) fn try_order(
+    alloc: Global,
+    layout: Layout,
+    whole: &Summaries,
+    rows: &[Placed],
+) -> Result<(), CheckFault>
+    requires { AreSummaries (part_of_shape (layout_shape layout)) whole.now (log_of_rows rows.now) }
     ensures ok { OnOk result (IsInOrder (part_of_shape (layout_shape layout)) (log_of_rows rows.now)) }
     ensures fault { IfErr result (λ e. IfUnsound e (TriedOldest (Follows (part_of_shape (layout_shape layout)) (log_of_rows rows.now)) 8 (log_of_rows rows.now) NoFault)) }
 {
-    let marks = barring_rows(alloc, rows)?;
-    try_each(layout, rows, marks.as_slice())?;
+    let mut past = Past::new(alloc);
+    for i in 0..rows.len() {
+        let r = rows[i];
+        if !follows(layout, whole, &past, &r) {
+            return Err(CheckFault::Unsound(ImageFault {
+                fault: ORDER_FAULT,
+                addr: r.at,
+            }));
+        }
+        past.add(layout, &r, is_barring(whole, &r))?;
+    }
     Ok(())
 }

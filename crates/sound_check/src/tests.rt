@@ -1,5 +1,5 @@
 //! One small image for each rule: what `check` answers.
-ghost use Rattle.std.specs.Prelude.{◌<◌, ◌^◌, length};
+ghost use Rattle.std.specs.Prelude.{◌<◌, ◌≤◌, ◌^◌, length};
 
 use crate::{CheckFault, check};
 use persist_model::Look;
@@ -76,20 +76,25 @@ fn value_at(a: u32, words: Words, other: u64) -> u64 {
     value
 }
 
-// What is answered for this many words, with some of them changed: the number of the rule and its address, or twice 0.
+// What is answered for these words: the number of the rule and its address, or twice 0.
+fn verdict_of(alloc: Global, words: Vec<u64>) -> Result<(u32, u32), Fail> {
+    if words.len() >= 4_294_967_296 {
+        return Err("large".into());
+    }
+    match check(alloc, &Row { words }) {
+        Ok(_) => Ok((0, 0)),
+        Err(CheckFault::Unsound(found)) => Ok((found.fault, found.addr)),
+        Err(CheckFault::NoMemory) => Err("memory".into()),
+    }
+}
+
+// What is answered for this many words, with some of them changed.
 fn verdict(alloc: Global, size: u32, words: Words, changes: Words) -> Result<(u32, u32), Fail> {
     let mut all = Vec::new(alloc);
     for a in 0..size {
         all.push(value_at(a, changes, value_at(a, words, 0)))?;
     }
-    if all.len() >= 4_294_967_296 {
-        return Err("large".into());
-    }
-    match check(alloc, &Row { words: all }) {
-        Ok(_) => Ok((0, 0)),
-        Err(CheckFault::Unsound(found)) => Ok((found.fault, found.addr)),
-        Err(CheckFault::NoMemory) => Err("memory".into()),
-    }
+    verdict_of(alloc, all)
 }
 
 // Of one update.
@@ -208,5 +213,179 @@ fn room_and_numbers_are_tried_last(rt: HostRuntime) -> Result<(), Fail> {
     assert!(rt; first(alloc, &[(40, (1 << 63) - 2)])? == (9, 9));
     assert!(rt; second(alloc, &[(104, (1 << 63) - 4)])? == (0, 0));
     assert!(rt; second(alloc, &[(104, (1 << 63) - 3)])? == (9, 9));
+    Ok(())
+}
+
+/// A record: number, transaction, kind, address, old and new value, what is to be undone next, and the outcome.
+type Line = [u64; 8];
+
+// An update.
+const fn update(number: u64, transaction: u64, a: u64, old: u64, new: u64, next: u64) -> Line {
+    [number, transaction, 1, a, old, new, next, 0]
+}
+
+// A compensation.
+const fn undo(number: u64, transaction: u64, a: u64, old: u64, new: u64, next: u64) -> Line {
+    [number, transaction, 2, a, old, new, next, 0]
+}
+
+const fn rollback(number: u64, transaction: u64) -> Line {
+    [number, transaction, 3, 0, 0, 0, 0, 0]
+}
+
+const fn end(number: u64, transaction: u64, outcome: u64) -> Line {
+    [number, transaction, 4, 0, 0, 0, 0, outcome]
+}
+
+const fn checkpoint(number: u64) -> Line {
+    [number, 0, 5, 0, 0, 0, 0, 0]
+}
+
+const fn deletion(number: u64, transaction: u64, a: u64) -> Line {
+    [number, transaction, 6, a, 0, 0, 0, 0]
+}
+
+// The header and the list words where so many of eight buckets are in the list, from the first on.
+fn header_word(a: u32, policy: u64, count: u64) -> u64
+    requires { count ≤ 8 }
+{
+    match a {
+        0 => 0x5257_4e44_0000_0001,
+        1 => policy,
+        2 | 5 => 1,
+        3 => 8,
+        4 => 16,
+        8 if count > 0 => 32,
+        9 if count > 0 => 16 + 16 * count,
+        _ => 0,
+    }
+}
+
+// A word of the bucket with this number, which has the record of this number.
+fn bucket_word(i: usize, offset: usize, lines: &[Line]) -> u64
+    requires { i < 8 }
+{
+    if i >= lines.len() {
+        return 0;
+    }
+    match offset {
+        0 if i + 1 < lines.len() => 48 + 16 * i as u64,
+        1 if i > 0 => 16 + 16 * i as u64,
+        8..=15 => lines[i][offset - 8],
+        _ => 0,
+    }
+}
+
+// What is answered for eight buckets of one cell, with these records: the heap stands at 160.
+fn logged(alloc: Global, policy: u64, lines: &[Line]) -> Result<(u32, u32), Fail>
+    requires { length lines.now ≤ 8 }
+{
+    let mut all = Vec::new(alloc);
+    for a in 0..32 {
+        all.push(header_word(a, policy, lines.len() as u64))?;
+    }
+    for i in 0..8 {
+        for offset in 0..16 {
+            all.push(bucket_word(i, offset, lines))?;
+        }
+    }
+    for _ in 0..256 {
+        all.push(0)?;
+    }
+    verdict_of(alloc, all)
+}
+
+#[test]
+fn updates_are_tried_by_those_before(rt: HostRuntime) -> Result<(), Fail> {
+    let alloc = rt.alloc();
+    let one = update(1, 1, 161, 0, 5, 0);
+    assert!(rt; logged(alloc, 1, &[one, update(2, 1, 161, 5, 7, 1)])? == (0, 0));
+    // Another number to be undone next, and another old value than the last new one.
+    assert!(rt; logged(alloc, 1, &[one, update(2, 1, 161, 5, 7, 0)])? == (8, 56));
+    assert!(rt; logged(alloc, 1, &[one, update(2, 1, 161, 4, 7, 1)])? == (8, 56));
+    // Behind a rollback record, and behind the end.
+    assert!(rt; logged(alloc, 1, &[one, rollback(2, 1), update(3, 1, 162, 0, 6, 1)])? == (8, 72));
+    assert!(rt; logged(alloc, 1, &[one, end(2, 1, 1), update(3, 1, 162, 0, 6, 1)])? == (8, 72));
+    Ok(())
+}
+
+#[test]
+fn compensations_name_the_undo_point(rt: HostRuntime) -> Result<(), Fail> {
+    let alloc = rt.alloc();
+    let one = update(1, 1, 161, 0, 5, 0);
+    let two = update(2, 1, 162, 0, 6, 1);
+    let back = rollback(3, 1);
+    let last = undo(4, 1, 162, 6, 0, 1);
+    assert!(rt; logged(alloc, 1, &[one, two, back, last])? == (0, 0));
+    assert!(rt; logged(alloc, 1, &[one, two, back, last, undo(5, 1, 161, 5, 0, 0)])? == (0, 0));
+    // The first update before the second one, the second one once more, and one more than there are.
+    assert!(rt; logged(alloc, 1, &[one, two, back, undo(4, 1, 161, 5, 0, 0)])? == (8, 88));
+    assert!(rt; logged(alloc, 1, &[one, two, back, last, undo(5, 1, 162, 6, 0, 1)])? == (8, 104));
+    assert!(rt;
+        logged(
+            alloc,
+            1,
+            &[
+                one,
+                back,
+                undo(4, 1, 161, 5, 0, 0),
+                undo(5, 1, 161, 5, 0, 0)
+            ]
+        )? == (8, 88)
+    );
+    Ok(())
+}
+
+#[test]
+fn words_of_others_are_barred(rt: HostRuntime) -> Result<(), Fail> {
+    let alloc = rt.alloc();
+    let one = update(1, 1, 161, 0, 5, 0);
+    let other = update(3, 2, 161, 5, 6, 0);
+    assert!(rt; logged(alloc, 1, &[one, other])? == (8, 56));
+    assert!(rt; logged(alloc, 1, &[one, end(2, 1, 1), other])? == (0, 0));
+    // What a committed transaction gives back stays barred.
+    let gone = deletion(1, 1, 176);
+    let new = update(3, 2, 176, 0, 1, 0);
+    assert!(rt; logged(alloc, 1, &[gone, end(2, 1, 1), new])? == (8, 72));
+    assert!(rt; logged(alloc, 1, &[gone, end(2, 1, 2), new])? == (0, 0));
+    Ok(())
+}
+
+#[test]
+fn needs_are_counted_once(rt: HostRuntime) -> Result<(), Fail> {
+    let alloc = rt.alloc();
+    let one = update(1, 1, 161, 0, 5, 0);
+    let two = update(2, 1, 162, 0, 5, 1);
+    let three = update(3, 1, 163, 0, 5, 2);
+    // Three updates need five cells, and there are five; four need six, and there are four.
+    assert!(rt; logged(alloc, 1, &[one, two, three])? == (0, 0));
+    assert!(rt; logged(alloc, 1, &[one, two, three, update(4, 1, 164, 0, 5, 3)])? == (9, 9));
+    Ok(())
+}
+
+#[test]
+fn skipped_transactions_need_no_checkpoint(rt: HostRuntime) -> Result<(), Fail> {
+    let alloc = rt.alloc();
+    let old = [update(1, 1, 161, 0, 5, 0), end(2, 1, 1)];
+    let new = [update(5, 2, 162, 0, 5, 0), end(6, 2, 1)];
+    let newer = [update(7, 3, 163, 0, 5, 0), end(8, 3, 1)];
+    let marks = [checkpoint(9), checkpoint(10)];
+    let all = [
+        old[0], old[1], new[0], new[1], newer[0], newer[1], marks[0], marks[1],
+    ];
+    assert!(rt; logged(alloc, 2, &all)? == (0, 0));
+    // The checkpoint records stand before the newest end.
+    let early = [
+        old[0],
+        old[1],
+        checkpoint(3),
+        checkpoint(4),
+        new[0],
+        new[1],
+        newer[0],
+        newer[1],
+    ];
+    assert!(rt; logged(alloc, 2, &early)? == (9, 9));
+    assert!(rt; logged(alloc, 1, &early)? == (0, 0));
     Ok(())
 }

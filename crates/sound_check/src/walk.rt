@@ -1,11 +1,11 @@
 //! What the walk visits in any words, and the chain that follows from it.
-ghost use Rattle.std.specs.Prelude.{◌≡◌, ◌≢◌, ◌↔◌, ◌+◌, ◌*◌, ◌<◌, ◌≤◌, ◌^◌, ◌++◌, ◌∷◌, [], IsTrue, IfOk, OnOk, MatchOption, length, slice_index};
+ghost use Rattle.std.specs.Prelude.{◌≡◌, ◌≢◌, ◌↔◌, ◌+◌, ◌*◌, ◌<◌, ◌≤◌, ◌^◌, ◌++◌, ◌∷◌, [], ℕ, List, IsTrue, IfOk, OnOk, MatchOption, length, slice_index};
 ghost use Rattle.persist_model.specs.Shape.{heap, IsBucketOf};
 ghost use Rattle.persist_model.specs.Records.{IsAmong};
 ghost use Rattle.persist_model.specs.Chain.{AreBuckets, IsLink, last_or as last_of, TO_APPEND as APPENDED, without as without_it};
 ghost use Rattle.persist_model.specs.Visit.{IsCutAt, IsVisit, chain_from};
 ghost use Rattle.region_layout.specs.Layout.{layout_shape};
-ghost use Rattle.sound_check.specs.Walks.{HasStopped, GoesTo};
+ghost use Rattle.sound_check.specs.Walks.{HasStopped, GoesTo, AreMarks};
 
 use persist_model::format::{
     BUCKET_HEADER_WORDS, CELL_WORDS, HEAD, HEADER_WORDS, LAST_TAIL, TO_APPEND, TO_REMOVE,
@@ -13,6 +13,10 @@ use persist_model::format::{
 use persist_model::{Look, NoMemory};
 use region_layout::Layout;
 use std::alloc::{AllocError, Global};
+use std::collections::BTreeSet;
+
+// The buckets that a walk visited, as they are asked for.
+type Marks = BTreeSet<u64>;
 
 /// Whether this is the address of one of the partition's buckets.
 pub(crate) fn is_bucket(layout: Layout, p: u32, word: u64) -> bool
@@ -79,11 +83,33 @@ fn push(buckets: &mut Vec<u32>, b: u32) -> Result<(), NoMemory>
     }
 }
 
+// Whether a bucket is marked.
+fn is_marked(marks: &Marks, b: u64) -> bool
+    ensures { (visited : List ℕ) → AreMarks marks.now visited → IsTrue result ↔ IsAmong visited b }
+{
+    marks.contains(&b)
+}
+
+// Marks a bucket.
+fn mark(marks: &mut Marks, b: u32) -> Result<(), AllocError>
+    ensures { OnOk result ((visited : List ℕ) → AreMarks marks.old visited → AreMarks marks.new (visited ++ b ∷ [])) }
+{
+    marks.insert(u64::from(b))?;
+    Ok(())
+}
+
 // The bucket to which the walk goes on behind those that it visited, or none where it stops.
-fn next_visit<W: Look>(words: &W, layout: Layout, p: u32, visited: &[u32]) -> Option<u32>
+fn next_visit<W: Look>(
+    words: &W,
+    layout: Layout,
+    p: u32,
+    visited: &[u32],
+    marks: &Marks,
+) -> Option<u32>
     requires part { p < layout.partitions }
     requires long { heap (layout_shape layout) ≤ length (W.words words.now) }
     requires buckets { AreBuckets (IsBucketOf (layout_shape layout) p) visited.now }
+    requires marks { AreMarks marks.now visited.now }
     ensures { MatchOption result
         (HasStopped (IsBucketOf (layout_shape layout) p) (slice_index (W.words words.now)) visited.now)
         (λ b. GoesTo (IsBucketOf (layout_shape layout) p) (slice_index (W.words words.now)) visited.now b) }
@@ -92,7 +118,7 @@ fn next_visit<W: Look>(words: &W, layout: Layout, p: u32, visited: &[u32]) -> Op
         return None;
     }
     let link = words.word(last_or(visited, HEAD));
-    if !is_bucket(layout, p, link) || is_among(visited, link) {
+    if !is_bucket(layout, p, link) || is_marked(marks, link) {
         return None;
     }
     Some(link as u32)
@@ -110,8 +136,10 @@ pub(crate) fn visit<W: Look>(
     ensures { IfOk result (λ visited. IsVisit (IsBucketOf (layout_shape layout) p) (slice_index (W.words words.now)) visited.items) }
 {
     let mut visited = Vec::new(alloc);
-    while let Some(b) = next_visit(words, layout, p, visited.as_slice()) {
+    let mut marks = BTreeSet::new(alloc);
+    while let Some(b) = next_visit(words, layout, p, visited.as_slice(), &marks) {
         push(&mut visited, b)?;
+        mark(&mut marks, b)?;
     }
     Ok(visited)
 }

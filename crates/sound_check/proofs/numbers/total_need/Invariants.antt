@@ -1,9 +1,8 @@
-use Rattle.std.proofs.Common.{◌≡◌, ◌-◌, ◌^◌, min}
-use Rattle.persist_model.specs.Shape.{part_of}
+use Rattle.std.proofs.Common.{◌≡◌, ◌-◌, ◌^◌, ℕ, min}
+use Rattle.persist_model.specs.Records.{Log}
 use Rattle.persist_model.specs.State.{total_need}
-use Rattle.region_layout.specs.Layout.{layout_shape}
-use Rattle.sound_check.specs.Rows.{log_of_rows}
+use Rattle.sound_check.specs.Homes.{AreTransactions}
 use Rattle.sound_check.proofs.numbers.total_need.Given as goal
 
 abbrev pub invariant-loop-p : goal.invariant-loop-p
-invariant-loop-p l = l.sum ≡ min (total_need (part_of (layout_shape l.layout)) l.p (log_of_rows l.rows)) (2 ^ 64 - 1)
+invariant-loop-p l = (part : ℕ → ℕ) (log : Log) → AreTransactions part l.all log → l.sum ≡ min (total_need part l.p log) (2 ^ 64 - 1)

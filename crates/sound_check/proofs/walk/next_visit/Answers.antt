@@ -14,5 +14,5 @@ returns g c = record {
   uncut = λ h. (let e = c.is_cut.ensures.1 (subst (IsCutAt (slice_index (g.W.Look.words c.args.words.now))) (sym c.last_or.ensures) h) in cc);
   link = c.word-link.ensures ∙ ap (slice_index (g.W.Look.words c.args.words.now)) c.last_or-2.ensures;
   is_bucket = c.if-not-is_bucket.ensures.0 refl;
-  fresh = absent_of c.args.visited.now c.word-link.result (λ m. let e = c.is_among.ensures.1 m in cc);
+  fresh = absent_of c.args.visited.now c.word-link.result (λ m. let e = (c.is_marked.ensures c.args.visited.now c.requires.marks).1 m in cc);
 }
