@@ -1,6 +1,7 @@
 pub mod PartNumbers
 mod Examples
 mod FirstAppend
+pub mod Passing
 pub mod Appending
 pub mod Records
 pub mod UndoneEnds
