@@ -2,6 +2,8 @@ pub mod PartNumbers
 mod Examples
 mod FirstAppend
 pub mod Passing
+pub mod PassingOrder
+pub mod PassingStands
 pub mod Appending
 pub mod Records
 pub mod UndoneEnds
