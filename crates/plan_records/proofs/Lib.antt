@@ -4,6 +4,8 @@ mod FirstAppend
 pub mod Passing
 pub mod PassingOrder
 pub mod PassingStands
+pub mod PassingNeeds
+pub mod PassingLaw
 pub mod Appending
 pub mod Records
 pub mod UndoneEnds
