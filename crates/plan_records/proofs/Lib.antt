@@ -1,6 +1,7 @@
 pub mod PartNumbers
 mod Examples
 mod FirstAppend
+mod SecondAppend
 pub mod Passing
 pub mod PassingOrder
 pub mod PassingStands
