@@ -1,7 +1,7 @@
 -- A log into whose middle a record comes: its records, and what is computed from it.
-use Rattle.std.proofs.Common.{◌≡◌, ◌≢◌, ◌⊎◌, ◌↔◌, inl, inr, ℕ, suc, ◌<◌, ◌≤◌, Bool, true, false, nat_lt, [], ◌∷◌, refl, sym, ap, ◌∙◌, subst, arith}
+use Rattle.std.proofs.Common.{◌≡◌, ◌≢◌, ◌⊎◌, ◌↔◌, inl, inr, ℕ, suc, ◌<◌, ◌≤◌, true, false, nat_lt, [], ◌∷◌, refl, sym, ap, ◌∙◌, arith}
 use Rattle.std.proofs.lemmas.Bool.Decides.{leb_tells}
-use Rattle.persist_model.specs.Records.{Record, Log, IsAmong, Has, HasNo, IsNewestFirst}
+use Rattle.persist_model.specs.Records.{Record, Log, IsAmong, Has, IsNewestFirst}
 use Rattle.bucket_log.specs.States.{Gains}
 use Rattle.plan_records.specs.Passing.{inserted}
 

@@ -1,14 +1,13 @@
 -- A record may come into the middle of a log, behind newer records that may be there before it.
 use Rattle.std.proofs.Common.{◌≡◌, ◌≢◌, inl, inr, ℕ, ◌<◌, ◌≤◌, ◌∷◌, refl, sym, ap, ◌∙◌, subst, arith}
 use Rattle.persist_model.specs.Records.{Record, Log, IsAmong}
-use Rattle.persist_model.specs.Shape.{Shape, part_of}
+use Rattle.persist_model.specs.Shape.{part_of}
 use Rattle.persist_model.specs.Order.{Compensates, Follows}
 use Rattle.persist_model.specs.ImageRecords.{IsWellFormed}
 use Rattle.persist_model.specs.Need.{need_in}
-use Rattle.persist_model.specs.State.{State, total_need, HasRoom, HasNumbers, IsSoundState}
-use Rattle.log_laws.specs.Recovery.{grown}
+use Rattle.persist_model.specs.State.{total_need, HasNumbers}
 use Rattle.log_laws.proofs.Needs.{total_same}
-use Rattle.plan_records.specs.Passing.{inserted, renumbered, Passes, PassingsKeep}
+use Rattle.plan_records.specs.Passing.{inserted, renumbered, PassingsKeep}
 use Rattle.plan_records.proofs.Passing.{inserted_out, inserted_newest_first}
 use Rattle.plan_records.proofs.PassingOrder.{passes_other, follow_each_inserted, follows_alike, follow_each_alike}
 use Rattle.plan_records.proofs.PassingStands.{running_out, bars_out, open_out, stands_in, stands_out}

@@ -1,8 +1,8 @@
 -- A record that comes into the middle of a log keeps the order rule.
-use Rattle.std.proofs.Common.{◌≡◌, ◌≢◌, ◌⊎◌, inl, inr, ℕ, ◌<◌, Bool, false, ◌==◌, ◌&&◌, ◌||◌, if◌then◌else◌, [], ◌∷◌, refl, sym, ap, ◌∙◌, subst, arith}
+use Rattle.std.proofs.Common.{◌≡◌, ◌≢◌, inl, inr, ℕ, ◌<◌, false, ◌==◌, ◌&&◌, ◌||◌, if◌then◌else◌, [], ◌∷◌, refl, sym, ap, ◌∙◌, subst, arith}
 use Rattle.std.proofs.lemmas.Bool.Decides.{nat_tests}
 use Rattle.persist_model.specs.Records.{Record, Log, IsAmong, NamesWord, IsRunning}
-use Rattle.persist_model.specs.Order.{is_kind_of, undo_point, last_new, UndoesWell, IsNextToUndo, Bars, Follows, FollowEach}
+use Rattle.persist_model.specs.Order.{is_kind_of, undo_point, last_new, UndoesWell, Bars, Follows, FollowEach}
 use Rattle.plan_records.specs.Passing.{inserted, MayPass}
 use Rattle.plan_records.proofs.Passing.{compared, inserted_in, inserted_out, inserted_fold}
 
