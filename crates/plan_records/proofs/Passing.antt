@@ -56,12 +56,12 @@ pub inserted_newest_first : (r : Record) (log : Log) → ((x : Record) → IsAmo
 inserted_newest_first r [] fresh first = ((λ s m. absurd m), tt)
 inserted_newest_first r (x ∷ log) fresh first = elim (compared r.lsn x.lsn) [
   | inl lt ↦ (rw lt.0 (
-      (λ s m. elim (inserted_out r log s m) [
-        | inl e ↦ inl (let is : s.lsn ≡ r.lsn = ap (λ (y : Record). y.lsn) e in let less = lt.1 in omega (arith, is, less))
-        | inr k ↦ first.0 s k
-      ]),
-      inserted_newest_first r log (λ s m. fresh s (inr m)) first.1,
-    ))
+    (λ s m. elim (inserted_out r log s m) [
+      | inl e ↦ inl (let is : s.lsn ≡ r.lsn = ap (λ (y : Record). y.lsn) e in let less = lt.1 in omega (arith, is, less))
+      | inr k ↦ first.0 s k
+    ]),
+    inserted_newest_first r log (λ s m. fresh s (inr m)) first.1,
+  ))
   | inr ge ↦ (rw ge.0 ((λ s m. inl (below s m ge.1)), first))
 ]
   where
@@ -82,6 +82,6 @@ inserted_fold F f step r (x ∷ log) commute = elim (compared r.lsn x.lsn) [
   | inl lt ↦ (rw lt.0 (
       step x (inserted r log) ∙ ap (f x) (inserted_fold F f step r log (λ y m. commute y (inr m)) ∙ step r log) ∙
       commute x (inl refl) lt.1 (F log) ∙ ap (f r) (sym (step x log)) ∙ sym (step r (x ∷ log))
-    ))
+      ))
   | inr ge ↦ (rw ge.0 refl)
 ]

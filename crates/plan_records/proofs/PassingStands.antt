@@ -146,83 +146,115 @@ module _ (log : Log) (r : Record) (top : ℕ) (own : r.lsn ≤ top) (above : (x 
       (before_r : (x : Record) → IsAmong log x → P x → P r → x.lsn < r.lsn) where
     earliest_in : (u : Record) → IsEarliest P last u → (y : Record) × IsEarliest Q middle y × (u.before ≡ y.before)
     earliest_in u h = elim h.among [
-      | inl e ↦ (r, record {
-        among = here;
-        has = to r (down (subst P e h.has));
-        first = λ s m q. elim (inserted_out r log s m) [
-          | inl same ↦ (let is : s.lsn ≡ r.lsn = ap (λ (x : Record). x.lsn) same in omega (arith, is))
-          | inr k ↦ (let le = h.first s (inr k) (back s q) in let lt = above s k in let is : u.lsn ≡ top = ap (λ (x : Record). x.lsn) e in absurd (omega (arith, le, lt, is)))
-        ];
-      }, ap (λ (x : Record). x.before) e)
-      | inr k ↦ (u, record {
-        among = there u k;
-        has = to u h.has;
-        first = λ s m q. elim (inserted_out r log s m) [
-          | inl same ↦ (let is : s.lsn ≡ r.lsn = ap (λ (x : Record). x.lsn) same in let lt = before_r u k h.has (subst P same (back s q)) in omega (arith, is, lt))
-          | inr j ↦ h.first s (inr j) (back s q)
-        ];
-      }, refl)
+      | inl e ↦ (
+        r,
+        record {
+          among = here;
+          has = to r (down (subst P e h.has));
+          first = λ s m q. elim (inserted_out r log s m) [
+            | inl same ↦ (let is : s.lsn ≡ r.lsn = ap (λ (x : Record). x.lsn) same in omega (arith, is))
+            | inr k ↦ (let le = h.first s (inr k) (back s q) in let lt = above s k in let is : u.lsn ≡ top = ap (λ (x : Record). x.lsn) e in absurd (omega (arith, le, lt, is)))
+          ];
+        },
+        ap (λ (x : Record). x.before) e,
+      )
+      | inr k ↦ (
+        u,
+        record {
+          among = there u k;
+          has = to u h.has;
+          first = λ s m q. elim (inserted_out r log s m) [
+            | inl same ↦ (let is : s.lsn ≡ r.lsn = ap (λ (x : Record). x.lsn) same in let lt = before_r u k h.has (subst P same (back s q)) in omega (arith, is, lt))
+            | inr j ↦ h.first s (inr j) (back s q)
+          ];
+        },
+        refl,
+      )
     ]
 
     earliest_out : (y : Record) → IsEarliest Q middle y → (u : Record) × IsEarliest P last u × (y.before ≡ u.before)
     earliest_out y h = elim (inserted_out r log y h.among) [
-      | inl e ↦ (raised, record {
-        among = inl refl;
-        has = up (subst P e (back y h.has));
-        first = λ s m p. elim m [
-          | inl same ↦ (let is : s.lsn ≡ top = ap (λ (x : Record). x.lsn) same in omega (arith, is))
-          | inr k ↦ (let le = h.first s (there s k) (to s p) in let lt = before_r s k p (subst P e (back y h.has)) in let is : y.lsn ≡ r.lsn = ap (λ (x : Record). x.lsn) e in
-              absurd (omega (arith, le, lt, is)))
-        ];
-      }, ap (λ (x : Record). x.before) e)
-      | inr k ↦ (y, record {
-        among = inr k;
-        has = back y h.has;
-        first = λ s m p. elim m [
-          | inl same ↦ (let is : s.lsn ≡ top = ap (λ (x : Record). x.lsn) same in let lt = above y k in omega (arith, is, lt))
-          | inr j ↦ h.first s (there s j) (to s p)
-        ];
-      }, refl)
+      | inl e ↦ (
+        raised,
+        record {
+          among = inl refl;
+          has = up (subst P e (back y h.has));
+          first = λ s m p. elim m [
+            | inl same ↦ (let is : s.lsn ≡ top = ap (λ (x : Record). x.lsn) same in omega (arith, is))
+            | inr k ↦ (let le = h.first s (there s k) (to s p) in let lt = before_r s k p (subst P e (back y h.has)) in let is : y.lsn ≡ r.lsn = ap (λ (x : Record). x.lsn) e in
+                absurd (omega (arith, le, lt, is)))
+          ];
+        },
+        ap (λ (x : Record). x.before) e,
+      )
+      | inr k ↦ (
+        y,
+        record {
+          among = inr k;
+          has = back y h.has;
+          first = λ s m p. elim m [
+            | inl same ↦ (let is : s.lsn ≡ top = ap (λ (x : Record). x.lsn) same in let lt = above y k in omega (arith, is, lt))
+            | inr j ↦ h.first s (there s j) (to s p)
+          ];
+        },
+        refl,
+      )
     ]
 
     latest_in : (u : Record) → IsLatest P last u → (y : Record) × IsLatest Q middle y × (u.after ≡ y.after)
     latest_in u h = elim h.among [
-      | inl e ↦ (let p = down (subst P e h.has) in (r, record {
-        among = here;
-        has = to r p;
-        last = λ s m q. elim (inserted_out r log s m) [
-          | inl same ↦ (let is : s.lsn ≡ r.lsn = ap (λ (x : Record). x.lsn) same in omega (arith, is))
-          | inr k ↦ (let lt = before_r s k (back s q) p in omega (arith, lt))
-        ];
-      }, ap (λ (x : Record). x.after) e))
-      | inr k ↦ (u, record {
-        among = there u k;
-        has = to u h.has;
-        last = λ s m q. elim (inserted_out r log s m) [
-          | inl same ↦ (let le = h.last raised (inl refl) (up (subst P same (back s q))) in let lt = above u k in absurd (omega (arith, le, lt)))
-          | inr j ↦ h.last s (inr j) (back s q)
-        ];
-      }, refl)
+      | inl e ↦ (let p = down (subst P e h.has) in (
+        r,
+        record {
+          among = here;
+          has = to r p;
+          last = λ s m q. elim (inserted_out r log s m) [
+            | inl same ↦ (let is : s.lsn ≡ r.lsn = ap (λ (x : Record). x.lsn) same in omega (arith, is))
+            | inr k ↦ (let lt = before_r s k (back s q) p in omega (arith, lt))
+          ];
+        },
+        ap (λ (x : Record). x.after) e,
+      ))
+      | inr k ↦ (
+        u,
+        record {
+          among = there u k;
+          has = to u h.has;
+          last = λ s m q. elim (inserted_out r log s m) [
+            | inl same ↦ (let le = h.last raised (inl refl) (up (subst P same (back s q))) in let lt = above u k in absurd (omega (arith, le, lt)))
+            | inr j ↦ h.last s (inr j) (back s q)
+          ];
+        },
+        refl,
+      )
     ]
 
     latest_out : (y : Record) → IsLatest Q middle y → (u : Record) × IsLatest P last u × (y.after ≡ u.after)
     latest_out y h = elim (inserted_out r log y h.among) [
-      | inl e ↦ (raised, record {
-        among = inl refl;
-        has = up (subst P e (back y h.has));
-        last = λ s m p. elim m [
-          | inl same ↦ (let is : s.lsn ≡ top = ap (λ (x : Record). x.lsn) same in omega (arith, is))
-          | inr k ↦ (let lt = above s k in omega (arith, lt))
-        ];
-      }, ap (λ (x : Record). x.after) e)
-      | inr k ↦ (y, record {
-        among = inr k;
-        has = back y h.has;
-        last = λ s m p. elim m [
-          | inl same ↦ (let q = down (subst P same p) in let le = h.last r here (to r q) in let lt = before_r y k (back y h.has) q in absurd (omega (arith, le, lt)))
-          | inr j ↦ h.last s (there s j) (to s p)
-        ];
-      }, refl)
+      | inl e ↦ (
+        raised,
+        record {
+          among = inl refl;
+          has = up (subst P e (back y h.has));
+          last = λ s m p. elim m [
+            | inl same ↦ (let is : s.lsn ≡ top = ap (λ (x : Record). x.lsn) same in omega (arith, is))
+            | inr k ↦ (let lt = above s k in omega (arith, lt))
+          ];
+        },
+        ap (λ (x : Record). x.after) e,
+      )
+      | inr k ↦ (
+        y,
+        record {
+          among = inr k;
+          has = back y h.has;
+          last = λ s m p. elim m [
+            | inl same ↦ (let q = down (subst P same p) in let le = h.last r here (to r q) in let lt = before_r y k (back y h.has) q in absurd (omega (arith, le, lt)))
+            | inr j ↦ h.last s (there s j) (to s p)
+          ];
+        },
+        refl,
+      )
     ]
 
   -- ---- the standing values
