@@ -4,33 +4,38 @@ use Rattle.persist_model.specs.declared.event.Event.{Event}
 use Rattle.persist_model.specs.Region.{Words}
 use Rattle.persist_model.specs.Progress.{Reaches}
 use Rattle.persist_model.specs.Runs.{progress_at}
-use Rattle.persist_model.specs.Records.{Record}
+use Rattle.persist_model.specs.Records.{Record, IsAmong}
 use Rattle.persist_model.specs.Shape.{Shape, heap, log_words, heap_words}
 use Rattle.persist_model.specs.Chain.{view}
 use Rattle.persist_model.specs.State.{State, IsSoundState}
 use Rattle.persist_model.specs.Sound.{HasState}
-use Rattle.log_laws.specs.Recovery.{grown, KeepsStanding}
+use Rattle.log_laws.specs.Recovery.{KeepsStanding}
 use Rattle.log_laws.specs.Recovering.{with_heap}
 use Rattle.log_laws.specs.Moves.{StandsCommitted}
 use Rattle.region_layout.specs.Layout.{IsAllowed}
 use Rattle.bucket_log.specs.declared.append.Place.{Place}
 use Rattle.bucket_log.specs.Appends.{CanAppend, region_append}
-use Rattle.bucket_log.specs.States.{less_room, IsAbove}
+use Rattle.bucket_log.specs.States.{with_log}
+use Rattle.plan_records.specs.Passing.{inserted, Passes}
 
 -- the room of the first n partitions
 abbrev pub total_room : (ℕ → ℕ) → ℕ → ℕ
 total_room room zero = 0
 total_room room (suc n) = total_room room n + room n
 
--- The words w have a sound state, and the place may take r, whose number is the greatest, and leaves one for each cell that is free, and one more.
+-- The words w have a sound state, and the place may take r. Newer records may be there before r; and top, which is above all numbers, leaves
+-- one for each cell that is free, and one more.
 pub record MayAppend (shape : Shape) (p : ℕ) (w : Words) (s : State) (chain : List ℕ) (place : Place) (r : Record) : Type 0 where
   pub allowed : IsAllowed shape
   pub inside : p < shape.partitions
   pub has : HasState shape w s
   pub sound : IsSoundState shape s
   pub can : CanAppend shape p (view p (log_words shape w)) chain place r
-  pub above : IsAbove s r
-  pub numbers : r.lsn + total_room s.room shape.partitions + 1 ≤ 2 ^ 63
+  pub passes : Passes s.log r
+  pub top : ℕ
+  pub above : (x : Record) → IsAmong s.log x → x.lsn < top
+  pub own : r.lsn ≤ top
+  pub numbers : top + total_room s.room shape.partitions + 1 ≤ 2 ^ 63
 
 -- the log words of v may stand after the first k events of a plan on the log, from w
 abbrev pub MayStandAt : Shape → Words → List Event → ℕ → Words → Type 0
@@ -54,7 +59,7 @@ pub record Commits (shape : Shape) (v : Words) (s : State) (t : ℕ) (x : State)
 
 -- s with r, which took a cell of the partition
 abbrev pub with_record : ℕ → State → Record → State
-with_record p s r = grown s r (less_room p s.room)
+with_record p s r = with_log p s (inserted r s.log)
 
 -- At each prefix of the append of r, each image has the records before, or those and r, is sound, and has the standing words before;
 -- behind the last event it has r. This holds of the images whose heap words have C.

@@ -1,5 +1,5 @@
 -- How a lane follows a plan of its transaction, part by part, while others go on with theirs.
-use Rattle.std.specs.Prelude.{◌≡◌, ◌≢◌, ◌↔◌, ℕ, ◌≤◌, if◌then◌else◌, List, [], ◌∷◌, ◌++◌}
+use Rattle.std.specs.Prelude.{◌≡◌, ◌≢◌, ◌↔◌, ℕ, ◌<◌, ◌≤◌, if◌then◌else◌, List, [], ◌∷◌, ◌++◌}
 use Rattle.persist_model.specs.declared.event.Event.{Event}
 use Rattle.persist_model.specs.declared.event.Event.TheVariants.{Store, PStore, WriteBack, Fence}
 use Rattle.persist_model.specs.Region.{Words}
@@ -40,12 +40,16 @@ IsAside (Word e) = Unit {0}
 IsAside Wait = Unit {0}
 IsAside Clear = ⊥
 
+-- t has no record with a number as great
+abbrev pub IsAboveOwn : ℕ → Log → ℕ → Type 0
+IsAboveOwn t log number = (x : Record) → IsAmong log x → IsOf t x → x.lsn < number
+
 -- From the state s a lane follows a plan of the transaction t, whose records stand in the partition p. It has made all parts but the rest,
 -- and the state is x. Its appends have added their records, and others have done what they will, but for the records of t.
 pub data Course (shape : Shape) (p t : ℕ) (s : State) (plan : List Part) : List Part → State → Type 0 where
   begins : Course shape p t s plan plan s
   appends : {rest : List Part} {x : State} (cell : Cell) (place : Place) (number : ℕ) → Course shape p t s plan (Append cell ∷ rest) x →
-      part_of shape (place_address place) ≡ p → Course shape p t s plan rest (with_record p x (appended place number cell))
+      part_of shape (place_address place) ≡ p → IsAboveOwn t x.log number → Course shape p t s plan rest (with_record p x (appended place number cell))
   makes : {rest : List Part} {x : State} (part : Part) → Course shape p t s plan (part ∷ rest) x → IsAside part → Course shape p t s plan rest x
   meanwhile : {rest : List Part} {x : State} (y : State) → Course shape p t s plan rest x → own_records t y.log ≡ own_records t x.log → Course shape p t s plan rest y
 

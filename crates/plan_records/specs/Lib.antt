@@ -1,5 +1,6 @@
 pub mod Cells
 pub mod Sequences
+pub mod Passing
 pub mod Appends
 pub mod Conditions
 pub mod Laws

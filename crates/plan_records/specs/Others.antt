@@ -16,12 +16,13 @@ use Rattle.log_clearing.specs.Closed.{IsListed}
 use Rattle.plan_records.specs.declared.cells.Outcome.TheVariants.{Committed, RolledBack}
 use Rattle.plan_records.specs.Cells.{cell_of_end, appended}
 use Rattle.plan_records.specs.Sequences.{owner_parts}
+use Rattle.plan_records.specs.Passing.{inserted}
 use Rattle.plan_records.specs.Appends.{MayAppend}
 use Rattle.plan_records.specs.Courses.{own_records, AreDeleted}
 
 -- An append of another transaction's record, and a closing of others' records, keep the records of t.
 pub record OthersKeepOwn : Type 0 where
-  pub appends : (t : ℕ) (log : Log) (r : Record) → (IsOf t r → ⊥) → own_records t (r ∷ log) ≡ own_records t log
+  pub appends : (t : ℕ) (log : Log) (r : Record) → (IsOf t r → ⊥) → own_records t (inserted r log) ≡ own_records t log
   pub closes : (t : ℕ) (log later : Log) (gates ends checkpoints : List ℕ) → IsClosedBy (IsListed gates ends checkpoints) log later →
       ((r : Record) → IsAmong log r → IsListed gates ends checkpoints r → IsOf t r → ⊥) → own_records t later ≡ own_records t log
 
@@ -33,9 +34,9 @@ AppendsStandInPart = (shape : Shape) (p : ℕ) (w : Words) (s : State) (chain : 
 -- deletions are; behind that of an undone one, in any words.
 pub record EndsLeaveDeleted : Type 0 where
   pub committed : (shape : Shape) (t : ℕ) (s : State) (place : Place) (number : ℕ) (h : Words) → IsSoundState shape s → IsRunning s.log t →
-      ((a : ℕ) → Has (IsDeletionBy t a) s.log → h a ≡ 0) → AreDeleted (appended place number (cell_of_end t Committed) ∷ s.log) t h
+      ((a : ℕ) → Has (IsDeletionBy t a) s.log → h a ≡ 0) → AreDeleted (inserted (appended place number (cell_of_end t Committed)) s.log) t h
   pub undone : (shape : Shape) (t : ℕ) (s : State) (place : Place) (number : ℕ) (h : Words) → IsSoundState shape s → IsRunning s.log t →
-      AreDeleted (appended place number (cell_of_end t RolledBack) ∷ s.log) t h
+      AreDeleted (inserted (appended place number (cell_of_end t RolledBack)) s.log) t h
 
 -- the events of parts that aren't on the log
 abbrev pub word_events : List Part → List Event

@@ -10,8 +10,14 @@ ghost use Rattle.plan_records.specs.Laws.{
   StoresKeep,
   DropsKeep,
 };
+ghost use Rattle.plan_records.specs.Passing.{PassingsKeep};
 ghost use Rattle.plan_records.specs.Others.{OthersKeepOwn, AppendsStandInPart, EndsLeaveDeleted, OwnersAreZero};
 ghost use Rattle.plan_records.specs.Courses.{WritesGoOn, GivesGoOn, CommitsGoOn, AbortsGoOn};
+
+/// A record that was numbered before newer records of other transactions may come behind them.
+pub fn passings_keep()
+    ensures { PassingsKeep }
+{}
 
 /// At each prefix of an update's append each image is sound, with the standing words before.
 pub fn updates_keep()
