@@ -13,6 +13,20 @@ ghost use Rattle.plan_records.specs.Laws.{
 ghost use Rattle.plan_records.specs.Passing.{PassingsKeep};
 ghost use Rattle.plan_records.specs.Others.{OthersKeepOwn, AppendsStandInPart, EndsLeaveDeleted, OwnersAreZero};
 ghost use Rattle.plan_records.specs.Courses.{WritesGoOn, GivesGoOn, CommitsGoOn, AbortsGoOn};
+ghost use Rattle.plan_records.specs.HeapCourses.{
+  GoesAreCourses,
+  AppendsAreOnLog,
+  NewestStay,
+  WritesSettle,
+  GivesSettle,
+  CommitsMeet,
+  AbortsMeet,
+  NoForceMeets,
+  HeapImagesReach,
+  ChangedImagesReach,
+};
+ghost use Rattle.plan_records.specs.HeapClears.{WordsStayOwn, ClearsMeet};
+ghost use Rattle.plan_records.specs.HeapUpdates.{OldsMeet, UpdatesMeet};
 
 /// A record that was numbered before newer records of other transactions may come behind them.
 pub fn passings_keep()
@@ -103,4 +117,74 @@ pub fn ends_leave_deleted()
 /// The parts of deletions leave each owner word durably 0.
 pub fn owners_are_zero()
     ensures { OwnersAreZero }
+{}
+
+/// A course with its lane's progress is a course.
+pub fn goes_are_courses()
+    ensures { GoesAreCourses }
+{}
+
+/// The events of an append are on the log's words alone, and each is a durable store or a fence.
+pub fn appends_are_on_log()
+    ensures { AppendsAreOnLog }
+{}
+
+/// What others do keeps the newest values of a transaction's words.
+pub fn newest_stay()
+    ensures { NewestStay }
+{}
+
+/// Behind a write under force the lane's newest value of each word that its transaction changed is the last NEW,
+pub fn writes_settle()
+    ensures { WritesSettle }
+{}
+
+/// and so it is wherever a lane has come in the giving back of a block.
+pub fn gives_settle()
+    ensures { GivesSettle }
+{}
+
+/// At the end of a commit under force each word that the transaction changed has the last NEW,
+pub fn commits_meet()
+    ensures { CommitsMeet }
+{}
+
+/// and so it is at the end of an undo.
+pub fn aborts_meet()
+    ensures { AbortsMeet }
+{}
+
+/// Under no-force an end asks nothing of the heap words.
+pub fn no_force_meets()
+    ensures { NoForceMeets }
+{}
+
+/// Where records are cleared under force, what is deleted is 0.
+pub fn clears_meet()
+    ensures { ClearsMeet }
+{}
+
+/// Nobody else comes to have a transaction's words, up to the clearing.
+pub fn words_stay_own()
+    ensures { WordsStayOwn }
+{}
+
+/// An update whose OLD is the last NEW of its transaction, or else the standing value, may come, under both policies.
+pub fn olds_meet()
+    ensures { OldsMeet }
+{}
+
+/// Under force the lane's newest value of the word is such an OLD.
+pub fn updates_meet()
+    ensures { UpdatesMeet }
+{}
+
+/// Each image's heap words are as the tracked progress of a lane reaches,
+pub fn heap_images_reach()
+    ensures { HeapImagesReach }
+{}
+
+/// and so are those that a transaction changed.
+pub fn changed_images_reach()
+    ensures { ChangedImagesReach }
 {}
