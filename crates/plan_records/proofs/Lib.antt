@@ -10,3 +10,5 @@ pub mod Beside
 pub mod AbortCourse
 pub mod CommitCourse
 pub mod WriteCourse
+mod HeapOwn
+mod HeapGoing
