@@ -12,3 +12,4 @@ pub mod CommitCourse
 pub mod WriteCourse
 mod HeapOwn
 mod HeapGoing
+mod HeapWrites
