@@ -13,3 +13,7 @@ pub mod WriteCourse
 mod HeapOwn
 mod HeapGoing
 mod HeapWrites
+mod HeapCommits
+mod HeapAborts
+mod HeapOthers
+mod HeapClears

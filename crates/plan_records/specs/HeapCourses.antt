@@ -24,7 +24,7 @@ use Rattle.plan_records.specs.declared.cells.Outcome.TheVariants.{Committed, Rol
 use Rattle.plan_records.specs.Cells.{cell_of_end, appended}
 use Rattle.plan_records.specs.Appends.{MayAppend, with_record}
 use Rattle.plan_records.specs.Conditions.{AreWritten, AreLast}
-use Rattle.plan_records.specs.Courses.{own_records, IsAboveOwn, Course, CanCommit, CanAbort, write_parts, give_parts, commit_parts, abort_parts}
+use Rattle.plan_records.specs.Courses.{own_records, IsAboveOwn, Course, CanAbort, write_parts, give_parts, commit_parts, abort_parts}
 
 -- the lane's newest value of a, which is durable once the lane fences
 abbrev pub newest : Progress → ℕ → ℕ
@@ -88,8 +88,7 @@ GivesSettle = (shape : Shape) (p : ℕ) (s : State) (g : Giving) (q : Progress) 
 -- At the end of a commit under force each word that t changed has the last NEW, at each prefix of the append.
 abbrev pub CommitsMeet : Type 0
 CommitsMeet = (shape : Shape) (p t : ℕ) (s : State) (owners : List ℕ) (q : Progress) (rest : List Part) (x : State) (z : Progress) (h : Words) →
-    IsSoundState shape s → CanCommit shape p t s.log owners → AreNewest s.log t q →
-    Goes shape p t s (commit_parts Force t owners) q (Append (cell_of_end t Committed) ∷ rest) x z →
+    IsSoundState shape s → AreNewest s.log t q → Goes shape p t s (commit_parts Force t owners) q (Append (cell_of_end t Committed) ∷ rest) x z →
     MayReach shape (IsChanged x.log t) z h → AreWritten shape x t h
 
 -- So it is at the end of an undo.

@@ -1,0 +1,100 @@
+-- A commit under force: its first fence makes what was written durable, and its deletions leave the owner words 0.
+use Rattle.std.proofs.Common.{◌≡◌, ◌≢◌, ◌⊎◌, inl, inr, ℕ, ◌==◌, true, false, ◌<◌, ◌≤◌, List, [], ◌∷◌, ◌++◌, refl, sym, ap, ◌∙◌, subst, arith}
+use Rattle.std.proofs.lemmas.Bool.Decides.{eqb_tells}
+use Rattle.persist_model.specs.declared.event.Event.{Event}
+use Rattle.persist_model.specs.declared.event.Event.TheVariants.{PStore, Fence}
+use Rattle.persist_model.specs.Region.{Words}
+use Rattle.persist_model.specs.Progress.{Progress, advance, advance_all}
+use Rattle.persist_model.specs.Records.{Record, Log, IsAmong, Has, IsOf, IsChange}
+use Rattle.persist_model.specs.Shape.{Shape, heap}
+use Rattle.persist_model.specs.State.{State, IsSoundState}
+use Rattle.persist_model.proofs.Projecting.{IsFixed, IsDue-stored, IsDue-away, IsDue-aways, IsFixed-fence}
+use Rattle.log_laws.specs.Moves.{IsDeletionBy}
+use Rattle.log_laws.specs.Recovering.{AreOnLog}
+use Rattle.log_laws.proofs.Growing.{has_back}
+use Rattle.region_layout.specs.declared.cell.Cell.{Cell}
+use Rattle.region_layout.specs.declared.layout.Policy.TheVariants.{Force}
+use Rattle.bucket_log.specs.declared.append.Place.{Place}
+use Rattle.bucket_log.specs.declared.parts.Part.{Part}
+use Rattle.bucket_log.specs.declared.parts.Part.TheVariants.{Append, Word, Fence as Wait, Clear}
+use Rattle.bucket_log.specs.Appends.{region_append}
+use Rattle.plan_records.specs.declared.cells.Outcome.TheVariants.{Committed}
+use Rattle.plan_records.specs.Cells.{cell_of_end, appended}
+use Rattle.plan_records.specs.Sequences.{zero_parts, owner_parts}
+use Rattle.plan_records.specs.Courses.{own_records, CanCommit, commit_parts}
+use Rattle.plan_records.specs.HeapCourses.{newest, AreNewest, Goes, CommitsMeet}
+use Rattle.plan_records.proofs.OwnRecords.{own_in, own_out}
+use Rattle.plan_records.proofs.HeapOwn.{latest_own}
+use Rattle.plan_records.proofs.HeapGoing.{Holds, Kept, holds_plain, kept_fenced, kept_reached, goes_fit}
+use Rattle.plan_records.proofs.HeapWrites.{holds_first}
+
+-- each of all the owners is left, or has 0 as its newest value
+abbrev pub AreLeftOrZero : List ℕ → List ℕ → Progress → Type 0
+AreLeftOrZero all left z = (b : ℕ) → IsAmong all b → IsAmong left b ⊎ (newest z b ≡ 0)
+
+-- what is left of the commit fits these own records and this progress
+pub data Committing (shape : Shape) (t : ℕ) (all : List ℕ) (o : Log) (z : Progress) : List Part → Type 0 where
+  fences : Holds shape t o z → Committing shape t all o z (Wait ∷ Append (cell_of_end t Committed) ∷ (owner_parts all ++ Clear ∷ []))
+  ends : Kept shape t o z → Committing shape t all o z (Append (cell_of_end t Committed) ∷ (owner_parts all ++ Clear ∷ []))
+  deletes : (a : ℕ) (left : List ℕ) → AreLeftOrZero all (a ∷ left) z → Committing shape t all o z (Word (PStore a 0) ∷ ((zero_parts left ++ Wait ∷ []) ++ Clear ∷ []))
+  fences_again : AreLeftOrZero all [] z → Committing shape t all o z (Wait ∷ Clear ∷ [])
+  clears : ((b : ℕ) → IsAmong all b → IsFixed z b 0) → Committing shape t all o z (Clear ∷ [])
+
+module _ (shape : Shape) (p t : ℕ) (all : List ℕ) where
+  -- the stores that are left
+  enter : (o : Log) (z : Progress) (left : List ℕ) → AreLeftOrZero all left z → Committing shape t all o z ((zero_parts left ++ Wait ∷ []) ++ Clear ∷ [])
+  enter o z [] zero = fences_again zero
+  enter o z (a ∷ left) zero = deletes a left zero
+
+  enter_all : (o : Log) (z : Progress) (owners : List ℕ) → ((b : ℕ) → IsAmong all b → IsAmong owners b) → Committing shape t all o z (owner_parts owners ++ Clear ∷ [])
+  enter_all o z [] same = clears (λ b m. absurd (same b m))
+  enter_all o z (a ∷ owners) same = deletes a owners (λ b m. inl (same b m))
+
+  pub commit_own : (o : Log) (z : Progress) (cell : Cell) (others : List Part) → Committing shape t all o z (Append cell ∷ others) → (cell.transaction ≡ t) × (cell.kind ≢ 5)
+  commit_own o z _ _ (ends h) = (refl, λ e. absurd (omega (arith, e)))
+
+  pub commit_add : (o : Log) (z : Progress) (cell : Cell) (others : List Part) (place : Place) (number : ℕ) → Committing shape t all o z (Append cell ∷ others) →
+      ((x : Record) → IsAmong o x → IsOf t x → x.lsn < number) → AreOnLog shape (region_append shape p place (appended place number cell)) →
+      Committing shape t all (appended place number cell ∷ o) (advance_all z (region_append shape p place (appended place number cell))) others
+  commit_add o z _ _ place number (ends h) above on = enter_all (appended place number (cell_of_end t Committed) ∷ o)
+      (advance_all z (region_append shape p place (appended place number (cell_of_end t Committed)))) all (λ b m. m)
+
+  -- one owner word is 0, and the others are as before
+  one_less : (z : Progress) (a : ℕ) (left : List ℕ) → AreLeftOrZero all (a ∷ left) z → AreLeftOrZero all left (advance z (PStore a 0))
+  one_less z a left zero b m = elim (eqb_tells a b) [
+    | inl same ↦ inr (subst (λ c. newest (advance z (PStore a 0)) c ≡ 0) same.1 (IsDue-stored z a 0))
+    | inr ne ↦ elim (zero b m) [
+      | inl (inl k) ↦ absurd (ne.1 (sym k))
+      | inl (inr k) ↦ inl k
+      | inr due ↦ inr (IsDue-away z b 0 (PStore a 0) ne.1 due)
+    ]
+  ]
+
+  pub commit_store : (o : Log) (z : Progress) (e : Event) (others : List Part) → Committing shape t all o z (Word e ∷ others) → Committing shape t all o (advance z e) others
+  commit_store o z _ _ (deletes a left zero) = enter o (advance z (PStore a 0)) left (one_less z a left zero)
+
+  fenced : (z : Progress) → AreLeftOrZero all [] z → (b : ℕ) → IsAmong all b → IsFixed (advance z Fence) b 0
+  fenced z zero b m = elim (zero b m) [ inl k ↦ absurd k | inr due ↦ IsFixed-fence z b 0 due ]
+
+  pub commit_wait : (o : Log) (z : Progress) (others : List Part) → Committing shape t all o z (Wait ∷ others) → Committing shape t all o (advance z Fence) others
+  commit_wait o z _ (fences h) = ends (kept_fenced shape t o z h)
+  commit_wait o z _ (fences_again zero) = clears (fenced z zero)
+
+  pub committing : (s : State) (q : Progress) (rest : List Part) (x : State) (z : Progress) → IsSoundState shape s → AreNewest s.log t q →
+      Goes shape p t s (commit_parts Force t all) q rest x z → Committing shape t all (own_records t x.log) z rest
+  committing s q rest x z sound h goes = goes_fit shape p t s (commit_parts Force t all) q (λ o y l. Committing shape t all o y l) commit_own commit_add commit_store commit_wait
+      (fences (holds_first shape t s q sound h)) rest x z goes
+
+  kept_there : (o : Log) (z : Progress) (cell : Cell) (others : List Part) → Committing shape t all o z (Append cell ∷ others) → Kept shape t o z
+  kept_there o z _ _ (ends h) = h
+
+  zero_there : (o : Log) (z : Progress) (others : List Part) → Committing shape t all o z (Clear ∷ others) → (b : ℕ) → IsAmong all b → IsFixed z b 0
+  zero_there o z _ (clears h) = h
+
+  pub zero_durably : (s : State) (q : Progress) (rest : List Part) (x : State) (z : Progress) → IsSoundState shape s → AreNewest s.log t q →
+      Goes shape p t s (commit_parts Force t all) q (Clear ∷ rest) x z → (b : ℕ) → IsAmong all b → IsFixed z b 0
+  zero_durably s q rest x z sound h goes = zero_there (own_records t x.log) z rest (committing s q (Clear ∷ rest) x z sound h goes)
+
+pub commits_meet : CommitsMeet
+commits_meet shape p t s owners q rest x z h sound first goes may force a r none last =
+    kept_reached shape t x.log z h (kept_there shape p t owners (own_records t x.log) z _ _ (committing shape p t owners s q _ x z sound first goes)) may a r (latest_own t a x.log r last)
