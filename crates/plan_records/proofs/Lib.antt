@@ -17,3 +17,5 @@ mod HeapCommits
 mod HeapAborts
 mod HeapOthers
 mod HeapClears
+mod HeapUpdates
+mod HeapRegions
