@@ -1,13 +1,15 @@
 -- How what a lane's stores have settled goes along with its course.
-use Rattle.std.proofs.Common.{◌≡◌, ◌≢◌, ◌⊎◌, inl, inr, ℕ, ◌<◌, ◌≤◌, List, [], ◌∷◌, ◌++◌, take, zero, suc, refl, sym, ap, ◌∙◌, subst, arith}
+use Rattle.std.proofs.Common.{◌≡◌, ◌≢◌, ◌⊎◌, inl, inr, ℕ, true, false, ◌==◌, ◌<◌, ◌≤◌, List, [], ◌∷◌, ◌++◌, take, zero, suc, refl, sym, ap, ◌∙◌, subst, arith}
+use Rattle.std.proofs.lemmas.Bool.Decides.{eqb_tells}
 use Rattle.persist_model.specs.declared.event.Event.{Event}
 use Rattle.persist_model.specs.declared.event.Event.TheVariants.{Store, PStore, WriteBack, Fence}
 use Rattle.persist_model.specs.Region.{Words}
-use Rattle.persist_model.specs.Progress.{Progress, advance, advance_all, Reaches}
+use Rattle.persist_model.specs.Progress.{Progress, Wrote, advance, advance_all, Reaches}
 use Rattle.persist_model.specs.Records.{Record, Log, IsAmong, IsOf, IsChange}
 use Rattle.persist_model.specs.Shape.{Shape, heap, part_of}
 use Rattle.persist_model.specs.Standing.{IsLatest}
 use Rattle.persist_model.specs.State.{State}
+use Rattle.persist_model.proofs.Tracking.{Wrote-push_other}
 use Rattle.persist_model.proofs.Projecting.{IsEventAway, AreAway, IsFixed, IsDue-stored, IsDue-away, IsDue-aways, IsFixed-aways, IsFixed-fence, Reaches-fixed}
 use Rattle.log_laws.specs.Moves.{IsChangeBy}
 use Rattle.log_laws.specs.Recovering.{IsOnLog, AreOnLog}
@@ -20,7 +22,7 @@ use Rattle.plan_records.specs.Cells.{appended}
 use Rattle.plan_records.specs.Passing.{inserted}
 use Rattle.plan_records.specs.Courses.{own_records, Course, begins, appends, makes, meanwhile}
 use Rattle.plan_records.specs.HeapCourses as heap_courses
-use Rattle.plan_records.specs.HeapCourses.{newest, AreNewest, Goes, MayReach, GoesAreCourses}
+use Rattle.plan_records.specs.HeapCourses.{newest, IsChanged, AreNewest, Goes, MayReach, GoesAreCourses}
 use Rattle.plan_records.proofs.OwnRecords.{own_in, own_out}
 use Rattle.plan_records.proofs.HeapOwn.{own_inserted, change_of, latest_changed, latest_same}
 
@@ -44,12 +46,28 @@ on_log_away shape a (e ∷ es) high on = (of e on.0, on_log_away shape a es high
     of (WriteBack b) m = tt
     of Fence m = tt
 
+-- what is pending for a word was pending before events that don't store to it
+pending_back : (z : Progress) (a v : ℕ) (es : List Event) → AreAway a es → Wrote (advance_all z es).pending a v → Wrote z.pending a v
+pending_back z a v [] away h = h
+pending_back z a v (e ∷ es) away h = of e away.0 (pending_back (advance z e) a v es away.1 h)
+  where
+    of : (e : Event) → IsEventAway a e → Wrote (advance z e).pending a v → Wrote z.pending a v
+    of (Store b u) m k = k
+    of (PStore b u) m k = Wrote-push_other z.pending b u a v m k
+    of (WriteBack b) m k = k
+    of Fence m k = absurd k
+
 -- ---- the two forms of what is settled, on the own records of t
 
 -- the words that t changed are of the heap, and each has the last NEW once the lane fences
 pub record Holds (shape : Shape) (t : ℕ) (o : Log) (z : Progress) : Type 0 where
   pub high : (r : Record) → IsAmong o r → IsChange r → r.transaction ≡ t → heap shape ≤ r.word
   pub newest_is : AreNewest o t z
+
+-- and nothing is pending for a heap word that t hasn't changed
+pub record Steps (shape : Shape) (t : ℕ) (o : Log) (z : Progress) : Type 0 where
+  pub holds : Holds shape t o z
+  pub no_other : (a v : ℕ) → heap shape ≤ a → Wrote z.pending a v → IsChanged o t a
 
 -- or durably
 pub record Kept (shape : Shape) (t : ℕ) (o : Log) (z : Progress) : Type 0 where
@@ -84,15 +102,32 @@ module _ (shape : Shape) (t : ℕ) where
         IsDue-aways z a r.after es (on_log_away shape a es (high_at o a r h.high before) on) (h.newest_is a r before));
   }
 
+  pub steps_changed : (o : Log) (z : Progress) (e : Record) (es : List Event) → IsChange e → e.transaction ≡ t → heap shape ≤ e.word →
+      ((x : Record) → IsAmong o x → IsOf t x → x.lsn < e.lsn) → AreOnLog shape es → Steps shape t o z → Steps shape t (e ∷ o) (advance (advance_all z es) (PStore e.word e.after))
+  steps_changed o z e es change own high above on h = record { holds = holds_changed o z e es change own high above on h.holds; no_other = λ a v up k. by a v up k (eqb_tells e.word a) }
+    where
+      by : (a v : ℕ) → heap shape ≤ a → Wrote (advance (advance_all z es) (PStore e.word e.after)).pending a v →
+          (((e.word == a) ≡ true) × (e.word ≡ a)) ⊎ (((e.word == a) ≡ false) × (e.word ≢ a)) → IsChanged (e ∷ o) t a
+      by a v up k (inl same) = (e, inl refl, (change, same.1, own))
+      by a v up k (inr ne) =
+          let r = h.no_other a v up (pending_back z a v es (on_log_away shape a es up on) (Wrote-push_other (advance_all z es).pending e.word e.after a v ne.1 k)) in
+          (r.0, inr r.1, r.2)
+
+  pub steps_plain : (o : Log) (z : Progress) (e : Record) (es : List Event) → (IsChange e → ⊥) → AreOnLog shape es → Steps shape t o z → Steps shape t (e ∷ o) (advance_all z es)
+  steps_plain o z e es off on h = record {
+    holds = holds_plain o z e es off on h.holds;
+    no_other = λ a v up k. (let r = h.no_other a v up (pending_back z a v es (on_log_away shape a es up on) k) in (r.0, inr r.1, r.2));
+  }
+
   pub kept_fenced : (o : Log) (z : Progress) → Holds shape t o z → Kept shape t o (advance z Fence)
   kept_fenced o z h = record { high = h.high; fixed = λ a r last. IsFixed-fence z a r.after (h.newest_is a r last) }
 
   -- what may be found while the lane makes events on the log's words
-  pub kept_reached : (log : Log) (z : Progress) (h : Words) → Kept shape t (own_records t log) z → MayReach shape (heap_courses.IsChanged log t) z h →
+  pub kept_reached : (log : Log) (z : Progress) (h : Words) → Kept shape t (own_records t log) z → MayReach shape (IsChanged log t) z h →
       (a : ℕ) (r : Record) → IsLatest (IsChangeBy t a) (own_records t log) r → h a ≡ r.after
   kept_reached log z h kept may a r last =
       let m = own_out t log r last.among in
-      Reaches-fixed (heap_courses.IsChanged log t) (advance_all z may.0) h a r.after (r, m.0, last.has)
+      Reaches-fixed (IsChanged log t) (advance_all z may.0) h a r.after (r, m.0, last.has)
       (IsFixed-aways z a r.after may.0 (on_log_away shape a may.0 (high_at (own_records t log) a r kept.high last) may.1) (kept.fixed a r last)) may.2
 
 -- ---- along a course

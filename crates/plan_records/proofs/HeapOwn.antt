@@ -9,7 +9,7 @@ use Rattle.log_laws.specs.Moves.{IsChangeBy}
 use Rattle.log_laws.proofs.Deciding.{decide_equal}
 use Rattle.plan_records.specs.Passing.{inserted}
 use Rattle.plan_records.specs.Courses.{own_records, IsAboveOwn}
-use Rattle.plan_records.specs.HeapCourses.{AreNewest}
+use Rattle.plan_records.specs.HeapCourses.{IsChanged, AreNewest}
 use Rattle.plan_records.proofs.OwnRecords.{own_first, own_in, own_out, own_other, own_either}
 
 -- ---- an inserted record
@@ -106,6 +106,12 @@ latest_same t a e o r off h = by h.among
 
 pub newest_own : (log : Log) (t : ℕ) (q : Progress) → AreNewest log t q → AreNewest (own_records t log) t q
 newest_own log t q h a r last = h a r (latest_all t a log r last)
+
+pub changed_own : (log : Log) (t a : ℕ) → IsChanged log t a → IsChanged (own_records t log) t a
+changed_own log t a k = (k.0, own_in t log k.0 k.1 (change_of t a k.0 k.2), k.2)
+
+pub changed_all : (log : Log) (t a : ℕ) → IsChanged (own_records t log) t a → IsChanged log t a
+changed_all log t a k = (k.0, (own_out t log k.0 k.1).0, k.2)
 
 pub newest_all : (log : Log) (t : ℕ) (q : Progress) → AreNewest (own_records t log) t q → AreNewest log t q
 newest_all log t q h a r last = h a r (latest_own t a log r last)

@@ -2,7 +2,7 @@
 use Rattle.std.proofs.Common.{◌≡◌, ◌≢◌, ◌⊎◌, inl, inr, ℕ, ◌<◌, ◌≤◌, List, [], ◌∷◌, refl, sym, ap, ◌∙◌, subst, arith}
 use Rattle.persist_model.specs.declared.event.Event.{Event}
 use Rattle.persist_model.specs.declared.event.Event.TheVariants.{PStore, Fence}
-use Rattle.persist_model.specs.Progress.{Progress, advance, advance_all}
+use Rattle.persist_model.specs.Progress.{Progress, Wrote, advance, advance_all}
 use Rattle.persist_model.specs.Records.{Record, Log, IsAmong, HasNo, IsOf, IsChange}
 use Rattle.persist_model.specs.Shape.{Shape, heap}
 use Rattle.persist_model.specs.State.{State, IsSoundState}
@@ -17,15 +17,21 @@ use Rattle.bucket_log.specs.declared.parts.Part.TheVariants.{Append, Word, Fence
 use Rattle.bucket_log.specs.Appends.{region_append}
 use Rattle.plan_records.specs.Cells.{cell_of_update, cell_of_deletion, appended}
 use Rattle.plan_records.specs.Courses.{own_records, write_parts, give_parts}
-use Rattle.plan_records.specs.HeapCourses.{AreNewest, Goes, NewestStay, WritesSettle, GivesSettle, NoForceMeets}
+use Rattle.plan_records.specs.HeapCourses.{IsChanged, AreNewest, IsInStep, Goes, StepsStay, WritesSettle, GivesSettle, NoForceMeets}
 use Rattle.plan_records.proofs.OwnRecords.{own_out}
-use Rattle.plan_records.proofs.HeapOwn.{change_of, newest_own, newest_all}
-use Rattle.plan_records.proofs.HeapGoing.{Holds, holds_changed, holds_plain, goes_fit}
+use Rattle.plan_records.proofs.HeapOwn.{change_of, newest_own, newest_all, changed_own, changed_all}
+use Rattle.plan_records.proofs.HeapGoing.{Holds, Steps, steps_changed, steps_plain, goes_fit}
 
-pub newest_stay : NewestStay
-newest_stay = record {
-  none = λ log t q empty a r last. absurd (empty r last.among (change_of t a r last.has));
-  others = λ log later t q same h. newest_all later t q (subst (λ o. AreNewest o t q) (sym same) (newest_own log t q h));
+pub steps_stay : StepsStay
+steps_stay = record {
+  none = λ shape log t q empty nothing. record {
+    newest_values = λ a r last. absurd (empty r last.among (change_of t a r last.has));
+    no_other = λ a v up k. absurd (subst (λ ws. Wrote ws a v) nothing k);
+  };
+  others = λ shape log later t q same h. record {
+    newest_values = newest_all later t q (subst (λ o. AreNewest o t q) (sym same) (newest_own log t q h.newest_values));
+    no_other = λ a v up k. changed_all later t a (subst (λ o. IsChanged o t a) (sym same) (changed_own log t a (h.no_other a v up k)));
+  };
 }
 
 pub no_force_meets : NoForceMeets
@@ -38,13 +44,25 @@ holds_first shape t s q sound h = record {
   newest_is = newest_own s.log t q h;
 }
 
+steps_first : (shape : Shape) (t : ℕ) (s : State) (q : Progress) → IsSoundState shape s → IsInStep shape s.log t q → Steps shape t (own_records t s.log) q
+steps_first shape t s q sound h = record {
+  holds = holds_first shape t s q sound h.newest_values;
+  no_other = λ a v up k. changed_own s.log t a (h.no_other a v up k);
+}
+
+steps_there : (shape : Shape) (t : ℕ) (x : State) (z : Progress) → Steps shape t (own_records t x.log) z → IsInStep shape x.log t z
+steps_there shape t x z h = record {
+  newest_values = newest_all x.log t z h.holds.newest_is;
+  no_other = λ a v up k. changed_all x.log t a (h.no_other a v up k);
+}
+
 -- ---- a write
 
 -- what is left of the write fits these own records and this progress
 data Writing (shape : Shape) (u : Update) (o : Log) (z : Progress) : List Part → Type 0 where
-  notes : Holds shape u.transaction o z → Writing shape u o z (Append (cell_of_update u) ∷ Word (PStore u.word u.after) ∷ [])
-  keeps : Holds shape u.transaction o (advance z (PStore u.word u.after)) → Writing shape u o z (Word (PStore u.word u.after) ∷ [])
-  done : Holds shape u.transaction o z → Writing shape u o z []
+  notes : Steps shape u.transaction o z → Writing shape u o z (Append (cell_of_update u) ∷ Word (PStore u.word u.after) ∷ [])
+  keeps : Steps shape u.transaction o (advance z (PStore u.word u.after)) → Writing shape u o z (Word (PStore u.word u.after) ∷ [])
+  done : Steps shape u.transaction o z → Writing shape u o z []
 
 module _ (shape : Shape) (p : ℕ) (u : Update) (high : heap shape ≤ u.word) where
   write_own : (o : Log) (z : Progress) (cell : Cell) (others : List Part) → Writing shape u o z (Append cell ∷ others) → (cell.transaction ≡ u.transaction) × (cell.kind ≢ 5)
@@ -53,7 +71,7 @@ module _ (shape : Shape) (p : ℕ) (u : Update) (high : heap shape ≤ u.word) w
   write_add : (o : Log) (z : Progress) (cell : Cell) (others : List Part) (place : Place) (number : ℕ) → Writing shape u o z (Append cell ∷ others) →
       ((x : Record) → IsAmong o x → IsOf u.transaction x → x.lsn < number) → AreOnLog shape (region_append shape p place (appended place number cell)) →
       Writing shape u (appended place number cell ∷ o) (advance_all z (region_append shape p place (appended place number cell))) others
-  write_add o z _ _ place number (notes h) above on = keeps (holds_changed shape u.transaction o z (appended place number (cell_of_update u))
+  write_add o z _ _ place number (notes h) above on = keeps (steps_changed shape u.transaction o z (appended place number (cell_of_update u))
       (region_append shape p place (appended place number (cell_of_update u))) (inl refl) refl high above on h)
 
   write_store : (o : Log) (z : Progress) (e : Event) (others : List Part) → Writing shape u o z (Word e ∷ others) → Writing shape u o (advance z e) others
@@ -62,28 +80,28 @@ module _ (shape : Shape) (p : ℕ) (u : Update) (high : heap shape ≤ u.word) w
   write_wait : (o : Log) (z : Progress) (others : List Part) → Writing shape u o z (Wait ∷ others) → Writing shape u o (advance z Fence) others
   write_wait o z others fit = elim fit [ ]
 
-  written : (s : State) (q : Progress) (rest : List Part) (x : State) (z : Progress) → IsSoundState shape s → AreNewest s.log u.transaction q →
+  written : (s : State) (q : Progress) (rest : List Part) (x : State) (z : Progress) → IsSoundState shape s → IsInStep shape s.log u.transaction q →
       Goes shape p u.transaction s (write_parts Force u) q rest x z → Writing shape u (own_records u.transaction x.log) z rest
   written s q rest x z sound h goes = goes_fit shape p u.transaction s (write_parts Force u) q (λ o y l. Writing shape u o y l) write_own write_add write_store write_wait
-      (notes (holds_first shape u.transaction s q sound h)) rest x z goes
+      (notes (steps_first shape u.transaction s q sound h)) rest x z goes
 
 pub writes_settle : WritesSettle
 writes_settle = record {
-  before = λ shape p s u q x z sound high h goes. newest_all x.log u.transaction z (first shape u (own_records u.transaction x.log) z _ _ (written shape p u high s q _ x z sound h goes));
-  behind = λ shape p s u q x z sound high h goes. newest_all x.log u.transaction z (last shape u (own_records u.transaction x.log) z (written shape p u high s q [] x z sound h goes));
+  before = λ shape p s u q x z sound high h goes. steps_there shape u.transaction x z (first shape u (own_records u.transaction x.log) z _ _ (written shape p u high s q _ x z sound h goes));
+  behind = λ shape p s u q x z sound high h goes. steps_there shape u.transaction x z (last shape u (own_records u.transaction x.log) z (written shape p u high s q [] x z sound h goes));
 }
   where
-    first : (shape : Shape) (u : Update) (o : Log) (z : Progress) (cell : Cell) (others : List Part) → Writing shape u o z (Append cell ∷ others) → AreNewest o u.transaction z
-    first shape u o z _ _ (notes h) = h.newest_is
+    first : (shape : Shape) (u : Update) (o : Log) (z : Progress) (cell : Cell) (others : List Part) → Writing shape u o z (Append cell ∷ others) → Steps shape u.transaction o z
+    first shape u o z _ _ (notes h) = h
 
-    last : (shape : Shape) (u : Update) (o : Log) (z : Progress) → Writing shape u o z [] → AreNewest o u.transaction z
-    last shape u o z (done h) = h.newest_is
+    last : (shape : Shape) (u : Update) (o : Log) (z : Progress) → Writing shape u o z [] → Steps shape u.transaction o z
+    last shape u o z (done h) = h
 
 -- ---- a block that is given back
 
 data Giving_back (shape : Shape) (g : Giving) (o : Log) (z : Progress) : List Part → Type 0 where
-  gives : Holds shape g.transaction o z → Giving_back shape g o z (Append (cell_of_deletion g) ∷ [])
-  given : Holds shape g.transaction o z → Giving_back shape g o z []
+  gives : Steps shape g.transaction o z → Giving_back shape g o z (Append (cell_of_deletion g) ∷ [])
+  given : Steps shape g.transaction o z → Giving_back shape g o z []
 
 module _ (shape : Shape) (p : ℕ) (g : Giving) where
   give_own : (o : Log) (z : Progress) (cell : Cell) (others : List Part) → Giving_back shape g o z (Append cell ∷ others) → (cell.transaction ≡ g.transaction) × (cell.kind ≢ 5)
@@ -92,7 +110,7 @@ module _ (shape : Shape) (p : ℕ) (g : Giving) where
   give_add : (o : Log) (z : Progress) (cell : Cell) (others : List Part) (place : Place) (number : ℕ) → Giving_back shape g o z (Append cell ∷ others) →
       ((x : Record) → IsAmong o x → IsOf g.transaction x → x.lsn < number) → AreOnLog shape (region_append shape p place (appended place number cell)) →
       Giving_back shape g (appended place number cell ∷ o) (advance_all z (region_append shape p place (appended place number cell))) others
-  give_add o z _ _ place number (gives h) above on = given (holds_plain shape g.transaction o z (appended place number (cell_of_deletion g))
+  give_add o z _ _ place number (gives h) above on = given (steps_plain shape g.transaction o z (appended place number (cell_of_deletion g))
       (region_append shape p place (appended place number (cell_of_deletion g))) (λ c. elim c [ inl k ↦ absurd (omega (arith, k)) | inr k ↦ absurd (omega (arith, k)) ]) on h)
 
   give_store : (o : Log) (z : Progress) (e : Event) (others : List Part) → Giving_back shape g o z (Word e ∷ others) → Giving_back shape g o (advance z e) others
@@ -102,10 +120,10 @@ module _ (shape : Shape) (p : ℕ) (g : Giving) where
   give_wait o z others fit = elim fit [ ]
 
 pub gives_settle : GivesSettle
-gives_settle shape p s g q rest x z sound h goes = newest_all x.log g.transaction z (either rest
+gives_settle shape p s g q rest x z sound h goes = steps_there shape g.transaction x z (either rest
     (goes_fit shape p g.transaction s (give_parts g) q (λ o y l. Giving_back shape g o y l) (give_own shape p g) (give_add shape p g) (give_store shape p g) (give_wait shape p g)
-    (gives (holds_first shape g.transaction s q sound h)) rest x z goes))
+    (gives (steps_first shape g.transaction s q sound h)) rest x z goes))
   where
-    either : (l : List Part) → Giving_back shape g (own_records g.transaction x.log) z l → AreNewest (own_records g.transaction x.log) g.transaction z
-    either _ (gives k) = k.newest_is
-    either _ (given k) = k.newest_is
+    either : (l : List Part) → Giving_back shape g (own_records g.transaction x.log) z l → Steps shape g.transaction (own_records g.transaction x.log) z
+    either _ (gives k) = k
+    either _ (given k) = k

@@ -15,7 +15,7 @@ use Rattle.bucket_log.specs.declared.parts.Part.TheVariants.{Clear}
 use Rattle.log_clearing.specs.Closed.{IsListed}
 use Rattle.plan_records.specs.Passing.{inserted}
 use Rattle.plan_records.specs.Courses.{AreDeleted, CanCommit, CanAbort, commit_parts, abort_parts}
-use Rattle.plan_records.specs.HeapCourses.{AreNewest, Goes, MayReach}
+use Rattle.plan_records.specs.HeapCourses.{Goes, MayReach}
 
 -- nobody else has a word that t names
 abbrev pub AreOwn : ℕ → Log → Type 0
@@ -38,11 +38,11 @@ AreAllGiven t log owners = (a : ℕ) → Has (IsDeletionBy t a) log → IsAmong 
 -- each that it names and a committed transaction deletes is 0; behind an undo, in any words.
 pub record ClearsMeet : Type 0 where
   pub zero : (shape : Shape) (p t : ℕ) (s : State) (owners : List ℕ) (q : Progress) (rest : List Part) (x : State) (z : Progress) (h : Words) →
-      IsSoundState shape s → CanCommit shape p t s.log owners → AreNewest s.log t q → Goes shape p t s (commit_parts Force t owners) q (Clear ∷ rest) x z →
+      IsSoundState shape s → CanCommit shape p t s.log owners → Goes shape p t s (commit_parts Force t owners) q (Clear ∷ rest) x z →
       MayReach shape (IsAmong owners) z h → (a : ℕ) → IsAmong owners a → h a ≡ 0
   pub committed : (shape : Shape) (p t : ℕ) (s : State) (owners : List ℕ) (q : Progress) (rest : List Part) (x : State) (z : Progress) (h : Words) →
-      IsSoundState shape s → CanCommit shape p t s.log owners → AreAllGiven t s.log owners → AreNewest s.log t q →
+      IsSoundState shape s → CanCommit shape p t s.log owners → AreAllGiven t s.log owners →
       Goes shape p t s (commit_parts Force t owners) q (Clear ∷ rest) x z → AreOwn t x.log → MayReach shape (IsAmong owners) z h → AreDeleted x.log t h
   pub undone : (shape : Shape) (p t : ℕ) (s : State) (updates : List Cell) (q : Progress) (rest : List Part) (x : State) (z : Progress) (h : Words) →
-      IsSoundState shape s → CanAbort shape p t s.log updates → AreNewest s.log t q → Goes shape p t s (abort_parts Force t updates) q (Clear ∷ rest) x z →
+      CanAbort shape p t s.log updates → Goes shape p t s (abort_parts Force t updates) q (Clear ∷ rest) x z →
       AreOwn t x.log → AreDeleted x.log t h

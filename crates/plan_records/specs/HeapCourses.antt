@@ -1,9 +1,9 @@
 -- What a lane's own stores and fences settle, while it follows the plans of its transaction: the heap words beside a course.
-use Rattle.std.specs.Prelude.{◌≡◌, ◌≢◌, ℕ, Bool, IsTrue, ◌≤◌, List, [], ◌∷◌, take}
+use Rattle.std.specs.Prelude.{◌≡◌, ℕ, Bool, IsTrue, ◌≤◌, ◌==◌, ◌||◌, if◌then◌else◌, List, [], ◌∷◌, take}
 use Rattle.persist_model.specs.declared.event.Event.{Event}
 use Rattle.persist_model.specs.declared.event.Event.TheVariants.{Fence}
 use Rattle.persist_model.specs.Region.{Words, Region, MayStand, AreInside}
-use Rattle.persist_model.specs.Progress.{Progress, latest, advance, advance_all, Reaches, Tracks}
+use Rattle.persist_model.specs.Progress.{Progress, Wrote, latest, advance, advance_all, Reaches, Tracks, AreSettledAt}
 use Rattle.persist_model.specs.Records.{Record, Log, IsAmong, Has, HasNo, IsOf}
 use Rattle.persist_model.specs.Shape.{Shape, heap, IsHeapWord, heap_words, part_of}
 use Rattle.persist_model.specs.Standing.{IsLatest}
@@ -20,19 +20,33 @@ use Rattle.bucket_log.specs.declared.parts.Part.{Part}
 use Rattle.bucket_log.specs.declared.parts.Part.TheVariants.{Append, Word, Fence as Wait, Clear}
 use Rattle.bucket_log.specs.Plans.{place_address}
 use Rattle.bucket_log.specs.Appends.{region_append}
+use Rattle.log_clearing.specs.Plans.{closing_plan}
 use Rattle.plan_records.specs.declared.cells.Outcome.TheVariants.{Committed, RolledBack}
 use Rattle.plan_records.specs.Cells.{cell_of_end, appended}
 use Rattle.plan_records.specs.Appends.{MayAppend, with_record}
 use Rattle.plan_records.specs.Conditions.{AreWritten, AreLast}
-use Rattle.plan_records.specs.Courses.{own_records, IsAboveOwn, Course, CanAbort, write_parts, give_parts, commit_parts, abort_parts}
+use Rattle.plan_records.specs.Courses.{own_records, IsAboveOwn, Course, MayCloseOwn, CanAbort, write_parts, give_parts, commit_parts, abort_parts}
 
 -- the lane's newest value of a, which is durable once the lane fences
 abbrev pub newest : Progress → ℕ → ℕ
 newest q a = latest q.pending a (q.durable a)
 
+-- t changed the word
+abbrev pub IsChanged : Log → ℕ → ℕ → Type 0
+IsChanged log t a = Has (IsChangeBy t a) log
+
 -- what the lane has stored last to each word that t changed is the last NEW
 abbrev pub AreNewest : Log → ℕ → Progress → Type 0
 AreNewest log t q = (a : ℕ) (r : Record) → IsLatest (IsChangeBy t a) log r → newest q a ≡ r.after
+
+-- The lane is in step with t's records: the newest values are the last NEWs, and nothing is pending for a heap word that t hasn't changed.
+pub record IsInStep (shape : Shape) (log : Log) (t : ℕ) (q : Progress) : Type 0 where
+  pub newest_values : AreNewest log t q
+  pub no_other : (a v : ℕ) → heap shape ≤ a → Wrote q.pending a v → IsChanged log t a
+
+-- the progress with one word more, whose value is v
+abbrev pub taking : ℕ → ℕ → Progress → Progress
+taking a v q = record { durable = λ b. if b == a then v else q.durable b; pending = q.pending }
 
 -- A course with the progress of its lane: it began with the progress q, and has come to z. An append makes its events, which are on the
 -- log's words, and its fences are the lane's. What others do keeps the progress, since they don't store to t's words.
@@ -50,40 +64,47 @@ pub data Goes (shape : Shape) (p t : ℕ) (s : State) (plan : List Part) (q : Pr
 abbrev pub MayReach : Shape → (ℕ → Type 0) → Progress → Words → Type 0
 MayReach shape A z h = (events : List Event) × AreOnLog shape events × Reaches A (advance_all z events) h
 
--- the words that t changed
-abbrev pub IsChanged : Log → ℕ → ℕ → Type 0
-IsChanged log t a = Has (IsChangeBy t a) log
-
 -- ---- the laws
 
 abbrev pub GoesAreCourses : Type 0
 GoesAreCourses = (shape : Shape) (p t : ℕ) (s : State) (plan : List Part) (q : Progress) (rest : List Part) (x : State) (z : Progress) →
     Goes shape p t s plan q rest x z → Course shape p t s plan rest x
 
--- the events of an append, and of each prefix, are on the log's words; and all are durable stores and fences
-pub record AppendsAreOnLog : Type 0 where
-  pub on_log : (shape : Shape) (p : ℕ) (w : Words) (s : State) (chain : List ℕ) (place : Place) (r : Record) (k : ℕ) → MayAppend shape p w s chain place r →
+-- The events of each prefix of an append and of a closing are on the log's words. An append's are durable stores and fences.
+pub record LogPlansAreOnLog : Type 0 where
+  pub appends : (shape : Shape) (p : ℕ) (w : Words) (s : State) (chain : List ℕ) (place : Place) (r : Record) (k : ℕ) → MayAppend shape p w s chain place r →
       AreOnLog shape (take k (region_append shape p place r))
   pub whole : (shape : Shape) (p : ℕ) (w : Words) (s : State) (chain : List ℕ) (place : Place) (r : Record) → MayAppend shape p w s chain place r →
       AreOnLog shape (region_append shape p place r)
+  pub closings : (shape : Shape) (t : ℕ) (w : Words) (s : State) (gates ends checkpoints : List ℕ) (k : ℕ) → MayCloseOwn shape t w s gates ends checkpoints →
+      AreOnLog shape (take k (closing_plan gates ends checkpoints))
   pub durable : (shape : Shape) (p : ℕ) (place : Place) (r : Record) → AreDurable (region_append shape p place r)
 
--- So it is of a transaction without records, and what others do keeps it.
-pub record NewestStay : Type 0 where
-  pub none : (log : Log) (t : ℕ) (q : Progress) → HasNo (IsOf t) log → AreNewest log t q
-  pub others : (log later : Log) (t : ℕ) (q : Progress) → own_records t later ≡ own_records t log → AreNewest log t q → AreNewest later t q
+-- A lane with nothing pending is in step with a transaction without records, and what others do keeps it in step.
+pub record StepsStay : Type 0 where
+  pub none : (shape : Shape) (log : Log) (t : ℕ) (q : Progress) → HasNo (IsOf t) log → q.pending ≡ [] → IsInStep shape log t q
+  pub others : (shape : Shape) (log later : Log) (t : ℕ) (q : Progress) → own_records t later ≡ own_records t log → IsInStep shape log t q → IsInStep shape later t q
 
--- A write under force: before its update is there what is newest is as it was, and so it is again behind the store.
+-- A heap word that t hasn't changed, and that is settled at v, may be taken up: the lane stays in step, v is its newest value, and the region
+-- tracks this word beside the others.
+pub record WordsAreTaken : Type 0 where
+  pub in_step : (shape : Shape) (log : Log) (t a v : ℕ) (q : Progress) → (IsChanged log t a → ⊥) → IsInStep shape log t q → IsInStep shape log t (taking a v q)
+  pub value : (shape : Shape) (log : Log) (t a v : ℕ) (q : Progress) → heap shape ≤ a → (IsChanged log t a → ⊥) → IsInStep shape log t q → newest (taking a v q) a ≡ v
+  pub tracks : (shape : Shape) (log : Log) (t a v : ℕ) (q : Progress) (test : ℕ → Bool) (lane : ℕ) (region : Region) → heap shape ≤ a → (IsChanged log t a → ⊥) →
+      IsInStep shape log t q → AreSettledAt (λ b. b ≡ a) (λ b. v) region → Tracks (λ b. IsTrue (test b)) lane q region →
+      Tracks (λ b. IsTrue ((b == a) || test b)) lane (taking a v q) region
+
+-- A write under force: up to its append the lane is in step as before, and behind the store it is again.
 pub record WritesSettle : Type 0 where
   pub before : (shape : Shape) (p : ℕ) (s : State) (u : Update) (q : Progress) (x : State) (z : Progress) → IsSoundState shape s → heap shape ≤ u.word →
-      AreNewest s.log u.transaction q → Goes shape p u.transaction s (write_parts Force u) q (write_parts Force u) x z → AreNewest x.log u.transaction z
+      IsInStep shape s.log u.transaction q → Goes shape p u.transaction s (write_parts Force u) q (write_parts Force u) x z → IsInStep shape x.log u.transaction z
   pub behind : (shape : Shape) (p : ℕ) (s : State) (u : Update) (q : Progress) (x : State) (z : Progress) → IsSoundState shape s → heap shape ≤ u.word →
-      AreNewest s.log u.transaction q → Goes shape p u.transaction s (write_parts Force u) q [] x z → AreNewest x.log u.transaction z
+      IsInStep shape s.log u.transaction q → Goes shape p u.transaction s (write_parts Force u) q [] x z → IsInStep shape x.log u.transaction z
 
 -- wherever a lane has come in the giving back of a block
 abbrev pub GivesSettle : Type 0
 GivesSettle = (shape : Shape) (p : ℕ) (s : State) (g : Giving) (q : Progress) (rest : List Part) (x : State) (z : Progress) → IsSoundState shape s →
-    AreNewest s.log g.transaction q → Goes shape p g.transaction s (give_parts g) q rest x z → AreNewest x.log g.transaction z
+    IsInStep shape s.log g.transaction q → Goes shape p g.transaction s (give_parts g) q rest x z → IsInStep shape x.log g.transaction z
 
 -- At the end of a commit under force each word that t changed has the last NEW, at each prefix of the append.
 abbrev pub CommitsMeet : Type 0

@@ -1,7 +1,7 @@
 -- What the lane of an update must know of its OLD.
 use Rattle.std.specs.Prelude.{◌≡◌, ◌≢◌, ℕ}
 use Rattle.persist_model.specs.Region.{Words}
-use Rattle.persist_model.specs.Progress.{Progress, Wrote}
+use Rattle.persist_model.specs.Progress.{Progress}
 use Rattle.persist_model.specs.Records.{Record, HasNo, IsRunning}
 use Rattle.persist_model.specs.Standing.{IsToRedo, IsLatest}
 use Rattle.persist_model.specs.Order.{undo_point}
@@ -12,18 +12,13 @@ use Rattle.bucket_log.specs.declared.append.Place.{Place}
 use Rattle.bucket_log.specs.declared.parts.Update.{Update}
 use Rattle.plan_records.specs.Cells.{cell_of_update, appended}
 use Rattle.plan_records.specs.Conditions.{CanUpdate, IsUpdateOf}
-use Rattle.plan_records.specs.HeapCourses.{newest, AreNewest, MayReach}
+use Rattle.plan_records.specs.HeapCourses.{newest, IsInStep, MayReach}
 
 -- u's OLD is the last NEW of its transaction. Where that hasn't changed the word, it is the latest NEW that is to be redone, or else the word in h.
 pub record IsOldIn (shape : Shape) (x : State) (u : Record) (h : Words) : Type 0 where
   pub own : (r : Record) → IsLatest (IsChangeBy u.transaction u.word) x.log r → u.before ≡ r.after
   pub redone : HasNo (IsChangeBy u.transaction u.word) x.log → (r : Record) → IsLatest (IsToRedo shape.policy x.log u.word) x.log r → u.before ≡ r.after
   pub plain : HasNo (IsChangeBy u.transaction u.word) x.log → HasNo (IsToRedo shape.policy x.log u.word) x.log → u.before ≡ h u.word
-
--- u's OLD is the lane's newest value of the word, and where its transaction hasn't changed the word, nothing is pending for it.
-pub record IsOldOf (x : State) (u : Update) (z : Progress) : Type 0 where
-  pub newest_value : u.before ≡ newest z u.word
-  pub still : HasNo (IsChangeBy u.transaction u.word) x.log → (v : ℕ) → Wrote z.pending u.word v → ⊥
 
 -- ---- the laws
 
@@ -32,9 +27,9 @@ abbrev pub OldsMeet : Type 0
 OldsMeet = (shape : Shape) (x : State) (u : Record) (h : Words) → IsSoundState shape x → IsRunning x.log u.transaction → MayName x.log u →
     u.undo_next ≡ undo_point u.transaction x.log → IsOldIn shape x u h → IsUpdateOf shape x u h
 
--- Under force the lane's progress on the word is enough, at each prefix of the append.
+-- Under force it is enough that the lane is in step and OLD is its newest value of the word, at each prefix of the append.
 abbrev pub UpdatesMeet : Type 0
 UpdatesMeet = (shape : Shape) (x : State) (u : Update) (place : Place) (number : ℕ) (z : Progress) (h : Words) →
     let r = appended place number (cell_of_update u) in
-    shape.policy ≢ 2 → IsSoundState shape x → CanUpdate shape x r → u.previous ≡ undo_point u.transaction x.log → AreNewest x.log u.transaction z → IsOldOf x u z →
-    MayReach shape (λ a. a ≡ u.word) z h → IsUpdateOf shape x r h
+    shape.policy ≢ 2 → IsSoundState shape x → CanUpdate shape x r → u.previous ≡ undo_point u.transaction x.log → IsInStep shape x.log u.transaction z →
+    u.before ≡ newest z u.word → MayReach shape (λ a. a ≡ u.word) z h → IsUpdateOf shape x r h

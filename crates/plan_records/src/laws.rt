@@ -15,8 +15,9 @@ ghost use Rattle.plan_records.specs.Others.{OthersKeepOwn, AppendsStandInPart, E
 ghost use Rattle.plan_records.specs.Courses.{WritesGoOn, GivesGoOn, CommitsGoOn, AbortsGoOn};
 ghost use Rattle.plan_records.specs.HeapCourses.{
   GoesAreCourses,
-  AppendsAreOnLog,
-  NewestStay,
+  LogPlansAreOnLog,
+  StepsStay,
+  WordsAreTaken,
   WritesSettle,
   GivesSettle,
   CommitsMeet,
@@ -124,14 +125,19 @@ pub fn goes_are_courses()
     ensures { GoesAreCourses }
 {}
 
-/// The events of an append are on the log's words alone, and each is a durable store or a fence.
-pub fn appends_are_on_log()
-    ensures { AppendsAreOnLog }
+/// The events of an append and of a closing are on the log's words alone.
+pub fn log_plans_are_on_log()
+    ensures { LogPlansAreOnLog }
 {}
 
-/// What others do keeps the newest values of a transaction's words.
-pub fn newest_stay()
-    ensures { NewestStay }
+/// What others do keeps a lane in step with its transaction's records.
+pub fn steps_stay()
+    ensures { StepsStay }
+{}
+
+/// A settled word that a transaction hasn't changed may be taken up.
+pub fn words_are_taken()
+    ensures { WordsAreTaken }
 {}
 
 /// Behind a write under force the lane's newest value of each word that its transaction changed is the last NEW,

@@ -1,5 +1,0 @@
-use Rattle.plan_records.proofs.HeapRegions as lemmas
-use Rattle.plan_records.proofs.laws.appends_are_on_log.Goals as goal
-
-pub returns : goal.returns
-returns c = lemmas.appends_are_on_log
