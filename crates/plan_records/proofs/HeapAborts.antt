@@ -4,7 +4,7 @@ use Rattle.persist_model.specs.declared.event.Event.{Event}
 use Rattle.persist_model.specs.declared.event.Event.TheVariants.{PStore, Fence}
 use Rattle.persist_model.specs.Region.{Words}
 use Rattle.persist_model.specs.Progress.{Progress, advance, advance_all}
-use Rattle.persist_model.specs.Records.{Record, Log, IsAmong, IsOf, IsEnd, IsRunning, IsCommitted}
+use Rattle.persist_model.specs.Records.{Record, Log, IsAmong, IsOf}
 use Rattle.persist_model.specs.Shape.{Shape, heap}
 use Rattle.persist_model.specs.Need.{to_undo}
 use Rattle.persist_model.specs.State.{State, IsSoundState}
@@ -41,72 +41,55 @@ cells_of shape t (cell ∷ cells) (u ∷ us) are each = (
 
 -- what is left of the abort fits these own records and this progress
 data Aborting (shape : Shape) (t : ℕ) (o : Log) (z : Progress) : List Part → Type 0 where
-  rolls : (us : List Cell) → AreOfHeap shape t us → IsRunning o t → Holds shape t o z → Aborting shape t o z (Append (cell_of_rollback t) ∷ (undo_parts Force us ++ undo_end Force t))
-  compensates : (u : Cell) (us : List Cell) → AreOfHeap shape t (u ∷ us) → IsRunning o t → Holds shape t o z →
+  rolls : (us : List Cell) → AreOfHeap shape t us → Holds shape t o z → Aborting shape t o z (Append (cell_of_rollback t) ∷ (undo_parts Force us ++ undo_end Force t))
+  compensates : (u : Cell) (us : List Cell) → AreOfHeap shape t (u ∷ us) → Holds shape t o z →
       Aborting shape t o z (Append (cell_of_compensation u) ∷ Word (PStore u.address u.before) ∷ (undo_parts Force us ++ undo_end Force t))
-  restores : (u : Cell) (us : List Cell) → AreOfHeap shape t us → IsRunning o t → Holds shape t o (advance z (PStore u.address u.before)) →
+  restores : (u : Cell) (us : List Cell) → AreOfHeap shape t us → Holds shape t o (advance z (PStore u.address u.before)) →
       Aborting shape t o z (Word (PStore u.address u.before) ∷ (undo_parts Force us ++ undo_end Force t))
-  fences : IsRunning o t → Holds shape t o z → Aborting shape t o z (Wait ∷ Append (cell_of_end t RolledBack) ∷ Clear ∷ [])
-  ends : IsRunning o t → Kept shape t o z → Aborting shape t o z (Append (cell_of_end t RolledBack) ∷ Clear ∷ [])
-  clears : (IsCommitted o t → ⊥) → Aborting shape t o z (Clear ∷ [])
-
-running_more : (o : Log) (e : Record) (t : ℕ) → (IsEnd e → ⊥) → IsRunning o t → IsRunning (e ∷ o) t
-running_more o e t off running x (inl same) end = off (subst IsEnd same end.0)
-running_more o e t off running x (inr m) end = running x m end
+  fences : Holds shape t o z → Aborting shape t o z (Wait ∷ Append (cell_of_end t RolledBack) ∷ Clear ∷ [])
+  ends : Kept shape t o z → Aborting shape t o z (Append (cell_of_end t RolledBack) ∷ Clear ∷ [])
+  clears : Aborting shape t o z (Clear ∷ [])
 
 module _ (shape : Shape) (p t : ℕ) where
-  enter : (o : Log) (z : Progress) (us : List Cell) → AreOfHeap shape t us → IsRunning o t → Holds shape t o z → Aborting shape t o z (undo_parts Force us ++ undo_end Force t)
-  enter o z [] high running h = fences running h
-  enter o z (u ∷ us) high running h = compensates u us high running h
+  enter : (o : Log) (z : Progress) (us : List Cell) → AreOfHeap shape t us → Holds shape t o z → Aborting shape t o z (undo_parts Force us ++ undo_end Force t)
+  enter o z [] high h = fences h
+  enter o z (u ∷ us) high h = compensates u us high h
 
   abort_own : (o : Log) (z : Progress) (cell : Cell) (others : List Part) → Aborting shape t o z (Append cell ∷ others) → (cell.transaction ≡ t) × (cell.kind ≢ 5)
-  abort_own o z _ _ (rolls us high running h) = (refl, λ e. absurd (omega (arith, e)))
-  abort_own o z _ _ (compensates u us high running h) = (high.0, λ e. absurd (omega (arith, e)))
-  abort_own o z _ _ (ends running h) = (refl, λ e. absurd (omega (arith, e)))
-
-  not_committed : (o : Log) (e : Record) → e.outcome ≡ 2 → IsRunning o t → IsCommitted (e ∷ o) t → ⊥
-  not_committed o e two running k = elim k.1 [
-    | inl same ↦ (let one = k.2.1 in let is : k.0.outcome ≡ e.outcome = ap (λ (x : Record). x.outcome) same in omega (arith, one, two, is))
-    | inr m ↦ running k.0 m k.2.0
-  ]
+  abort_own o z _ _ (rolls us high h) = (refl, λ e. absurd (omega (arith, e)))
+  abort_own o z _ _ (compensates u us high h) = (high.0, λ e. absurd (omega (arith, e)))
+  abort_own o z _ _ (ends h) = (refl, λ e. absurd (omega (arith, e)))
 
   abort_add : (o : Log) (z : Progress) (cell : Cell) (others : List Part) (place : Place) (number : ℕ) → Aborting shape t o z (Append cell ∷ others) →
       ((x : Record) → IsAmong o x → IsOf t x → x.lsn < number) → AreOnLog shape (region_append shape p place (appended place number cell)) →
       Aborting shape t (appended place number cell ∷ o) (advance_all z (region_append shape p place (appended place number cell))) others
-  abort_add o z _ _ place number (rolls us high running h) above on =
+  abort_add o z _ _ place number (rolls us high h) above on =
       let e : Record = appended place number (cell_of_rollback t) in
-      enter (e ∷ o) (advance_all z (region_append shape p place e)) us high (running_more o e t (λ k. absurd (omega (arith, k))) running)
+      enter (e ∷ o) (advance_all z (region_append shape p place e)) us high
       (holds_plain shape t o z e (region_append shape p place e) (λ c. elim c [ inl k ↦ absurd (omega (arith, k)) | inr k ↦ absurd (omega (arith, k)) ]) on h)
-  abort_add o z _ _ place number (compensates u us high running h) above on =
+  abort_add o z _ _ place number (compensates u us high h) above on =
       let e : Record = appended place number (cell_of_compensation u) in
-      restores u us high.2 (running_more o e t (λ k. absurd (omega (arith, k))) running)
+      restores u us high.2
       (holds_changed shape t o z e (region_append shape p place e) (inr refl) high.0 high.1 above on h)
-  abort_add o z _ _ place number (ends running h) above on = clears (not_committed o (appended place number (cell_of_end t RolledBack)) refl running)
+  abort_add o z _ _ place number (ends h) above on = clears
 
   abort_store : (o : Log) (z : Progress) (e : Event) (others : List Part) → Aborting shape t o z (Word e ∷ others) → Aborting shape t o (advance z e) others
-  abort_store o z _ _ (restores u us high running h) = enter o (advance z (PStore u.address u.before)) us high running h
+  abort_store o z _ _ (restores u us high h) = enter o (advance z (PStore u.address u.before)) us high h
 
   abort_wait : (o : Log) (z : Progress) (others : List Part) → Aborting shape t o z (Wait ∷ others) → Aborting shape t o (advance z Fence) others
-  abort_wait o z _ (fences running h) = ends running (kept_fenced shape t o z h)
+  abort_wait o z _ (fences h) = ends (kept_fenced shape t o z h)
 
   aborting : (s : State) (updates : List Cell) (q : Progress) (rest : List Part) (x : State) (z : Progress) → IsSoundState shape s → CanAbort shape p t s.log updates →
       AreNewest s.log t q → Goes shape p t s (abort_parts Force t updates) q rest x z → Aborting shape t (own_records t x.log) z rest
   aborting s updates q rest x z sound can h goes = goes_fit shape p t s (abort_parts Force t updates) q (λ o y l. Aborting shape t o y l) abort_own abort_add abort_store abort_wait
       (rolls updates (cells_of shape t updates (to_undo t s.log) can.left
       (λ u m. (let k = to_undo_among t s.log u m in (k.2, ((sound.formed u k.0).change (inl k.1)).0.0))))
-      (λ e m end. can.going.running e (own_out t s.log e m).0 end) (holds_first shape t s q sound h)) rest x z goes
+      (holds_first shape t s q sound h)) rest x z goes
 
   last_there : (o : Log) (z : Progress) (cell : Cell) (others : List Part) → cell.kind ≡ 4 → Aborting shape t o z (Append cell ∷ others) → Kept shape t o z
-  last_there o z _ _ four (rolls us high running h) = absurd (omega (arith, four))
-  last_there o z _ _ four (compensates u us high running h) = absurd (omega (arith, four))
-  last_there o z _ _ four (ends running h) = h
-
-  undone_there : (o : Log) (z : Progress) (others : List Part) → Aborting shape t o z (Clear ∷ others) → IsCommitted o t → ⊥
-  undone_there o z _ (clears h) = h
-
-  pub not_committed_there : (s : State) (updates : List Cell) (q : Progress) (rest : List Part) (x : State) (z : Progress) → IsSoundState shape s → CanAbort shape p t s.log updates →
-      AreNewest s.log t q → Goes shape p t s (abort_parts Force t updates) q (Clear ∷ rest) x z → IsCommitted (own_records t x.log) t → ⊥
-  not_committed_there s updates q rest x z sound can h goes = undone_there (own_records t x.log) z rest (aborting s updates q (Clear ∷ rest) x z sound can h goes)
+  last_there o z _ _ four (rolls us high h) = absurd (omega (arith, four))
+  last_there o z _ _ four (compensates u us high h) = absurd (omega (arith, four))
+  last_there o z _ _ four (ends h) = h
 
 pub aborts_meet : AbortsMeet
 aborts_meet shape p t s updates q rest x z h sound can first goes may force a r last =

@@ -32,30 +32,30 @@ use Rattle.plan_records.proofs.HeapWrites.{holds_first}
 abbrev pub AreLeftOrZero : List ℕ → List ℕ → Progress → Type 0
 AreLeftOrZero all left z = (b : ℕ) → IsAmong all b → IsAmong left b ⊎ (newest z b ≡ 0)
 
--- what is left of the commit fits these own records and this progress
-pub data Committing (shape : Shape) (t : ℕ) (all : List ℕ) (o : Log) (z : Progress) : List Part → Type 0 where
-  fences : Holds shape t o z → Committing shape t all o z (Wait ∷ Append (cell_of_end t Committed) ∷ (owner_parts all ++ Clear ∷ []))
-  ends : Kept shape t o z → Committing shape t all o z (Append (cell_of_end t Committed) ∷ (owner_parts all ++ Clear ∷ []))
-  deletes : (a : ℕ) (left : List ℕ) → AreLeftOrZero all (a ∷ left) z → Committing shape t all o z (Word (PStore a 0) ∷ ((zero_parts left ++ Wait ∷ []) ++ Clear ∷ []))
-  fences_again : AreLeftOrZero all [] z → Committing shape t all o z (Wait ∷ Clear ∷ [])
-  clears : ((b : ℕ) → IsAmong all b → IsFixed z b 0) → Committing shape t all o z (Clear ∷ [])
+-- What is left of the commit fits these own records and this progress: B holds before the first fence, and E behind it.
+pub data Committing (B E : Log → Progress → Type 0) (t : ℕ) (all : List ℕ) (o : Log) (z : Progress) : List Part → Type 0 where
+  fences : B o z → Committing B E t all o z (Wait ∷ Append (cell_of_end t Committed) ∷ (owner_parts all ++ Clear ∷ []))
+  ends : E o z → Committing B E t all o z (Append (cell_of_end t Committed) ∷ (owner_parts all ++ Clear ∷ []))
+  deletes : (a : ℕ) (left : List ℕ) → AreLeftOrZero all (a ∷ left) z → Committing B E t all o z (Word (PStore a 0) ∷ ((zero_parts left ++ Wait ∷ []) ++ Clear ∷ []))
+  fences_again : AreLeftOrZero all [] z → Committing B E t all o z (Wait ∷ Clear ∷ [])
+  clears : ((b : ℕ) → IsAmong all b → IsFixed z b 0) → Committing B E t all o z (Clear ∷ [])
 
-module _ (shape : Shape) (p t : ℕ) (all : List ℕ) where
+module _ (B E : Log → Progress → Type 0) (shape : Shape) (p t : ℕ) (all : List ℕ) where
   -- the stores that are left
-  enter : (o : Log) (z : Progress) (left : List ℕ) → AreLeftOrZero all left z → Committing shape t all o z ((zero_parts left ++ Wait ∷ []) ++ Clear ∷ [])
+  enter : (o : Log) (z : Progress) (left : List ℕ) → AreLeftOrZero all left z → Committing B E t all o z ((zero_parts left ++ Wait ∷ []) ++ Clear ∷ [])
   enter o z [] zero = fences_again zero
   enter o z (a ∷ left) zero = deletes a left zero
 
-  enter_all : (o : Log) (z : Progress) (owners : List ℕ) → ((b : ℕ) → IsAmong all b → IsAmong owners b) → Committing shape t all o z (owner_parts owners ++ Clear ∷ [])
+  enter_all : (o : Log) (z : Progress) (owners : List ℕ) → ((b : ℕ) → IsAmong all b → IsAmong owners b) → Committing B E t all o z (owner_parts owners ++ Clear ∷ [])
   enter_all o z [] same = clears (λ b m. absurd (same b m))
   enter_all o z (a ∷ owners) same = deletes a owners (λ b m. inl (same b m))
 
-  pub commit_own : (o : Log) (z : Progress) (cell : Cell) (others : List Part) → Committing shape t all o z (Append cell ∷ others) → (cell.transaction ≡ t) × (cell.kind ≢ 5)
+  pub commit_own : (o : Log) (z : Progress) (cell : Cell) (others : List Part) → Committing B E t all o z (Append cell ∷ others) → (cell.transaction ≡ t) × (cell.kind ≢ 5)
   commit_own o z _ _ (ends h) = (refl, λ e. absurd (omega (arith, e)))
 
-  pub commit_add : (o : Log) (z : Progress) (cell : Cell) (others : List Part) (place : Place) (number : ℕ) → Committing shape t all o z (Append cell ∷ others) →
+  pub commit_add : (o : Log) (z : Progress) (cell : Cell) (others : List Part) (place : Place) (number : ℕ) → Committing B E t all o z (Append cell ∷ others) →
       ((x : Record) → IsAmong o x → IsOf t x → x.lsn < number) → AreOnLog shape (region_append shape p place (appended place number cell)) →
-      Committing shape t all (appended place number cell ∷ o) (advance_all z (region_append shape p place (appended place number cell))) others
+      Committing B E t all (appended place number cell ∷ o) (advance_all z (region_append shape p place (appended place number cell))) others
   commit_add o z _ _ place number (ends h) above on = enter_all (appended place number (cell_of_end t Committed) ∷ o)
       (advance_all z (region_append shape p place (appended place number (cell_of_end t Committed)))) all (λ b m. m)
 
@@ -70,31 +70,37 @@ module _ (shape : Shape) (p t : ℕ) (all : List ℕ) where
     ]
   ]
 
-  pub commit_store : (o : Log) (z : Progress) (e : Event) (others : List Part) → Committing shape t all o z (Word e ∷ others) → Committing shape t all o (advance z e) others
+  pub commit_store : (o : Log) (z : Progress) (e : Event) (others : List Part) → Committing B E t all o z (Word e ∷ others) → Committing B E t all o (advance z e) others
   commit_store o z _ _ (deletes a left zero) = enter o (advance z (PStore a 0)) left (one_less z a left zero)
 
   fenced : (z : Progress) → AreLeftOrZero all [] z → (b : ℕ) → IsAmong all b → IsFixed (advance z Fence) b 0
   fenced z zero b m = elim (zero b m) [ inl k ↦ absurd k | inr due ↦ IsFixed-fence z b 0 due ]
 
-  pub commit_wait : (o : Log) (z : Progress) (others : List Part) → Committing shape t all o z (Wait ∷ others) → Committing shape t all o (advance z Fence) others
-  commit_wait o z _ (fences h) = ends (kept_fenced shape t o z h)
-  commit_wait o z _ (fences_again zero) = clears (fenced z zero)
+  pub commit_wait : ((o : Log) (z : Progress) → B o z → E o (advance z Fence)) → (o : Log) (z : Progress) (others : List Part) →
+      Committing B E t all o z (Wait ∷ others) → Committing B E t all o (advance z Fence) others
+  commit_wait fence o z _ (fences h) = ends (fence o z h)
+  commit_wait fence o z _ (fences_again zero) = clears (fenced z zero)
 
-  pub committing : (s : State) (q : Progress) (rest : List Part) (x : State) (z : Progress) → IsSoundState shape s → AreNewest s.log t q →
-      Goes shape p t s (commit_parts Force t all) q rest x z → Committing shape t all (own_records t x.log) z rest
-  committing s q rest x z sound h goes = goes_fit shape p t s (commit_parts Force t all) q (λ o y l. Committing shape t all o y l) commit_own commit_add commit_store commit_wait
-      (fences (holds_first shape t s q sound h)) rest x z goes
+  pub committing : ((o : Log) (z : Progress) → B o z → E o (advance z Fence)) → (s : State) (q : Progress) (rest : List Part) (x : State) (z : Progress) → B (own_records t s.log) q →
+      Goes shape p t s (commit_parts Force t all) q rest x z → Committing B E t all (own_records t x.log) z rest
+  committing fence s q rest x z first goes = goes_fit shape p t s (commit_parts Force t all) q (λ o y l. Committing B E t all o y l) commit_own commit_add commit_store (commit_wait fence)
+      (fences first) rest x z goes
 
-  kept_there : (o : Log) (z : Progress) (cell : Cell) (others : List Part) → Committing shape t all o z (Append cell ∷ others) → Kept shape t o z
-  kept_there o z _ _ (ends h) = h
+  pub ended_there : (o : Log) (z : Progress) (cell : Cell) (others : List Part) → Committing B E t all o z (Append cell ∷ others) → E o z
+  ended_there o z _ _ (ends h) = h
 
-  zero_there : (o : Log) (z : Progress) (others : List Part) → Committing shape t all o z (Clear ∷ others) → (b : ℕ) → IsAmong all b → IsFixed z b 0
+  pub zero_there : (o : Log) (z : Progress) (others : List Part) → Committing B E t all o z (Clear ∷ others) → (b : ℕ) → IsAmong all b → IsFixed z b 0
   zero_there o z _ (clears h) = h
 
-  pub zero_durably : (s : State) (q : Progress) (rest : List Part) (x : State) (z : Progress) → IsSoundState shape s → AreNewest s.log t q →
-      Goes shape p t s (commit_parts Force t all) q (Clear ∷ rest) x z → (b : ℕ) → IsAmong all b → IsFixed z b 0
-  zero_durably s q rest x z sound h goes = zero_there (own_records t x.log) z rest (committing s q (Clear ∷ rest) x z sound h goes)
+-- the stores and the fence of the deletions, whatever else is pending
+pub zero_durably : (shape : Shape) (p t : ℕ) (all : List ℕ) (s : State) (q : Progress) (rest : List Part) (x : State) (z : Progress) →
+    Goes shape p t s (commit_parts Force t all) q (Clear ∷ rest) x z → (b : ℕ) → IsAmong all b → IsFixed z b 0
+zero_durably shape p t all s q rest x z goes = zero_there (λ o y. Unit {0}) (λ o y. Unit {0}) shape p t all (own_records t x.log) z rest
+    (committing (λ o y. Unit {0}) (λ o y. Unit {0}) shape p t all (λ o y k. tt) s q (Clear ∷ rest) x z tt goes)
 
 pub commits_meet : CommitsMeet
 commits_meet shape p t s owners q rest x z h sound first goes may force a r none last =
-    kept_reached shape t x.log z h (kept_there shape p t owners (own_records t x.log) z _ _ (committing shape p t owners s q _ x z sound first goes)) may a r (latest_own t a x.log r last)
+    kept_reached shape t x.log z h
+    (ended_there (Holds shape t) (Kept shape t) shape p t owners (own_records t x.log) z _ _
+    (committing (Holds shape t) (Kept shape t) shape p t owners (kept_fenced shape t) s q _ x z (holds_first shape t s q sound first) goes))
+    may a r (latest_own t a x.log r last)

@@ -2,13 +2,13 @@
 use Rattle.std.proofs.Common.{◌≡◌, ◌≢◌, ◌⊎◌, inl, inr, ℕ, ◌==◌, true, false, ◌<◌, ◌≤◌, [], ◌∷◌, refl, sym, ap, ◌∙◌, subst, arith}
 use Rattle.std.proofs.lemmas.Bool.Decides.{eqb_tells}
 use Rattle.persist_model.specs.Region.{Words}
-use Rattle.persist_model.specs.Progress.{Progress}
+use Rattle.persist_model.specs.Progress.{Progress, Wrote, advance_all}
 use Rattle.persist_model.specs.Records.{Record, Log, IsAmong, Has, HasNo, IsChange, IsUpdate, IsRunning}
 use Rattle.persist_model.specs.Standing.{IsToUndo, IsLatest, Stands, undone, deleted, redone, kept}
 use Rattle.persist_model.specs.Order.{last_new, Bars}
 use Rattle.persist_model.specs.Shape.{Shape, heap, part_of}
 use Rattle.persist_model.specs.State.{State, IsSoundState}
-use Rattle.persist_model.proofs.Projecting.{IsFixed, IsDue-fixed, IsFixed-aways, Reaches-fixed}
+use Rattle.persist_model.proofs.Projecting.{latest_none, IsFixed-aways, Reaches-fixed}
 use Rattle.log_laws.specs.Moves.{MayName, IsChangeBy}
 use Rattle.log_laws.specs.Recovering.{with_heap}
 use Rattle.log_laws.proofs.Deciding.{IsDecided, decide_equal, decide_either, decide_both}
@@ -20,8 +20,8 @@ use Rattle.bucket_log.specs.declared.append.Place.{Place}
 use Rattle.bucket_log.specs.declared.parts.Update.{Update}
 use Rattle.plan_records.specs.Cells.{cell_of_update, appended}
 use Rattle.plan_records.specs.Conditions.{CanUpdate, IsUpdateOf}
-use Rattle.plan_records.specs.HeapCourses.{newest, AreNewest, MayReach}
-use Rattle.plan_records.specs.HeapUpdates.{IsOldIn, IsOldOf, OldsMeet, UpdatesMeet}
+use Rattle.plan_records.specs.HeapCourses.{newest, IsInStep, MayReach}
+use Rattle.plan_records.specs.HeapUpdates.{IsOldIn, OldsMeet, UpdatesMeet}
 use Rattle.plan_records.proofs.HeapGoing.{on_log_away}
 
 last_new_none : (t a d : ℕ) (log : Log) → HasNo (IsChangeBy t a) log → last_new t a d log ≡ d
@@ -74,13 +74,15 @@ olds_meet shape x u h sound running free next old = by (latest_some (IsChangeBy 
     by (inr none) = record { undo_next = next; last = sym (last_new_none u.transaction u.word u.before x.log none); standing = value none }
 
 pub updates_meet : UpdatesMeet
-updates_meet shape x u place number z h force sound can next first old may = olds_meet shape x (appended place number (cell_of_update u)) h sound can.running.running can.free next (record {
-  own = λ r last. old.newest_value ∙ first u.word r last;
+updates_meet shape x u place number z h force sound can next step old may = olds_meet shape x (appended place number (cell_of_update u)) h sound can.running.running can.free next (record {
+  own = λ r last. old ∙ step.newest_values u.word r last;
   redone = λ none r last. absurd (force last.has.0);
-  plain = λ none nr. sym (Reaches-fixed (λ a. a ≡ u.word) _ h u.word u.before refl
-      (IsFixed-aways z u.word u.before may.0 (on_log_away shape u.word may.0 can.word.0 may.1)
-      (record { durable = durable none; none = old.still none })) may.2);
+  plain = λ none nr. sym (Reaches-fixed (λ a. a ≡ u.word) (advance_all z may.0) h u.word u.before refl
+      (IsFixed-aways z u.word u.before may.0 (on_log_away shape u.word may.0 can.word.0 may.1) (record { durable = durable none; none = still none })) may.2);
 })
   where
+    still : HasNo (IsChangeBy u.transaction u.word) x.log → (v : ℕ) → Wrote z.pending u.word v → ⊥
+    still none v k = let c = step.no_other u.word v can.word.0 k in none c.0 c.1 c.2
+
     durable : HasNo (IsChangeBy u.transaction u.word) x.log → z.durable u.word ≡ u.before
-    durable none = sym (IsDue-fixed z u.word (z.durable u.word) (record { durable = refl; none = old.still none })) ∙ sym old.newest_value
+    durable none = sym (latest_none z.pending u.word (z.durable u.word) (still none)) ∙ sym old
