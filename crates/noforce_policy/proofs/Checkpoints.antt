@@ -5,11 +5,14 @@ use Rattle.persist_model.specs.Records.{Record, Log, IsAmong, Has, HasNo, IsChec
 use Rattle.persist_model.specs.Shape.{heap_words}
 use Rattle.persist_model.specs.Standing.{IsToUndo, IsToDelete, IsToRedo, Stands, undone, deleted, redone, kept}
 use Rattle.log_laws.specs.Closing.{MayClear}
+use Rattle.log_laws.specs.Recovery.{IsCovered}
 use Rattle.log_laws.proofs.Deciding.{has_or_none, decide_to_undo}
 use Rattle.log_laws.proofs.Growing.{has_on, has_back}
 use Rattle.log_clearing.specs.Closed.{IsListed}
 use Rattle.log_clearing.proofs.ClearingStates.{closings_keep}
 use Rattle.plan_records.specs.Cells.{cell_of_checkpoint, appended}
+use Rattle.plan_records.specs.Passing.{inserted}
+use Rattle.plan_records.proofs.Passing.{inserted_first}
 use Rattle.plan_records.proofs.Records.{checkpoints_keep}
 use Rattle.noforce_policy.specs.Laws.{AreAllDeletions, CheckpointsServe}
 
@@ -53,12 +56,16 @@ module _ (policy : ℕ) (log : Log) (c : Record) (is : IsCheckpoint c) (above : 
 pub checkpoints_serve : CheckpointsServe
 checkpoints_serve shape w s chain place number owners may can all =
     let c : Record = appended place number cell_of_checkpoint in
+    let above : ((x : Record) → IsAmong s.log x → x.lsn < c.lsn) = may.passes.checkpoint refl in
+    let first : inserted c s.log ≡ c ∷ s.log = inserted_first c s.log above in
     record {
       append = checkpoints_keep shape 0 w s chain place number may can;
-      deletes = λ a m. inr (inl (deletes_behind shape.policy s.log c refl may.above a ((all a).0 m)));
-      clear = λ z v x gates ends checkpoints k same close zero reached. closings_keep shape z v x gates ends checkpoints k close.few close.has close.sound close.groups
+      deletes = λ a m. subst (λ l. IsCovered shape.policy l a) (sym first) (inr (inl (deletes_behind shape.policy s.log c refl above a ((all a).0 m))));
+      clear = λ z v x gates ends checkpoints k is close zero reached. (
+          let same : x.log ≡ c ∷ s.log = is ∙ first in
+          closings_keep shape z v x gates ends checkpoints k close.few close.has close.sound close.groups
           (subst (λ l. MayClear shape.policy l (heap_words shape v) (IsListed gates ends checkpoints)) (sym same)
-          (clear_ended shape.policy s.log c refl may.above (heap_words shape v) owners gates ends checkpoints all zero
+          (clear_ended shape.policy s.log c refl above (heap_words shape v) owners gates ends checkpoints all zero
           (subst (λ (l : Log). (r : Record) → IsAmong l r → IsListed gates ends checkpoints r ↔ ((r ≡ c) ⊎ ((r.kind ≢ 5) × IsEnded l r.transaction))) same close.ended)))
-          reached;
+          reached);
     }

@@ -1,5 +1,5 @@
 -- The laws of the plans under no-force: wherever a lane has come in one, its next part may begin.
-use Rattle.std.specs.Prelude.{◌≡◌, ◌≢◌, ◌⊎◌, ◌↔◌, ℕ, ◌≤◌, List, ◌∷◌}
+use Rattle.std.specs.Prelude.{◌≡◌, ◌≢◌, ◌⊎◌, ◌↔◌, ℕ, ◌≤◌, List}
 use Rattle.persist_model.specs.Region.{Words}
 use Rattle.persist_model.specs.Records.{Record, Log, IsAmong, Has, IsRunning, IsEnded}
 use Rattle.persist_model.specs.Shape.{Shape, heap_words}
@@ -16,6 +16,7 @@ use Rattle.log_clearing.specs.Plans.{closing_plan}
 use Rattle.log_clearing.specs.Closed.{AreGroups, IsListed}
 use Rattle.log_clearing.specs.Clearing.{IsClearing}
 use Rattle.plan_records.specs.Cells.{cell_of_checkpoint, appended}
+use Rattle.plan_records.specs.Passing.{inserted}
 use Rattle.plan_records.specs.Appends.{MayAppend, MayStandAt, AppendKeeps}
 use Rattle.plan_records.specs.Conditions.{CanCheckpoint, AreSweptIn}
 use Rattle.plan_records.specs.Courses.{GoesOn, CanCommit, CanAbort}
@@ -55,8 +56,8 @@ pub record MayCloseEnded (shape : Shape) (c : Record) (z : Words) (x : State) (g
 -- ended transactions, and c, may be closed.
 pub record CheckpointServes (shape : Shape) (w : Words) (s : State) (place : Place) (c : Record) (owners : List ℕ) : Type 0 where
   pub append : AppendKeeps shape 0 w s place c (AreSweptIn shape s)
-  pub deletes : (a : ℕ) → IsAmong owners a → IsCovered shape.policy (c ∷ s.log) a
-  pub clear : (z v : Words) (x : State) (gates ends checkpoints : List ℕ) (k : ℕ) → x.log ≡ c ∷ s.log → MayCloseEnded shape c z x gates ends checkpoints →
+  pub deletes : (a : ℕ) → IsAmong owners a → IsCovered shape.policy (inserted c s.log) a
+  pub clear : (z v : Words) (x : State) (gates ends checkpoints : List ℕ) (k : ℕ) → x.log ≡ inserted c s.log → MayCloseEnded shape c z x gates ends checkpoints →
       ((a : ℕ) → IsAmong owners a → heap_words shape v a ≡ 0) → MayStandAt shape z (closing_plan gates ends checkpoints) k v → IsClearing shape v x gates ends checkpoints
 
 abbrev pub CheckpointsServe : Type 0

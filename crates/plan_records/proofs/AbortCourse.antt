@@ -15,8 +15,9 @@ use Rattle.bucket_log.specs.Plans.{place_address}
 use Rattle.plan_records.specs.declared.cells.Outcome.TheVariants.{RolledBack}
 use Rattle.plan_records.specs.Cells.{cell_of_compensation, cell_of_rollback, cell_of_end, appended, IsCellOf}
 use Rattle.plan_records.specs.Sequences.{store_of, undo_parts}
+use Rattle.plan_records.specs.Passing.{inserted}
 use Rattle.plan_records.specs.Courses.{own_records, IsAside, Course, begins, appends, makes, meanwhile, IsCoveredStore, MayBegin, IsGoing, AreCellsOf, CanAbort, undo_end, abort_parts, AbortsGoOn}
-use Rattle.plan_records.proofs.OwnRecords.{own_first, own_in, own_out, to_undo_own, to_undo_plain, to_undo_less, to_undo_among}
+use Rattle.plan_records.proofs.OwnRecords.{own_gained, own_in, own_out, to_undo_own, to_undo_plain, to_undo_less, to_undo_among}
 use Rattle.plan_records.proofs.Going.{part_is, going_own, going_all, going_more, open_of, clear_serves}
 use Rattle.plan_records.proofs.Records.{rollbacks_keep, compensations_keep}
 use Rattle.plan_records.proofs.UndoneEnds.{undone_ends_keep}
@@ -97,12 +98,12 @@ module _ (policy : Policy) (shape : Shape) (p t : ℕ) where
   fits : (s : State) (us : List Cell) (x : State) (others : List Part) → CanAbort shape p t s.log us → Course shape p t s (abort_parts policy t us) others x →
       Fits policy shape p t (own_records t x.log) others
   fits s us _ _ can begins = comes (rolls us (going_own shape p t s.log can.going) (λ r m k. can.first r (own_out t s.log r m).0 k) (subst (AreCellsOf us) (to_undo_own t s.log) can.left))
-  fits s us _ _ can (appends {rest = others} {x = x} cell place number course inside) = by (fits s us x (Append cell ∷ others) can course)
+  fits s us _ _ can (appends {rest = others} {x = x} cell place number course inside newest) = by (fits s us x (Append cell ∷ others) can course)
     where
-      by : Fits policy shape p t (own_records t x.log) (Append cell ∷ others) → Fits policy shape p t (own_records t (appended place number cell ∷ x.log)) others
+      by : Fits policy shape p t (own_records t x.log) (Append cell ∷ others) → Fits policy shape p t (own_records t (inserted (appended place number cell) x.log)) others
       by (comes next) =
           let k = after_append (own_records t x.log) cell place number others next inside in
-          subst (λ o. Fits policy shape p t o others) (sym (own_first t (appended place number cell) x.log (k.0, kind cell others next))) k.1
+          subst (λ o. Fits policy shape p t o others) (sym (own_gained t (appended place number cell) x.log (k.0, kind cell others next) newest)) k.1
         where
           kind : (cell : Cell) (others : List Part) → Next policy shape p t (own_records t x.log) (Append cell) others → cell.kind ≢ 5
           kind _ _ (rolls us going first cells) = λ e. absurd (omega (arith, e))

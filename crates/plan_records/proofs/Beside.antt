@@ -12,11 +12,15 @@ use Rattle.log_laws.specs.Closing.{IsPart, empty, stays, goes}
 use Rattle.log_laws.proofs.Deciding.{decide_equal}
 use Rattle.log_laws.proofs.Growing.{has_back, word_is_one's}
 use Rattle.bucket_log.specs.declared.parts.Part.TheVariants.{Fence as Wait}
+use Rattle.plan_records.specs.declared.cells.Outcome.TheVariants.{Committed, RolledBack}
+use Rattle.plan_records.specs.Cells.{cell_of_end, appended}
 use Rattle.plan_records.specs.Sequences.{zero_parts, owner_parts}
+use Rattle.plan_records.specs.Passing.{inserted}
 use Rattle.plan_records.specs.Courses.{own_records, AreDeleted}
 use Rattle.plan_records.specs.Others.{OthersKeepOwn, AppendsStandInPart, EndsLeaveDeleted, word_events, OwnersAreZero}
 use Rattle.plan_records.proofs.Going.{part_is}
-use Rattle.plan_records.proofs.OwnRecords.{own_other, own_either}
+use Rattle.plan_records.proofs.Passing.{inserted_out}
+use Rattle.plan_records.proofs.OwnRecords.{own_other, own_either, own_beside}
 
 -- ---- what others do
 
@@ -27,7 +31,7 @@ own_part P t _ _ off (goes r {later = later} {log = log} p part) = own_part P t 
 
 pub others_keep_own : OthersKeepOwn
 others_keep_own = record {
-  appends = λ t log r other. own_other t r log other;
+  appends = λ t log r other. own_beside t r log other;
   closes = λ t log later gates ends checkpoints closed others. own_part _ t later log (λ r m k of. others r m k.0 of) closed.part;
 }
 
@@ -59,13 +63,22 @@ module _ (shape : Shape) (t : ℕ) (s : State) (e : Record) (h : Words) (sound :
         (inl (names, subst (λ x. IsRunning s.log x) (sym of.0) running)) (inr (d.2.0, committed)) (λ same. other (sym same ∙ of.0))))
   ]
 
+-- the same records are there, wherever the end comes
+deleted_inserted : (t : ℕ) (e : Record) (log : Log) (h : Words) → AreDeleted (e ∷ log) t h → AreDeleted (inserted e log) t h
+deleted_inserted t e log h are r m of names d = are r (inserted_out e log r m) of names
+    (d.0, inserted_out e log d.0 d.1, (d.2.0, d.2.1, (d.2.2.0, inserted_out e log d.2.2.0 d.2.2.1, d.2.2.2)))
+
 pub ends_leave_deleted : EndsLeaveDeleted
 ends_leave_deleted = record {
-  committed = λ shape t s place number h sound running zero. are_deleted shape t s _ h sound running refl refl (λ d m is own over. zero d.word (d, m, (is, refl, own)));
-  undone = λ shape t s place number h sound running. are_deleted shape t s _ h sound running refl refl (λ d m is own over. absurd (elim over.1 [
-    | inl same ↦ (let two = ap (λ (x : Record). x.outcome) same in let one = over.2.1 in omega (arith, two, one))
-    | inr k ↦ running over.0 k over.2.0
-  ]));
+  committed = λ shape t s place number h sound running zero. (
+      let e : Record = appended place number (cell_of_end t Committed) in
+      deleted_inserted t e s.log h (are_deleted shape t s e h sound running refl refl (λ d m is own over. zero d.word (d, m, (is, refl, own)))));
+  undone = λ shape t s place number h sound running. (
+      let r : Record = appended place number (cell_of_end t RolledBack) in
+      deleted_inserted t r s.log h (are_deleted shape t s r h sound running refl refl (λ d m is own over. absurd (elim over.1 [
+        | inl same ↦ (let two = ap (λ (x : Record). x.outcome) same in let one = over.2.1 in omega (arith, two, one))
+        | inr k ↦ running over.0 k over.2.0
+      ]))));
 }
 
 -- ---- the stores of deletions

@@ -13,8 +13,9 @@ use Rattle.bucket_log.specs.declared.parts.Part.TheVariants.{Append, Word, Fence
 use Rattle.plan_records.specs.declared.cells.Outcome.TheVariants.{Committed}
 use Rattle.plan_records.specs.Cells.{cell_of_end, appended}
 use Rattle.plan_records.specs.Sequences.{zero_parts, owner_parts}
+use Rattle.plan_records.specs.Passing.{inserted}
 use Rattle.plan_records.specs.Courses.{own_records, IsAside, Course, begins, appends, makes, meanwhile, MayBegin, IsGoing, AreGiven, CanCommit, commit_parts, CommitsGoOn}
-use Rattle.plan_records.proofs.OwnRecords.{own_first, own_in, own_out}
+use Rattle.plan_records.proofs.OwnRecords.{own_gained, own_in, own_out}
 use Rattle.plan_records.proofs.Going.{part_is, going_own, going_all, open_of, clear_serves}
 use Rattle.plan_records.proofs.Records.{commit_ends_write}
 
@@ -76,12 +77,12 @@ module _ (shape : Shape) (p t : ℕ) where
       first : (policy : Policy) → Fits shape p t (own_records t s.log) (commit_parts policy t owners)
       first Force = comes (waits owners (going_own shape p t s.log can.going) given)
       first NoForce = comes (ends_alone (going_own shape p t s.log can.going))
-  fits policy s owners _ _ can (appends {rest = others} {x = x} cell place number course inside) = by (fits policy s owners x (Append cell ∷ others) can course)
+  fits policy s owners _ _ can (appends {rest = others} {x = x} cell place number course inside newest) = by (fits policy s owners x (Append cell ∷ others) can course)
     where
-      by : Fits shape p t (own_records t x.log) (Append cell ∷ others) → Fits shape p t (own_records t (appended place number cell ∷ x.log)) others
+      by : Fits shape p t (own_records t x.log) (Append cell ∷ others) → Fits shape p t (own_records t (inserted (appended place number cell) x.log)) others
       by (comes next) =
           let k = after_append (own_records t x.log) cell place number others next in
-          subst (λ o. Fits shape p t o others) (sym (own_first t (appended place number cell) x.log (k.0, k.1))) k.2
+          subst (λ o. Fits shape p t o others) (sym (own_gained t (appended place number cell) x.log (k.0, k.1) newest)) k.2
   fits policy s owners _ _ can (makes {rest = others} {x = x} part course aside) = by (fits policy s owners x (part ∷ others) can course)
     where
       by : Fits shape p t (own_records t x.log) (part ∷ others) → Fits shape p t (own_records t x.log) others

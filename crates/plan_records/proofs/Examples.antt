@@ -1,7 +1,7 @@
 -- The definitions on small literal logs: one cell a bucket, two transactions, of which one is to be undone.
-use Rattle.std.proofs.Common.{◌≡◌, inl, inr, ℕ, List, [], ◌∷◌, ◌++◌, true, refl, sym, ap, arith}
+use Rattle.std.proofs.Common.{◌≡◌, ◌⊎◌, inl, inr, ℕ, ◌<◌, List, [], ◌∷◌, ◌++◌, true, refl, sym, ap, subst, arith}
 use Rattle.persist_model.specs.declared.event.Event.TheVariants.{PStore}
-use Rattle.persist_model.specs.Records.{Record, Log, IsAmong}
+use Rattle.persist_model.specs.Records.{Record, Log, IsAmong, IsOf, NamesWord}
 use Rattle.persist_model.specs.Shape.{Shape, part_of}
 use Rattle.persist_model.specs.Need.{to_undo}
 use Rattle.persist_model.specs.State.{State}
@@ -13,6 +13,7 @@ use Rattle.bucket_log.specs.declared.parts.Part.TheVariants.{Append, Word, Fence
 use Rattle.plan_records.specs.declared.cells.Outcome.TheVariants.{Committed, RolledBack}
 use Rattle.plan_records.specs.Cells.{cell_of_update, cell_of_compensation, cell_of_rollback, cell_of_end, cell_of_checkpoint, appended}
 use Rattle.plan_records.specs.Sequences.{undo_parts}
+use Rattle.plan_records.specs.Passing.{inserted, MayPass, Passes}
 use Rattle.plan_records.specs.Appends.{with_record, total_room}
 use Rattle.plan_records.specs.Courses.{own_records, Course, begins, appends, meanwhile, AreCellsOf, CanAbort, commit_parts, abort_parts}
 
@@ -127,10 +128,72 @@ plan = abort_parts Force 7 (cell_of_update second_update ∷ cell_of_update firs
 abbrev later : Record
 later = record { at = 72; lsn = 4; transaction = 8; kind = 1; word = 187; before = 0; after = 4; undo_next = 2; outcome = 0 }
 
+-- t's own records have smaller numbers
+own_before : (number : ℕ) → 3 < number → (y : Record) → IsAmong (later ∷ log) y → IsOf 7 y → y.lsn < number
+own_before number lt y (inl e) of = let is : y.transaction ≡ 8 = ap (λ (r : Record). r.transaction) e in let own = of.0 in absurd (omega (arith, is, own))
+own_before number lt y (inr (inl e)) of = let is : y.lsn ≡ 3 = ap (λ (r : Record). r.lsn) e in omega (arith, is, lt)
+own_before number lt y (inr (inr (inl e))) of = let is : y.lsn ≡ 2 = ap (λ (r : Record). r.lsn) e in omega (arith, is, lt)
+own_before number lt y (inr (inr (inr (inl e)))) of = let is : y.lsn ≡ 1 = ap (λ (r : Record). r.lsn) e in omega (arith, is, lt)
+own_before number lt y (inr (inr (inr (inr m)))) of = absurd m
+
+abbrev rollback : Record
+rollback = appended (place 80) 5 (cell_of_rollback 7)
+
 course : Course shape 0 7 (state log) plan (undo_parts Force (cell_of_update second_update ∷ cell_of_update first_update ∷ []) ++ Fence ∷ Append (cell_of_end 7 RolledBack) ∷ Clear ∷ [])
-    (with_record 0 (state (later ∷ log)) (appended (place 80) 5 (cell_of_rollback 7)))
-course = appends (cell_of_rollback 7) (place 80) 5 (meanwhile (state (later ∷ log)) begins refl) refl
+    (with_record 0 (state (later ∷ log)) rollback)
+course = appends (cell_of_rollback 7) (place 80) 5 (meanwhile (state (later ∷ log)) begins refl) refl (own_before 5 (omega arith))
 
 -- its room: a cell less
-course_room : total_room (with_record 0 (state (later ∷ log)) (appended (place 80) 5 (cell_of_rollback 7))).room 1 ≡ 4
+course_room : total_room (with_record 0 (state (later ∷ log)) rollback).room 1 ≡ 4
 course_room = refl
+
+-- ---- the other one's record was numbered behind the rollback record, and was there before it
+
+abbrev newer : Record
+newer = record { at = 72; lsn = 6; transaction = 8; kind = 1; word = 187; before = 0; after = 4; undo_next = 2; outcome = 0 }
+
+comes_between : (inserted rollback (newer ∷ log) ≡ newer ∷ rollback ∷ log) × (inserted rollback (later ∷ log) ≡ rollback ∷ later ∷ log)
+comes_between = (refl, refl)
+
+own_still : own_records 7 (inserted rollback (newer ∷ log)) ≡ rollback ∷ own_records 7 log
+own_still = refl
+
+numbers : (y : Record) → IsAmong (newer ∷ log) y → (y ≡ newer) ⊎ (y.lsn < 5)
+numbers y (inl e) = inl e
+numbers y (inr (inl e)) = inr (let is : y.lsn ≡ 3 = ap (λ (r : Record). r.lsn) e in omega (arith, is))
+numbers y (inr (inr (inl e))) = inr (let is : y.lsn ≡ 2 = ap (λ (r : Record). r.lsn) e in omega (arith, is))
+numbers y (inr (inr (inr (inl e)))) = inr (let is : y.lsn ≡ 1 = ap (λ (r : Record). r.lsn) e in omega (arith, is))
+numbers y (inr (inr (inr (inr m)))) = absurd m
+
+passes : Passes (newer ∷ log) rollback
+passes = record {
+  fresh = λ y m same. elim (numbers y m) [ inl e ↦ (let is : y.lsn ≡ 6 = ap (λ (r : Record). r.lsn) e in omega (arith, is, same)) | inr lt ↦ (let less = lt in omega (arith, less, same)) ];
+  newer = λ y m lt. elim (numbers y m) [
+    | inl e ↦ subst (λ (r : Record). MayPass rollback r) (sym e) (record {
+      other = λ of. (let eight = of.0 in omega (arith, eight));
+      no_checkpoint = λ five. omega (arith, five);
+      word = λ names. absurd (names_none names);
+    })
+    | inr less ↦ absurd (omega (arith, lt, less))
+  ];
+  checkpoint = λ check. absurd (omega (arith, check));
+}
+  where
+    names_none : NamesWord rollback → ⊥
+    names_none (inl (inl k)) = omega (arith, k)
+    names_none (inl (inr k)) = omega (arith, k)
+    names_none (inr k) = omega (arith, k)
+
+-- a record of its own transaction, a checkpoint record, and one that names its word may not be there before it
+own_may_not_pass : MayPass second first → ⊥
+own_may_not_pass h = h.other (refl, λ e. omega (arith, e))
+
+checkpoint_may_not_pass : MayPass rollback (appended (place 32) 6 cell_of_checkpoint) → ⊥
+checkpoint_may_not_pass h = h.no_checkpoint refl
+
+same_word_may_not_pass : MayPass newer (record newer { transaction = 9 }) → ⊥
+same_word_may_not_pass h = h.word (inl (inl refl)) (inl (inl refl)) refl
+
+-- and none may be there before a checkpoint record
+before_checkpoint : Passes (newer ∷ log) (appended (place 80) 5 cell_of_checkpoint) → ⊥
+before_checkpoint h = let lt = h.checkpoint refl newer (inl refl) in omega (arith, lt)

@@ -83,7 +83,10 @@ may = record {
   has = fresh.state;
   sound = sound;
   can = can;
+  passes = record { fresh = λ x m. absurd m; newer = λ x m. absurd m; checkpoint = λ check x m. absurd m };
+  top = 1;
   above = λ x m. absurd m;
+  own = omega arith;
   numbers = omega (arith, all_room);
 }
 

@@ -1,6 +1,12 @@
 pub mod PartNumbers
 mod Examples
 mod FirstAppend
+mod SecondAppend
+pub mod Passing
+pub mod PassingOrder
+pub mod PassingStands
+pub mod PassingNeeds
+pub mod PassingLaw
 pub mod Appending
 pub mod Records
 pub mod UndoneEnds

@@ -1,11 +1,13 @@
 -- What hangs on a transaction's own records alone.
-use Rattle.std.proofs.Common.{◌≡◌, ◌≢◌, ◌⊎◌, inl, inr, ℕ, true, false, [], ◌∷◌, refl, sym, ap, ◌∙◌, subst, arith}
+use Rattle.std.proofs.Common.{◌≡◌, ◌≢◌, ◌⊎◌, inl, inr, ℕ, true, false, if◌then◌else◌, [], ◌∷◌, refl, sym, ap, ◌∙◌, subst, arith}
 use Rattle.std.proofs.lemmas.Bool.{eqb-true}
 use Rattle.persist_model.specs.Records.{Record, Log, IsAmong, IsOf, IsUpdate}
 use Rattle.persist_model.specs.Need.{is_of, rest, to_undo}
 use Rattle.log_laws.proofs.Needs.{of_test}
 use Rattle.log_laws.proofs.Stacks.{IsTo, updates, compensates, neither, is_to}
-use Rattle.plan_records.specs.Courses.{own_records}
+use Rattle.plan_records.specs.Passing.{inserted}
+use Rattle.plan_records.specs.Courses.{own_records, IsAboveOwn}
+use Rattle.plan_records.proofs.Passing.{inserted_fold}
 
 abbrev Tested : ℕ → Record → Type 0
 Tested t r = ((is_of t r ≡ true) × IsOf t r) ⊎ ((is_of t r ≡ false) × (IsOf t r → ⊥))
@@ -97,3 +99,22 @@ own_other t r log off = elim (test t r) [ inl h ↦ absurd (off h.1) | inr h ↦
 
 pub own_either : (t : ℕ) (r : Record) (later log : Log) → own_records t later ≡ own_records t log → own_records t (r ∷ later) ≡ own_records t (r ∷ log)
 own_either t r later log same = elim (test t r) [ inl h ↦ (rw h.0 (ap (λ l. r ∷ l) same)) | inr h ↦ (rw h.0 same) ]
+
+-- ---- a record comes into the log
+
+abbrev own_step : ℕ → Record → Log → Log
+own_step t x l = if is_of t x then x ∷ l else l
+
+-- where it is the newest of its transaction, it comes first of its records
+pub own_gained : (t : ℕ) (r : Record) (log : Log) → IsOf t r → IsAboveOwn t log r.lsn → own_records t (inserted r log) ≡ r ∷ own_records t log
+own_gained t r log of above = inserted_fold (own_records t) (own_step t) (λ x l. refl) r log (λ x m lt z. elim (test t x) [
+  | inl h ↦ (let less = above x m h.1 in absurd (omega (arith, less, lt)))
+  | inr h ↦ (rw h.0 refl)
+]) ∙ own_first t r log of
+
+-- another transaction's leaves them as they are
+pub own_beside : (t : ℕ) (r : Record) (log : Log) → (IsOf t r → ⊥) → own_records t (inserted r log) ≡ own_records t log
+own_beside t r log off = inserted_fold (own_records t) (own_step t) (λ x l. refl) r log (λ x m lt z. elim (test t r) [
+  | inl h ↦ absurd (off h.1)
+  | inr h ↦ (rw h.0 refl)
+]) ∙ own_other t r log off

@@ -3,7 +3,9 @@ use Rattle.std.proofs.Common.{◌≡◌, ◌≢◌, ◌⊎◌, inl, inr, ℕ, Bo
 use Rattle.persist_model.specs.Records.{Record}
 use Rattle.persist_model.specs.Shape.{Shape, IsHeapWord, IsRootOwner, heap_words}
 use Rattle.persist_model.specs.ImageRecords.{IsWellFormed}
+use Rattle.persist_model.specs.Need.{has_of}
 use Rattle.log_laws.specs.Moves.{adds_update, adds_deletion, adds_rollback, adds_compensation, adds_checkpoint}
+use Rattle.log_laws.specs.Recovery.{grown}
 use Rattle.log_laws.specs.Recovering.{with_heap}
 use Rattle.log_laws.proofs.Keeping.{top_is_next}
 use Rattle.log_laws.proofs.Moving.{moves_keep, commits_keep}
@@ -15,42 +17,47 @@ use Rattle.log_clearing.proofs.ClearingStates.{sound_with_heap}
 use Rattle.log_clearing.proofs.RemovalStates.{removals_are_states, room_keeps}
 use Rattle.plan_records.specs.declared.cells.Outcome.TheVariants.{Committed}
 use Rattle.plan_records.specs.Cells.{cell_of_update, cell_of_compensation, cell_of_rollback, cell_of_end, cell_of_checkpoint, cell_of_deletion, appended}
-use Rattle.plan_records.specs.Appends.{with_record}
 use Rattle.plan_records.specs.Conditions.{IsUpdateOf, AreSweptIn, AreWritten}
 use Rattle.plan_records.specs.Laws.{UpdatesKeep, DeletionsKeep, RollbacksKeep, CompensationsKeep, CheckpointsKeep, CommitEndsWrite, StoresKeep, DropsKeep}
-use Rattle.plan_records.proofs.Appending.{takes, arrives, append_keeps, append_commits}
+use Rattle.plan_records.proofs.Appending.{takes, arrives, append_keeps, append_commits, running_raised, cells_raised, name_raised, update_raised}
 
 pub updates_keep : UpdatesKeep
 updates_keep shape p w s chain place number update may can =
     let u : Record = appended place number (cell_of_update update) in
-    let formed : IsWellFormed shape u = record {
+    let last : Record = appended place may.top (cell_of_update update) in
+    let formed : IsWellFormed shape last = record {
       kind = (omega arith, omega arith);
       transaction = inr (omega arith, can.transaction);
       change = λ _. (can.word, can.no_root);
       deletion = λ six. absurd (omega arith);
       outcome = inr (omega arith, refl);
     } in
-    let fits = update_fits shape s u (less_room p s.room) may.sound refl can.running (takes shape p w s chain place u may) can.cells in
+    let running = running_raised shape s.log u may.top can.running in
+    let fits = update_fits shape s last (less_room p s.room) may.sound refl running (takes shape p w s chain place u may)
+    (cells_raised shape s u may.top (if has_of u.transaction s.log then 2 else 4) can.cells) in
     append_keeps shape p w s chain place u may (IsUpdateOf shape s u) (λ h c sound.
-    moves_keep shape (with_heap s h) (with_heap (with_record p s u) h) sound
-    (adds_update u (less_room p s.room) (arrives shape p w s chain place u may formed fits h)
-    (record { running = can.running.running; one_part = can.running.one_part }) refl can.free c))
+    moves_keep shape (with_heap s h) (with_heap (grown s last (less_room p s.room)) h) sound
+    (adds_update last (less_room p s.room) (arrives shape p w s chain place u may formed fits h)
+    running refl (name_raised s.log u may.top can.free) (update_raised shape.policy (with_heap s h) u may.top c)))
 
 pub deletions_keep : DeletionsKeep
 deletions_keep shape p w s chain place number giving may can =
     let d : Record = appended place number (cell_of_deletion giving) in
-    let formed : IsWellFormed shape d = record {
+    let last : Record = appended place may.top (cell_of_deletion giving) in
+    let formed : IsWellFormed shape last = record {
       kind = (omega arith, omega arith);
       transaction = inr (omega arith, can.transaction);
       change = λ c. elim c [ inl x ↦ absurd (omega (arith, x)) | inr x ↦ absurd (omega (arith, x)) ];
       deletion = λ _. can.block;
       outcome = inr (omega arith, refl);
     } in
-    let fits = deletion_fits shape s d (less_room p s.room) may.sound refl can.running (takes shape p w s chain place d may) can.cells in
+    let running = running_raised shape s.log d may.top can.running in
+    let fits = deletion_fits shape s last (less_room p s.room) may.sound refl running (takes shape p w s chain place d may)
+    (cells_raised shape s d may.top (if has_of d.transaction s.log then 1 else 3) can.cells) in
     append_keeps shape p w s chain place d may (λ h. Unit {0}) (λ h c sound.
-    moves_keep shape (with_heap s h) (with_heap (with_record p s d) h) sound
-    (adds_deletion d (less_room p s.room) (arrives shape p w s chain place d may formed fits h)
-    (record { running = can.running.running; one_part = can.running.one_part }) refl can.free))
+    moves_keep shape (with_heap s h) (with_heap (grown s last (less_room p s.room)) h) sound
+    (adds_deletion last (less_room p s.room) (arrives shape p w s chain place d may formed fits h)
+    running refl (name_raised s.log d may.top can.free)))
 
 -- a record that names no word
 pub plain_formed : (shape : Shape) (r : Record) → 3 ≤ r.kind → r.kind ≤ 5 → ((r.kind ≡ 5) × (r.transaction ≡ 0)) ⊎ ((r.kind ≢ 5) × (1 ≤ r.transaction)) →
@@ -66,31 +73,33 @@ plain_formed shape r low high transaction outcome = record {
 pub rollbacks_keep : RollbacksKeep
 rollbacks_keep shape p w s chain place number transaction may can =
     let r : Record = appended place number (cell_of_rollback transaction) in
-    let formed = plain_formed shape r (omega arith) (omega arith) (inr (omega arith, can.open_one.transaction)) (inr (omega arith, refl)) in
-    let fits = rollback_fits shape s r (less_room p s.room) may.sound refl can.open_one.running (takes shape p w s chain place r may) can.open_one.some can.first in
+    let last : Record = appended place may.top (cell_of_rollback transaction) in
+    let formed = plain_formed shape last (omega arith) (omega arith) (inr (omega arith, can.open_one.transaction)) (inr (omega arith, refl)) in
+    let running = running_raised shape s.log r may.top can.open_one.running in
+    let fits = rollback_fits shape s last (less_room p s.room) may.sound refl running (takes shape p w s chain place r may) can.open_one.some can.first in
     append_keeps shape p w s chain place r may (λ h. Unit {0}) (λ h c sound.
-    moves_keep shape (with_heap s h) (with_heap (with_record p s r) h) sound
-    (adds_rollback r (less_room p s.room) (arrives shape p w s chain place r may formed fits h)
-    (record { running = can.open_one.running.running; one_part = can.open_one.running.one_part }) refl can.first))
+    moves_keep shape (with_heap s h) (with_heap (grown s last (less_room p s.room)) h) sound
+    (adds_rollback last (less_room p s.room) (arrives shape p w s chain place r may formed fits h) running refl can.first))
 
 pub compensations_keep : CompensationsKeep
 compensations_keep shape p w s chain place number u cell is may can =
     let c : Record = appended place number (cell_of_compensation cell) in
+    let last : Record = appended place may.top (cell_of_compensation cell) in
     let next = top_is_next shape s c.transaction u can.stack may.sound can.open_one.running.running can.newest in
     let formed_u = may.sound.formed u next.among in
-    let word : c.word ≡ u.word = ap (λ (x : Record). x.word) is in
-    let formed : IsWellFormed shape c = record {
+    let word : last.word ≡ u.word = ap (λ (x : Record). x.word) is in
+    let formed : IsWellFormed shape last = record {
       kind = (omega arith, omega arith);
       transaction = inr (omega arith, can.open_one.transaction);
       change = λ _. subst (λ a. IsHeapWord shape a × (IsRootOwner shape a → ⊥)) (sym word) (formed_u.change (inl next.update));
       deletion = λ six. absurd (omega arith);
       outcome = inr (omega arith, refl);
     } in
-    let fits = compensation_fits shape s c u can.stack (less_room p s.room) may.sound refl can.open_one.running (takes shape p w s chain place c may) can.open_one.some can.newest in
+    let running = running_raised shape s.log c may.top can.open_one.running in
+    let fits = compensation_fits shape s last u can.stack (less_room p s.room) may.sound refl running (takes shape p w s chain place c may) can.open_one.some can.newest in
     append_keeps shape p w s chain place c may (λ h. Unit {0}) (λ h on sound.
-    moves_keep shape (with_heap s h) (with_heap (with_record p s c) h) sound
-    (adds_compensation c u can.stack (less_room p s.room) (arrives shape p w s chain place c may formed fits h)
-    (record { running = can.open_one.running.running; one_part = can.open_one.running.one_part }) refl can.newest
+    moves_keep shape (with_heap s h) (with_heap (grown s last (less_room p s.room)) h) sound
+    (adds_compensation last u can.stack (less_room p s.room) (arrives shape p w s chain place c may formed fits h) running refl can.newest
     (record {
       word = word;
       before = ap (λ (x : Record). x.after) is;
@@ -101,21 +110,24 @@ compensations_keep shape p w s chain place number u cell is may can =
 pub checkpoints_keep : CheckpointsKeep
 checkpoints_keep shape p w s chain place number may can =
     let c : Record = appended place number cell_of_checkpoint in
-    let formed = plain_formed shape c (omega arith) (omega arith) (inl (refl, refl)) (inr (omega arith, refl)) in
-    let fits = checkpoint_fits shape s c (less_room p s.room) may.sound refl (takes shape p w s chain place c may) can.cells in
+    let last : Record = appended place may.top cell_of_checkpoint in
+    let formed = plain_formed shape last (omega arith) (omega arith) (inl (refl, refl)) (inr (omega arith, refl)) in
+    let fits = checkpoint_fits shape s last (less_room p s.room) may.sound refl (takes shape p w s chain place c may) (cells_raised shape s c may.top 1 can.cells) in
     append_keeps shape p w s chain place c may (AreSweptIn shape s) (λ h swept sound.
-    moves_keep shape (with_heap s h) (with_heap (with_record p s c) h) sound
-    (adds_checkpoint c (less_room p s.room) (arrives shape p w s chain place c may formed fits h) refl swept))
+    moves_keep shape (with_heap s h) (with_heap (grown s last (less_room p s.room)) h) sound
+    (adds_checkpoint last (less_room p s.room) (arrives shape p w s chain place c may formed fits h) refl swept))
 
 pub commit_ends_write : CommitEndsWrite
 commit_ends_write shape p w s chain place number transaction may can =
     let e : Record = appended place number (cell_of_end transaction Committed) in
-    let formed = plain_formed shape e (omega arith) (omega arith) (inr (omega arith, can.transaction)) (inl (refl, inl refl)) in
-    let fits = end_fits shape s e (less_room p s.room) may.sound refl can.running (takes shape p w s chain place e may) can.some in
+    let last : Record = appended place may.top (cell_of_end transaction Committed) in
+    let formed = plain_formed shape last (omega arith) (omega arith) (inr (omega arith, can.transaction)) (inl (refl, inl refl)) in
+    let running = running_raised shape s.log e may.top can.running in
+    let fits = end_fits shape s last (less_room p s.room) may.sound refl running (takes shape p w s chain place e may) can.some in
     append_commits shape p w s chain place e may (AreWritten shape s transaction) (λ h written sound.
-    commits_keep shape (with_heap s h) e (less_room p s.room) sound (record {
+    commits_keep shape (with_heap s h) last (less_room p s.room) sound (record {
       arrives = arrives shape p w s chain place e may formed fits h;
-      of = record { running = can.running.running; one_part = can.running.one_part };
+      of = running;
       end = refl;
       outcome = refl;
       forced = written;

@@ -14,8 +14,9 @@ use Rattle.bucket_log.specs.declared.parts.Part.{Part}
 use Rattle.bucket_log.specs.declared.parts.Part.TheVariants.{Append, Word}
 use Rattle.plan_records.specs.Cells.{cell_of_update, cell_of_deletion, appended}
 use Rattle.plan_records.specs.Sequences.{store_of}
+use Rattle.plan_records.specs.Passing.{inserted}
 use Rattle.plan_records.specs.Courses.{own_records, IsAside, Course, begins, appends, makes, meanwhile, IsCoveredStore, MayBegin, write_parts, give_parts, WritesGoOn, GivesGoOn}
-use Rattle.plan_records.proofs.OwnRecords.{own_first, own_in, own_out}
+use Rattle.plan_records.proofs.OwnRecords.{own_gained, own_in, own_out}
 use Rattle.plan_records.proofs.Records.{updates_keep, deletions_keep}
 
 -- ---- a write
@@ -51,12 +52,12 @@ module _ (policy : Policy) (shape : Shape) (p : ℕ) (u : Update) where
 
   fits : (s : State) (x : State) (others : List Part) → IsRunning s.log u.transaction → Course shape p u.transaction s (write_parts policy u) others x → Fits policy u (own_records u.transaction x.log) others
   fits s _ _ running begins = comes (notes (running_own u.transaction s.log running))
-  fits s _ _ running (appends {rest = others} {x = x} cell place number course inside) = by (fits s x (Append cell ∷ others) running course)
+  fits s _ _ running (appends {rest = others} {x = x} cell place number course inside newest) = by (fits s x (Append cell ∷ others) running course)
     where
-      by : Fits policy u (own_records u.transaction x.log) (Append cell ∷ others) → Fits policy u (own_records u.transaction (appended place number cell ∷ x.log)) others
+      by : Fits policy u (own_records u.transaction x.log) (Append cell ∷ others) → Fits policy u (own_records u.transaction (inserted (appended place number cell) x.log)) others
       by (comes next) =
           let k = after_append (own_records u.transaction x.log) cell place number others next in
-          subst (λ o. Fits policy u o others) (sym (own_first u.transaction (appended place number cell) x.log (k.0, k.1))) k.2
+          subst (λ o. Fits policy u o others) (sym (own_gained u.transaction (appended place number cell) x.log (k.0, k.1) newest)) k.2
   fits s _ _ running (makes {rest = others} {x = x} part course aside) = by (fits s x (part ∷ others) running course)
     where
       by : Fits policy u (own_records u.transaction x.log) (part ∷ others) → Fits policy u (own_records u.transaction x.log) others
@@ -94,7 +95,7 @@ data IsGiving (g : Giving) : List Part → Type 0 where
 
 giving : (shape : Shape) (p : ℕ) (g : Giving) (s x : State) (others : List Part) → Course shape p g.transaction s (give_parts g) others x → IsGiving g others
 giving shape p g s _ _ begins = gives
-giving shape p g s _ _ (appends {rest = others} {x = x} cell place number course inside) = by cell others (giving shape p g s x (Append cell ∷ others) course)
+giving shape p g s _ _ (appends {rest = others} {x = x} cell place number course inside newest) = by cell others (giving shape p g s x (Append cell ∷ others) course)
   where
     by : (cell : Cell) (rest : List Part) → IsGiving g (Append cell ∷ rest) → IsGiving g rest
     by _ _ gives = given

@@ -1,5 +1,5 @@
 -- A record that comes into the middle of the log: newer records of other partitions drew their numbers later, and were there before it.
-use Rattle.std.specs.Prelude.{◌≡◌, ◌≢◌, ◌↔◌, ℕ, ◌<◌, ◌≤◌, nat_lt, if◌then◌else◌, [], ◌∷◌}
+use Rattle.std.specs.Prelude.{◌≢◌, ◌↔◌, ℕ, ◌<◌, ◌≤◌, nat_lt, if◌then◌else◌, [], ◌∷◌}
 use Rattle.persist_model.specs.Records.{Record, Log, IsAmong, IsOf, IsCheckpoint, NamesWord}
 use Rattle.persist_model.specs.Shape.{Shape}
 use Rattle.persist_model.specs.Standing.{Stands}
