@@ -26,6 +26,7 @@ use Rattle.plan_records.specs.HeapCourses.{Goes, MayReach}
 use Rattle.plan_records.specs.HeapClears.{AreOwn, AreAllGiven, ClearsMeet}
 use Rattle.plan_records.proofs.OwnRecords.{own_in, own_out, to_undo_among}
 use Rattle.plan_records.proofs.HeapOthers.{names_some}
+use Rattle.plan_records.proofs.HeapRegions.{owner_is_heap_word}
 use Rattle.plan_records.proofs.HeapGoing.{on_log_away, goes_fit}
 use Rattle.plan_records.proofs.HeapCommits.{Committing, fences, ends, deletes, fences_again, clears, commit_own, commit_add, commit_store, commit_wait, zero_durably}
 
@@ -36,10 +37,7 @@ owner_high : (shape : Shape) (p t : ℕ) (s : State) (owners : List ℕ) → IsS
 owner_high shape p t s owners sound can a m =
     let d = can.given a m in
     let is = (sound.formed d.0 d.1).deletion d.2.0 in
-    subst (λ b. heap shape ≤ b) d.2.1 (at_block d.0.word is)
-  where
-    at_block : (b : ℕ) → IsPlainOwner shape b → heap shape ≤ b
-    at_block b k = let e : b ≡ heap shape + 16 * k.0 = k.3 in omega (arith, e)
+    subst (λ b. heap shape ≤ b) d.2.1 (owner_is_heap_word shape d.0.word is).0
 
 zero : (shape : Shape) (p t : ℕ) (s : State) (owners : List ℕ) (q : Progress) (rest : List Part) (x : State) (z : Progress) (h : Words) →
     IsSoundState shape s → CanCommit shape p t s.log owners → Goes shape p t s (commit_parts Force t owners) q (Clear ∷ rest) x z →

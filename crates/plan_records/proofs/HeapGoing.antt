@@ -23,8 +23,8 @@ use Rattle.plan_records.specs.Passing.{inserted}
 use Rattle.plan_records.specs.Courses.{own_records, Course, begins, appends, makes, meanwhile}
 use Rattle.plan_records.specs.HeapCourses as heap_courses
 use Rattle.plan_records.specs.HeapCourses.{newest, IsChanged, AreNewest, Goes, MayReach, GoesAreCourses}
-use Rattle.plan_records.proofs.OwnRecords.{own_in, own_out}
-use Rattle.plan_records.proofs.HeapOwn.{own_inserted, change_of, latest_changed, latest_same}
+use Rattle.plan_records.proofs.OwnRecords.{own_in, own_out, own_gained}
+use Rattle.plan_records.proofs.HeapOwn.{change_of, latest_changed, latest_same}
 
 pub goes_are_courses : GoesAreCourses
 goes_are_courses shape p t s plan q _ _ _ heap_courses.begins = begins
@@ -147,7 +147,7 @@ goes_fit shape p t s plan q At own add store wait first _ _ _ (heap_courses.appe
     let fit = goes_fit shape p t s plan q At own add store wait first (Append cell ∷ others) x z goes in
     let of : IsOf t (appended place number cell) = own (own_records t x.log) z cell others fit in
     subst (λ o. At o (advance_all z (region_append shape p place (appended place number cell))) others)
-    (sym (own_inserted t (appended place number cell) x.log of above))
+    (sym (own_gained t (appended place number cell) x.log of above))
     (add (own_records t x.log) z cell others place number fit (λ y m k. above y (own_out t x.log y m).0 k) on)
 goes_fit shape p t s plan q At own add store wait first _ _ _ (heap_courses.stores {rest = others} {x = x} {z = z} e goes) =
     store (own_records t x.log) z e others (goes_fit shape p t s plan q At own add store wait first (Word e ∷ others) x z goes)

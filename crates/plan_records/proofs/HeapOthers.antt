@@ -11,7 +11,7 @@ use Rattle.log_laws.proofs.Growing.{word_is_one's}
 use Rattle.log_clearing.specs.Closed.{IsListed}
 use Rattle.plan_records.specs.Passing.{inserted}
 use Rattle.plan_records.specs.HeapClears.{AreOwn, WordsStayOwn}
-use Rattle.plan_records.proofs.HeapOwn.{inserted_in, inserted_old}
+use Rattle.plan_records.proofs.Passing.{inserted_out, inserted_in}
 
 names_of : (log : Log) (s : Record) → Bars log s → NamesWord s
 names_of log s (inl k) = k.0
@@ -36,8 +36,8 @@ own_running shape t s sound running r m of names y k h = word_is_one's (part_of 
 
 -- what bars behind a record of another transaction, or behind one that is no end, barred before
 bars_inserted : (e : Record) (log : Log) (s : Record) → IsAmong log s → (IsEnd e → s.transaction ≡ e.transaction → IsRunning log e.transaction) → Bars (inserted e log) s → Bars log s
-bars_inserted e log s m runs (inl k) = inl (k.0, λ x n end. k.1 x (inserted_old e log x n) end)
-bars_inserted e log s m runs (inr k) = elim (inserted_in e log k.1.0 k.1.1) [
+bars_inserted e log s m runs (inl k) = inl (k.0, λ x n end. k.1 x (inserted_in e log x (inr n)) end)
+bars_inserted e log s m runs (inr k) = elim (inserted_out e log k.1.0 k.1.1) [
   | inr n ↦ inr (k.0, (k.1.0, n, k.1.2))
   | inl same ↦ (
       let owner : s.transaction ≡ e.transaction = sym k.1.2.0.1 ∙ ap (λ (x : Record). x.transaction) same in
@@ -46,9 +46,9 @@ bars_inserted e log s m runs (inr k) = elim (inserted_in e log k.1.0 k.1.1) [
 ]
 
 own_ends : (t : ℕ) (log : Log) (e : Record) → IsEnd e → e.transaction ≡ t → AreOwn t log → AreOwn t (inserted e log)
-own_ends t log e end owner own r m of names y k h = elim (inserted_in e log r m) [
+own_ends t log e end owner own r m of names y k h = elim (inserted_out e log r m) [
   | inl same ↦ end_names r (subst IsEnd (sym same) end) names
-  | inr n ↦ elim (inserted_in e log y k) [
+  | inr n ↦ elim (inserted_out e log y k) [
     | inl same ↦ end_names y (subst IsEnd (sym same) end) (names_of (inserted e log) y h.2)
     | inr j ↦ own r n of names y j (h.0, h.1, bars_inserted e log y j (λ _ same. absurd (h.1 (same ∙ owner))) h.2)
   ]
@@ -56,9 +56,9 @@ own_ends t log e end owner own r m of names y k h = elim (inserted_in e log r m)
 
 own_appends : (t : ℕ) (log : Log) (e : Record) → (IsOf t e → ⊥) → (NamesWord e → HasNo (λ x. IsOf t x × NamesWord x × (x.word ≡ e.word)) log) →
     (IsEnd e → IsRunning log e.transaction) → AreOwn t log → AreOwn t (inserted e log)
-own_appends t log e other apart runs own r m of names y k h = elim (inserted_in e log r m) [
+own_appends t log e other apart runs own r m of names y k h = elim (inserted_out e log r m) [
   | inl same ↦ other (subst (IsOf t) same of)
-  | inr n ↦ elim (inserted_in e log y k) [
+  | inr n ↦ elim (inserted_out e log y k) [
     | inl same ↦ apart (subst NamesWord same (names_of (inserted e log) y h.2)) r n (of, names, sym h.0 ∙ ap (λ (x : Record). x.word) same)
     | inr j ↦ own r n of names y j (h.0, h.1, bars_inserted e log y j (λ end _. runs end) h.2)
   ]

@@ -1,59 +1,13 @@
--- The own records of a transaction behind its append, and its last changes of words.
+-- A transaction's last changes of words.
 use Rattle.std.proofs.Common.{◌≡◌, ◌≢◌, ◌⊎◌, inl, inr, ℕ, ◌<◌, true, false, [], ◌∷◌, refl, sym, ap, ◌∙◌, subst, arith}
-use Rattle.std.specs.Prelude.{nat_lt}
-use Rattle.std.proofs.lemmas.Bool.Decides.{nat_tests}
 use Rattle.persist_model.specs.Progress.{Progress}
 use Rattle.persist_model.specs.Records.{Record, Log, IsAmong, IsOf, IsChange}
 use Rattle.persist_model.specs.Standing.{IsLatest}
 use Rattle.log_laws.specs.Moves.{IsChangeBy}
 use Rattle.log_laws.proofs.Deciding.{decide_equal}
-use Rattle.plan_records.specs.Passing.{inserted}
-use Rattle.plan_records.specs.Courses.{own_records, IsAboveOwn}
+use Rattle.plan_records.specs.Courses.{own_records}
 use Rattle.plan_records.specs.HeapCourses.{IsChanged, AreNewest}
-use Rattle.plan_records.proofs.OwnRecords.{own_first, own_in, own_out, own_other, own_either}
-
--- ---- an inserted record
-
-abbrev pub IsBelow : Record → Record → Type 0
-IsBelow r x = ((nat_lt r.lsn x.lsn ≡ true) × (r.lsn < x.lsn)) ⊎ (nat_lt r.lsn x.lsn ≡ false)
-
-pub below : (r x : Record) → IsBelow r x
-below r x = by_numbers r.lsn x.lsn
-  where
-    by_numbers : (m n : ℕ) → ((nat_lt m n ≡ true) × (m < n)) ⊎ (nat_lt m n ≡ false)
-    by_numbers m n = grind (arith, nat_tests)
-
-pub inserted_in : (r : Record) (log : Log) (x : Record) → IsAmong (inserted r log) x → (x ≡ r) ⊎ IsAmong log x
-inserted_in r [] x m = m
-inserted_in r (y ∷ log) x m = by (below r y) (λ k. inserted_in r log x k)
-  where
-    later : (x ≡ y) ⊎ IsAmong (inserted r log) x → (IsAmong (inserted r log) x → (x ≡ r) ⊎ IsAmong log x) → (x ≡ r) ⊎ IsAmong (y ∷ log) x
-    later (inl e) again = inr (inl e)
-    later (inr k) again = elim (again k) [ inl e ↦ inl e | inr n ↦ inr (inr n) ]
-
-    by : IsBelow r y → (IsAmong (inserted r log) x → (x ≡ r) ⊎ IsAmong log x) → (x ≡ r) ⊎ IsAmong (y ∷ log) x
-    by (inl lt) again = later (rw lt.0 at m) again
-    by (inr off) again = rw off at m
-
-pub inserted_old : (r : Record) (log : Log) (x : Record) → IsAmong log x → IsAmong (inserted r log) x
-inserted_old r [] x m = absurd m
-inserted_old r (y ∷ log) x m = by (below r y) m (λ k. inserted_old r log x k)
-  where
-    by : IsBelow r y → (x ≡ y) ⊎ IsAmong log x → (IsAmong log x → IsAmong (inserted r log) x) → IsAmong (inserted r (y ∷ log)) x
-    by (inl lt) (inl e) again = rw lt.0 (inl e)
-    by (inl lt) (inr k) again = rw lt.0 (inr (again k))
-    by (inr off) k again = rw off (inr k)
-
--- a record of t above all of t's is the first of its own
-pub own_inserted : (t : ℕ) (r : Record) (log : Log) → IsOf t r → IsAboveOwn t log r.lsn → own_records t (inserted r log) ≡ r ∷ own_records t log
-own_inserted t r [] of above = own_first t r [] of
-own_inserted t r (x ∷ log) of above = by (below r x) (own_inserted t r log of (λ y m k. above y (inr m) k))
-  where
-    by : IsBelow r x → own_records t (inserted r log) ≡ r ∷ own_records t log → own_records t (inserted r (x ∷ log)) ≡ r ∷ own_records t (x ∷ log)
-    by (inl lt) again =
-        let other : IsOf t x → ⊥ = λ k. (let up = above x (inl refl) k in let less = lt.1 in omega (arith, up, less)) in
-        rw lt.0 (own_other t x (inserted r log) other ∙ again ∙ ap (λ l. r ∷ l) (sym (own_other t x log other)))
-    by (inr off) again = rw off (own_first t r (x ∷ log) of)
+use Rattle.plan_records.proofs.OwnRecords.{own_in, own_out}
 
 -- ---- the last change of a word
 

@@ -22,6 +22,6 @@ mod HeapWrites
 mod HeapCommits
 mod HeapAborts
 mod HeapOthers
+mod HeapRegions
 mod HeapClears
 mod HeapUpdates
-mod HeapRegions

@@ -25,7 +25,7 @@ use Rattle.plan_records.specs.declared.cells.Outcome.TheVariants.{Committed, Rol
 use Rattle.plan_records.specs.Cells.{cell_of_end, appended}
 use Rattle.plan_records.specs.Appends.{MayAppend, with_record}
 use Rattle.plan_records.specs.Conditions.{AreWritten, AreLast}
-use Rattle.plan_records.specs.Courses.{own_records, IsAboveOwn, Course, MayCloseOwn, CanAbort, write_parts, give_parts, commit_parts, abort_parts}
+use Rattle.plan_records.specs.Courses.{own_records, IsAboveOwn, Course, MayCloseOwn, AreGiven, CanAbort, write_parts, give_parts, commit_parts, abort_parts}
 
 -- the lane's newest value of a, which is durable once the lane fences
 abbrev pub newest : Progress → ℕ → ℕ
@@ -124,13 +124,15 @@ pub record NoForceMeets : Type 0 where
   pub written : (shape : Shape) (x : State) (t : ℕ) (h : Words) → shape.policy ≡ 2 → AreWritten shape x t h
   pub last : (shape : Shape) (x : State) (t : ℕ) (h : Words) → shape.policy ≡ 2 → AreLast shape x t h
 
--- Where a region tracks the lane's progress on heap words, each image's own heap words are as that progress reaches.
-abbrev pub HeapImagesReach : Type 0
-HeapImagesReach = (shape : Shape) (test : ℕ → Bool) (lane : ℕ) (z : Progress) (region : Region) (i : Words) → ((a : ℕ) → IsTrue (test a) → IsHeapWord shape a) →
-    AreInside (λ a. IsTrue (test a)) region → MayStand i region → Tracks (λ a. IsTrue (test a)) lane z region → Reaches (λ a. IsTrue (test a)) z (heap_words shape i)
-
--- Where a region tracks the progress on the words that t changed, so it is of them.
-abbrev pub ChangedImagesReach : Type 0
-ChangedImagesReach = (shape : Shape) (t : ℕ) (x : State) (test : ℕ → Bool) (lane : ℕ) (z : Progress) (events : List Event) (region : Region) (i : Words) →
-    IsSoundState shape x → AreOnLog shape events → ((a : ℕ) → IsChanged x.log t a → IsTrue (test a)) → AreInside (λ a. IsTrue (test a)) region → MayStand i region →
-    Tracks (λ a. IsTrue (test a)) lane (advance_all z events) region → MayReach shape (IsChanged x.log t) z (heap_words shape i)
+-- Where a region tracks the lane's progress, in which it has made events on the log's words since z, each image's own heap words are as they may
+-- be found: those that t changed, the owner words of blocks that it gave back, and any one word. The tracked words are given by a test.
+pub record HeapImagesReach : Type 0 where
+  pub changed : (shape : Shape) (t : ℕ) (x : State) (test : ℕ → Bool) (lane : ℕ) (z : Progress) (events : List Event) (region : Region) (i : Words) →
+      IsSoundState shape x → ((a : ℕ) → IsChanged x.log t a → IsTrue (test a)) → AreOnLog shape events → AreInside (λ a. IsTrue (test a)) region → MayStand i region →
+      Tracks (λ a. IsTrue (test a)) lane (advance_all z events) region → MayReach shape (IsChanged x.log t) z (heap_words shape i)
+  pub owners : (shape : Shape) (t : ℕ) (x : State) (owners : List ℕ) (test : ℕ → Bool) (lane : ℕ) (z : Progress) (events : List Event) (region : Region) (i : Words) →
+      IsSoundState shape x → AreGiven t x.log owners → ((a : ℕ) → IsAmong owners a → IsTrue (test a)) → AreOnLog shape events → AreInside (λ a. IsTrue (test a)) region →
+      MayStand i region → Tracks (λ a. IsTrue (test a)) lane (advance_all z events) region → MayReach shape (IsAmong owners) z (heap_words shape i)
+  pub word : (shape : Shape) (a : ℕ) (test : ℕ → Bool) (lane : ℕ) (z : Progress) (events : List Event) (region : Region) (i : Words) →
+      IsHeapWord shape a → IsTrue (test a) → AreOnLog shape events → AreInside (λ b. IsTrue (test b)) region → MayStand i region →
+      Tracks (λ b. IsTrue (test b)) lane (advance_all z events) region → MayReach shape (λ b. b ≡ a) z (heap_words shape i)

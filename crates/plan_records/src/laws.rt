@@ -24,7 +24,6 @@ ghost use Rattle.plan_records.specs.HeapCourses.{
   AbortsMeet,
   NoForceMeets,
   HeapImagesReach,
-  ChangedImagesReach,
 };
 ghost use Rattle.plan_records.specs.HeapClears.{WordsStayOwn, ClearsMeet};
 ghost use Rattle.plan_records.specs.HeapUpdates.{OldsMeet, UpdatesMeet};
@@ -185,12 +184,7 @@ pub fn updates_meet()
     ensures { UpdatesMeet }
 {}
 
-/// Each image's heap words are as the tracked progress of a lane reaches,
+/// Where a region tracks a lane's progress, each image's heap words are as that progress reaches.
 pub fn heap_images_reach()
     ensures { HeapImagesReach }
-{}
-
-/// and so are those that a transaction changed.
-pub fn changed_images_reach()
-    ensures { ChangedImagesReach }
 {}

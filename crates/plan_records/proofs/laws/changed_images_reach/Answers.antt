@@ -1,5 +1,0 @@
-use Rattle.plan_records.proofs.HeapRegions as lemmas
-use Rattle.plan_records.proofs.laws.changed_images_reach.Goals as goal
-
-pub returns : goal.returns
-returns c = lemmas.changed_images_reach
