@@ -5,7 +5,7 @@ use Rattle.std.proofs.lemmas.Bool.{ltb-true}
 use Rattle.std.proofs.lemmas.Bool.Decides.{nat_tests, eqb_tells}
 use Rattle.persist_model.specs.declared.event.Event.{Event}
 use Rattle.persist_model.specs.declared.event.Event.TheVariants.{Fence}
-use Rattle.persist_model.specs.Region.{Words, Region, MayStand, AreInside}
+use Rattle.persist_model.specs.Region.{Words, Region}
 use Rattle.persist_model.specs.Progress.{Progress, Wrote, latest, advance_all, Reaches, Tracks, IsWordOf, AreSettledAt}
 use Rattle.persist_model.specs.Records.{Record, Log, IsAmong}
 use Rattle.persist_model.specs.Shape.{Shape, heap, words_of_shape, IsHeapWord, IsPlainOwner, heap_words, log_words}
@@ -28,7 +28,7 @@ use Rattle.bucket_log.proofs.Partitions.{part_word_below, log_word_out}
 use Rattle.log_clearing.specs.Plans.{closes, group, closing_plan}
 use Rattle.plan_records.specs.Appends.{MayAppend}
 use Rattle.plan_records.specs.Courses.{MayCloseOwn}
-use Rattle.plan_records.specs.HeapCourses.{newest, IsChanged, IsInStep, taking, MayReach, LogPlansAreOnLog, WordsAreTaken, HeapImagesReach}
+use Rattle.plan_records.specs.HeapCourses.{newest, IsChanged, IsInStep, taking, MayReach, IsTrackedImage, LogPlansAreOnLog, WordsAreTaken, HeapImagesReach}
 
 on_log_take : (shape : Shape) (k : ℕ) (es : List Event) → AreOnLog shape es → AreOnLog shape (take k es)
 on_log_take shape zero es on = tt
@@ -97,11 +97,10 @@ heap_word_is shape w a m = by (heap shape) (words_of_shape shape) m.0 m.1
 
 -- of the tracked words those of A are as they may be found
 may_reach : (A : ℕ → Type 0) (shape : Shape) (test : ℕ → Bool) (lane : ℕ) (z : Progress) (events : List Event) (region : Region) (i : Words) → ((a : ℕ) → A a → IsHeapWord shape a) →
-    ((a : ℕ) → A a → IsTrue (test a)) → AreOnLog shape events → AreInside (λ a. IsTrue (test a)) region → MayStand i region →
-    Tracks (λ a. IsTrue (test a)) lane (advance_all z events) region → MayReach shape A z (heap_words shape i)
-may_reach A shape test lane z events region i heap_word has on inside image tracks = (events, on, λ a m.
+    ((a : ℕ) → A a → IsTrue (test a)) → AreOnLog shape events → IsTrackedImage test lane z events region i → MayReach shape A z (heap_words shape i)
+may_reach A shape test lane z events region i heap_word has on of = (events, on, λ a m.
     subst (λ n. (n ≡ (advance_all z events).durable a) ⊎ Wrote (advance_all z events).pending a n) (sym (heap_word_is shape i a (heap_word a m)))
-    (Reaches-image (λ b. IsTrue (test b)) lane (advance_all z events) region i inside image tracks a (has a m)))
+    (Reaches-image (λ b. IsTrue (test b)) lane (advance_all z events) region i of.inside of.image of.tracks a (has a m)))
 
 -- a plain owner word is a heap word
 pub owner_is_heap_word : (shape : Shape) (a : ℕ) → IsPlainOwner shape a → IsHeapWord shape a
@@ -111,7 +110,7 @@ pub heap_images_reach : HeapImagesReach
 heap_images_reach = record {
   changed = λ shape t x test lane z events region i sound has. may_reach (IsChanged x.log t) shape test lane z events region i
       (λ a m. subst (λ b. IsHeapWord shape b) m.2.1 ((sound.formed m.0 m.1).change m.2.0).0) has;
-  owners = λ shape t x owners test lane z events region i sound given has. may_reach (IsAmong owners) shape test lane z events region i
+  owners = λ shape t s owners test lane z events region i sound given has. may_reach (IsAmong owners) shape test lane z events region i
       (λ a m. (let d = given a m in subst (λ b. IsHeapWord shape b) d.2.1 (owner_is_heap_word shape d.0.word ((sound.formed d.0 d.1).deletion d.2.0)))) has;
   word = λ shape a test lane z events region i heap_word on_test. may_reach (λ b. b ≡ a) shape test lane z events region i
       (λ b e. subst (λ c. IsHeapWord shape c) (sym e) heap_word) (λ b e. subst (λ c. IsTrue (test c)) (sym e) on_test);

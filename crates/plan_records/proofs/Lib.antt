@@ -25,3 +25,4 @@ mod HeapOthers
 mod HeapRegions
 mod HeapClears
 mod HeapUpdates
+mod HeapImages

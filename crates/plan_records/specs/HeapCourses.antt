@@ -64,6 +64,13 @@ pub data Goes (shape : Shape) (p t : ℕ) (s : State) (plan : List Part) (q : Pr
 abbrev pub MayReach : Shape → (ℕ → Type 0) → Progress → Words → Type 0
 MayReach shape A z h = (events : List Event) × AreOnLog shape events × Reaches A (advance_all z events) h
 
+-- The region tracks the lane's progress on the words of the test, in which the lane has made these events since z, and i is an image of it.
+-- A clause can't range over facts of words, so the words are given by a test.
+pub record IsTrackedImage (test : ℕ → Bool) (lane : ℕ) (z : Progress) (events : List Event) (region : Region) (i : Words) : Type 0 where
+  pub inside : AreInside (λ a. IsTrue (test a)) region
+  pub image : MayStand i region
+  pub tracks : Tracks (λ a. IsTrue (test a)) lane (advance_all z events) region
+
 -- ---- the laws
 
 abbrev pub GoesAreCourses : Type 0
@@ -124,15 +131,13 @@ pub record NoForceMeets : Type 0 where
   pub written : (shape : Shape) (x : State) (t : ℕ) (h : Words) → shape.policy ≡ 2 → AreWritten shape x t h
   pub last : (shape : Shape) (x : State) (t : ℕ) (h : Words) → shape.policy ≡ 2 → AreLast shape x t h
 
--- Where a region tracks the lane's progress, in which it has made events on the log's words since z, each image's own heap words are as they may
--- be found: those that t changed, the owner words of blocks that it gave back, and any one word. The tracked words are given by a test.
+-- Each image's own heap words are as they may be found: those that t changed, the owner words of blocks that it gave back, and any one word.
 pub record HeapImagesReach : Type 0 where
   pub changed : (shape : Shape) (t : ℕ) (x : State) (test : ℕ → Bool) (lane : ℕ) (z : Progress) (events : List Event) (region : Region) (i : Words) →
-      IsSoundState shape x → ((a : ℕ) → IsChanged x.log t a → IsTrue (test a)) → AreOnLog shape events → AreInside (λ a. IsTrue (test a)) region → MayStand i region →
-      Tracks (λ a. IsTrue (test a)) lane (advance_all z events) region → MayReach shape (IsChanged x.log t) z (heap_words shape i)
-  pub owners : (shape : Shape) (t : ℕ) (x : State) (owners : List ℕ) (test : ℕ → Bool) (lane : ℕ) (z : Progress) (events : List Event) (region : Region) (i : Words) →
-      IsSoundState shape x → AreGiven t x.log owners → ((a : ℕ) → IsAmong owners a → IsTrue (test a)) → AreOnLog shape events → AreInside (λ a. IsTrue (test a)) region →
-      MayStand i region → Tracks (λ a. IsTrue (test a)) lane (advance_all z events) region → MayReach shape (IsAmong owners) z (heap_words shape i)
+      IsSoundState shape x → ((a : ℕ) → IsChanged x.log t a → IsTrue (test a)) → AreOnLog shape events → IsTrackedImage test lane z events region i →
+      MayReach shape (IsChanged x.log t) z (heap_words shape i)
+  pub owners : (shape : Shape) (t : ℕ) (s : State) (owners : List ℕ) (test : ℕ → Bool) (lane : ℕ) (z : Progress) (events : List Event) (region : Region) (i : Words) →
+      IsSoundState shape s → AreGiven t s.log owners → ((a : ℕ) → IsAmong owners a → IsTrue (test a)) → AreOnLog shape events → IsTrackedImage test lane z events region i →
+      MayReach shape (IsAmong owners) z (heap_words shape i)
   pub word : (shape : Shape) (a : ℕ) (test : ℕ → Bool) (lane : ℕ) (z : Progress) (events : List Event) (region : Region) (i : Words) →
-      IsHeapWord shape a → IsTrue (test a) → AreOnLog shape events → AreInside (λ b. IsTrue (test b)) region → MayStand i region →
-      Tracks (λ b. IsTrue (test b)) lane (advance_all z events) region → MayReach shape (λ b. b ≡ a) z (heap_words shape i)
+      IsHeapWord shape a → IsTrue (test a) → AreOnLog shape events → IsTrackedImage test lane z events region i → MayReach shape (λ b. b ≡ a) z (heap_words shape i)

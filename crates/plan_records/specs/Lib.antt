@@ -9,3 +9,4 @@ pub mod Others
 pub mod HeapCourses
 pub mod HeapClears
 pub mod HeapUpdates
+pub mod HeapImages

@@ -27,6 +27,7 @@ ghost use Rattle.plan_records.specs.HeapCourses.{
 };
 ghost use Rattle.plan_records.specs.HeapClears.{WordsStayOwn, ClearsMeet};
 ghost use Rattle.plan_records.specs.HeapUpdates.{OldsMeet, UpdatesMeet};
+ghost use Rattle.plan_records.specs.HeapImages.{UpdatesLeave, CommitsLeave, AbortsLeave, ClearsLeave};
 
 /// A record that was numbered before newer records of other transactions may come behind them.
 pub fn passings_keep()
@@ -187,4 +188,24 @@ pub fn updates_meet()
 /// Where a region tracks a lane's progress, each image's heap words are as that progress reaches.
 pub fn heap_images_reach()
     ensures { HeapImagesReach }
+{}
+
+/// So under force each image of an update's append is sound, with the standing words before, where the lane is in step;
+pub fn updates_leave()
+    ensures { UpdatesLeave }
+{}
+
+/// at the end of a commit it has those before or those that the transaction wrote, by whether it has the end;
+pub fn commits_leave()
+    ensures { CommitsLeave }
+{}
+
+/// at the end of an undo those before;
+pub fn aborts_leave()
+    ensures { AbortsLeave }
+{}
+
+/// and where the records are cleared too.
+pub fn clears_leave()
+    ensures { ClearsLeave }
 {}
