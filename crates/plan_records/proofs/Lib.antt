@@ -26,3 +26,4 @@ mod HeapRegions
 mod HeapClears
 mod HeapUpdates
 mod HeapImages
+mod HeapExamples
