@@ -16,6 +16,7 @@ use Rattle.bucket_log.specs.Appends.{CanAppend}
 use Rattle.plan_records.specs.Cells.{cell_of_update, appended}
 use Rattle.plan_records.specs.Appends.{MayAppend, AppendKeeps}
 use Rattle.plan_records.specs.Conditions.{CanUpdate, IsUpdateOf}
+use Rattle.plan_records.proofs.Passing.{passes_above}
 use Rattle.plan_records.proofs.Records.{updates_keep}
 
 abbrev shape : Shape
@@ -83,7 +84,7 @@ may = record {
   has = fresh.state;
   sound = sound;
   can = can;
-  passes = record { fresh = λ x m. absurd m; newer = λ x m. absurd m; checkpoint = λ check x m. absurd m };
+  passes = passes_above u [] (λ x m. absurd m);
   top = 1;
   above = λ x m. absurd m;
   own = omega arith;

@@ -3,7 +3,7 @@ use Rattle.std.proofs.Common.{◌≡◌, ◌≢◌, ◌⊎◌, ◌↔◌, inl, i
 use Rattle.std.proofs.lemmas.Bool.Decides.{leb_tells}
 use Rattle.persist_model.specs.Records.{Record, Log, IsAmong, Has, IsNewestFirst}
 use Rattle.bucket_log.specs.States.{Gains}
-use Rattle.plan_records.specs.Passing.{inserted}
+use Rattle.plan_records.specs.Passing.{inserted, Passes}
 
 abbrev Compared : ℕ → ℕ → Type 0
 Compared a b = ((nat_lt a b ≡ true) × (a < b)) ⊎ ((nat_lt a b ≡ false) × (b ≤ a))
@@ -49,6 +49,14 @@ inserted_first r (x ∷ log) above = elim (compared r.lsn x.lsn) [
   | inl lt ↦ (let a = above x (inl refl) in let b = lt.1 in absurd (omega (arith, a, b)))
   | inr ge ↦ (rw ge.0 refl)
 ]
+
+-- and then it may come
+pub passes_above : (r : Record) (log : Log) → ((x : Record) → IsAmong log x → x.lsn < r.lsn) → Passes log r
+passes_above r log above = record {
+  fresh = λ x m same. (let lt = above x m in omega (arith, lt, same));
+  newer = λ x m lt. (let less = above x m in absurd (omega (arith, lt, less)));
+  checkpoint = λ check. above;
+}
 
 -- ---- newest first
 

@@ -21,6 +21,7 @@ use Rattle.plan_records.specs.Cells.{cell_of_update, appended}
 use Rattle.plan_records.specs.Passing.{MayPass, Passes}
 use Rattle.plan_records.specs.Appends.{MayAppend, seen, Keeps, with_record, AppendKeeps}
 use Rattle.plan_records.specs.Conditions.{CanUpdate, IsUpdateOf}
+use Rattle.plan_records.proofs.Passing.{passes_above}
 use Rattle.plan_records.proofs.Records.{updates_keep}
 
 -- four buckets of one cell in each of two partitions
@@ -93,7 +94,7 @@ may_six = record {
   has = fresh.state;
   sound = sound;
   can = can_six;
-  passes = record { fresh = λ x m. absurd m; newer = λ x m. absurd m; checkpoint = λ check x m. absurd m };
+  passes = passes_above six [] (λ x m. absurd m);
   top = 6;
   above = λ x m. absurd m;
   own = omega arith;
