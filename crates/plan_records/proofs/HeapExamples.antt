@@ -4,7 +4,7 @@ use Rattle.persist_model.specs.declared.event.Event.{Event}
 use Rattle.persist_model.specs.declared.event.Event.TheVariants.{PStore, Fence}
 use Rattle.persist_model.specs.Region.{Words}
 use Rattle.persist_model.specs.Progress.{Progress, start, advance, advance_all, Wrote, Reaches}
-use Rattle.persist_model.specs.Records.{Record, HasNo, IsAmong}
+use Rattle.persist_model.specs.Records.{Record, Log, HasNo, IsAmong}
 use Rattle.persist_model.specs.Shape.{Shape}
 use Rattle.persist_model.specs.Standing.{IsLatest}
 use Rattle.persist_model.specs.State.{State, IsSoundState}
@@ -17,8 +17,9 @@ use Rattle.bucket_log.specs.Appends.{region_append}
 use Rattle.plan_records.specs.Cells.{cell_of_update, appended}
 use Rattle.plan_records.specs.Appends.{with_record}
 use Rattle.plan_records.specs.Conditions.{AreWritten}
-use Rattle.plan_records.specs.Courses.{write_parts}
+use Rattle.plan_records.specs.Courses.{AreDeleted, write_parts}
 use Rattle.plan_records.specs.HeapCourses.{newest, IsChanged, IsInStep, Goes, begins, appends, stores}
+use Rattle.plan_records.specs.HeapClears.{AreOwn}
 use Rattle.plan_records.proofs.HeapWrites.{writes_settle}
 
 abbrev shape : Shape
@@ -103,3 +104,33 @@ no_deletion r m d = elim m [ inl same ↦ (let e : r.kind ≡ 1 = ap (λ (y : Re
 -- and so the end of a commit would come too early
 not_written : AreWritten shape written 1 words → ⊥
 not_written h = let e : 0 ≡ 7 = h (λ two. omega (arith, two)) 103 u no_deletion latest in omega (arith, e)
+
+-- ---- a clearing while another transaction deletes the block of a word
+
+-- the first transaction changed word 112 to 7 and is committed, and then the second deleted its block and is committed too
+abbrev changed : Record
+changed = record { at = 40; lsn = 1; transaction = 1; kind = 1; word = 112; before = 0; after = 7; undo_next = 0; outcome = 0 }
+
+abbrev first_end : Record
+first_end = record { at = 56; lsn = 2; transaction = 1; kind = 4; word = 0; before = 0; after = 0; undo_next = 0; outcome = 1 }
+
+abbrev deleting : Record
+deleting = record { at = 72; lsn = 3; transaction = 2; kind = 6; word = 112; before = 7; after = 0; undo_next = 0; outcome = 0 }
+
+abbrev second_end : Record
+second_end = record { at = 88; lsn = 4; transaction = 2; kind = 4; word = 0; before = 0; after = 0; undo_next = 0; outcome = 1 }
+
+abbrev both : Log
+both = second_end ∷ deleting ∷ first_end ∷ changed ∷ []
+
+-- so the word isn't the first one's own,
+not_own : AreOwn 1 both → ⊥
+not_own own = own changed (inr (inr (inr (inl refl)))) (refl, λ e. omega (arith, e)) (inl (inl refl)) deleting (inr (inl refl))
+    (refl, (λ e. omega (arith, e)), inr (refl, (second_end, inl refl, ((refl, refl), refl))))
+
+-- and the first one's records may not be cleared before the second has stored 0
+not_deleted : (h : Words) → h 112 ≡ 7 → AreDeleted both 1 h → ⊥
+not_deleted h seven are =
+    let zero_there : h 112 ≡ 0 = are changed (inr (inr (inr (inl refl)))) (refl, λ e. omega (arith, e)) (inl (inl refl))
+    (deleting, inr (inl refl), (refl, refl, (second_end, inl refl, ((refl, refl), refl)))) in
+    omega (arith, seven, zero_there)
