@@ -1,8 +1,7 @@
 -- An abort under force: each compensation's NEW is stored right behind it, and a fence makes all of them durable.
-use Rattle.std.proofs.Common.{◌≡◌, ◌≢◌, ◌⊎◌, inl, inr, ℕ, ◌<◌, ◌≤◌, List, [], ◌∷◌, ◌++◌, refl, sym, ap, ◌∙◌, subst, arith}
+use Rattle.std.proofs.Common.{◌≡◌, ◌≢◌, inl, inr, ℕ, ◌<◌, ◌≤◌, List, [], ◌∷◌, ◌++◌, refl, sym, ap, ◌∙◌, subst, arith}
 use Rattle.persist_model.specs.declared.event.Event.{Event}
 use Rattle.persist_model.specs.declared.event.Event.TheVariants.{PStore, Fence}
-use Rattle.persist_model.specs.Region.{Words}
 use Rattle.persist_model.specs.Progress.{Progress, advance, advance_all}
 use Rattle.persist_model.specs.Records.{Record, Log, IsAmong, IsOf}
 use Rattle.persist_model.specs.Shape.{Shape, heap}
@@ -20,7 +19,7 @@ use Rattle.plan_records.specs.Cells.{cell_of_compensation, cell_of_rollback, cel
 use Rattle.plan_records.specs.Sequences.{undo_parts}
 use Rattle.plan_records.specs.Courses.{own_records, AreCellsOf, CanAbort, undo_end, abort_parts}
 use Rattle.plan_records.specs.HeapCourses.{AreNewest, Goes, AbortsMeet}
-use Rattle.plan_records.proofs.OwnRecords.{own_out, to_undo_among}
+use Rattle.plan_records.proofs.OwnRecords.{to_undo_among}
 use Rattle.plan_records.proofs.HeapOwn.{latest_own}
 use Rattle.plan_records.proofs.HeapGoing.{Holds, Kept, holds_changed, holds_plain, kept_fenced, kept_reached, goes_fit}
 use Rattle.plan_records.proofs.HeapWrites.{holds_first}

@@ -1,11 +1,9 @@
 -- What is deleted where a transaction's records are cleared.
-use Rattle.std.proofs.Common.{◌≡◌, ◌≢◌, ◌⊎◌, inl, inr, ℕ, ◌<◌, ◌≤◌, ◌+◌, ◌*◌, List, [], ◌∷◌, ◌++◌, refl, sym, ap, ◌∙◌, subst, arith}
-use Rattle.persist_model.specs.declared.event.Event.{Event}
-use Rattle.persist_model.specs.declared.event.Event.TheVariants.{Fence}
+use Rattle.std.proofs.Common.{◌≡◌, ◌≢◌, inl, inr, ℕ, ◌<◌, ◌≤◌, List, [], ◌∷◌, ◌++◌, refl, ap, ◌∙◌, subst, arith}
 use Rattle.persist_model.specs.Region.{Words}
-use Rattle.persist_model.specs.Progress.{Progress, advance, advance_all}
-use Rattle.persist_model.specs.Records.{Record, Log, IsAmong, Has, HasNo, IsOf, IsEnd, IsDeletion, IsCheckpoint, IsChange, NamesWord, IsRunning, IsCommitted, IsEndOf}
-use Rattle.persist_model.specs.Shape.{Shape, heap, part_of, block, IsPlainOwner}
+use Rattle.persist_model.specs.Progress.{Progress, advance_all}
+use Rattle.persist_model.specs.Records.{Record, Log, IsAmong, IsOf, IsCommitted}
+use Rattle.persist_model.specs.Shape.{Shape, heap}
 use Rattle.persist_model.specs.Need.{to_undo}
 use Rattle.persist_model.specs.State.{State, IsSoundState}
 use Rattle.persist_model.proofs.Projecting.{IsFixed-aways, Reaches-fixed}
@@ -28,7 +26,7 @@ use Rattle.plan_records.proofs.OwnRecords.{own_in, own_out, to_undo_among}
 use Rattle.plan_records.proofs.HeapOthers.{names_some}
 use Rattle.plan_records.proofs.HeapRegions.{owner_is_heap_word}
 use Rattle.plan_records.proofs.HeapGoing.{on_log_away, goes_fit}
-use Rattle.plan_records.proofs.HeapCommits.{Committing, fences, ends, deletes, fences_again, clears, commit_own, commit_add, commit_store, commit_wait, zero_durably}
+use Rattle.plan_records.proofs.HeapCommits.{Committing, fences, ends, commit_own, commit_add, commit_store, commit_wait, zero_durably}
 
 -- ---- the clearing
 
@@ -108,10 +106,15 @@ not_committed : (shape : Shape) (p t : ℕ) (s : State) (updates : List Cell) (q
 not_committed shape p t s updates q rest x z can goes = (goes_fit shape p t s (abort_parts Force t updates) q (λ o y l. Undoing t o y l)
     (λ o y cell others fit. (fit.1.0, fit.1.1))
     (λ o y cell others place number fit above on. (λ k. fit.0 (has_back _ (appended place number cell) o (λ e. fit.1.2 e.1) k), fit.1.3))
-    (λ o y e others fit. fit) (λ o y others fit. fit)
-    (λ k. can.going.running k.0 (own_out t s.log k.0 k.1).0 k.2.0,
-    (refl, (λ e. absurd (omega (arith, e))), (λ e. absurd (omega (arith, e))),
-    each_undoes t updates (to_undo t s.log) can.left (λ u m. (to_undo_among t s.log u m).2))) rest x z goes).0
+    (λ o y e others fit. fit) (λ o y others fit. fit) (
+      λ k. can.going.running k.0 (own_out t s.log k.0 k.1).0 k.2.0,
+      (
+        refl,
+        (λ e. absurd (omega (arith, e))),
+        (λ e. absurd (omega (arith, e))),
+        each_undoes t updates (to_undo t s.log) can.left (λ u m. (to_undo_among t s.log u m).2),
+      ),
+    ) rest x z goes).0
 
 pub clears_meet : ClearsMeet
 clears_meet = record {

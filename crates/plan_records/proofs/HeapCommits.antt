@@ -1,17 +1,14 @@
 -- A commit under force: its first fence makes what was written durable, and its deletions leave the owner words 0.
-use Rattle.std.proofs.Common.{◌≡◌, ◌≢◌, ◌⊎◌, inl, inr, ℕ, ◌==◌, true, false, ◌<◌, ◌≤◌, List, [], ◌∷◌, ◌++◌, refl, sym, ap, ◌∙◌, subst, arith}
+use Rattle.std.proofs.Common.{◌≡◌, ◌≢◌, ◌⊎◌, inl, inr, ℕ, ◌<◌, List, [], ◌∷◌, ◌++◌, refl, sym, subst, arith}
 use Rattle.std.proofs.lemmas.Bool.Decides.{eqb_tells}
 use Rattle.persist_model.specs.declared.event.Event.{Event}
 use Rattle.persist_model.specs.declared.event.Event.TheVariants.{PStore, Fence}
-use Rattle.persist_model.specs.Region.{Words}
 use Rattle.persist_model.specs.Progress.{Progress, advance, advance_all}
-use Rattle.persist_model.specs.Records.{Record, Log, IsAmong, Has, IsOf, IsChange}
-use Rattle.persist_model.specs.Shape.{Shape, heap}
-use Rattle.persist_model.specs.State.{State, IsSoundState}
-use Rattle.persist_model.proofs.Projecting.{IsFixed, IsDue-stored, IsDue-away, IsDue-aways, IsFixed-fence}
-use Rattle.log_laws.specs.Moves.{IsDeletionBy}
+use Rattle.persist_model.specs.Records.{Record, Log, IsAmong, IsOf}
+use Rattle.persist_model.specs.Shape.{Shape}
+use Rattle.persist_model.specs.State.{State}
+use Rattle.persist_model.proofs.Projecting.{IsFixed, IsDue-stored, IsDue-away, IsFixed-fence}
 use Rattle.log_laws.specs.Recovering.{AreOnLog}
-use Rattle.log_laws.proofs.Growing.{has_back}
 use Rattle.region_layout.specs.declared.cell.Cell.{Cell}
 use Rattle.region_layout.specs.declared.layout.Policy.TheVariants.{Force}
 use Rattle.bucket_log.specs.declared.append.Place.{Place}
@@ -21,11 +18,10 @@ use Rattle.bucket_log.specs.Appends.{region_append}
 use Rattle.plan_records.specs.declared.cells.Outcome.TheVariants.{Committed}
 use Rattle.plan_records.specs.Cells.{cell_of_end, appended}
 use Rattle.plan_records.specs.Sequences.{zero_parts, owner_parts}
-use Rattle.plan_records.specs.Courses.{own_records, CanCommit, commit_parts}
-use Rattle.plan_records.specs.HeapCourses.{newest, AreNewest, Goes, CommitsMeet}
-use Rattle.plan_records.proofs.OwnRecords.{own_in, own_out}
+use Rattle.plan_records.specs.Courses.{own_records, commit_parts}
+use Rattle.plan_records.specs.HeapCourses.{newest, Goes, CommitsMeet}
 use Rattle.plan_records.proofs.HeapOwn.{latest_own}
-use Rattle.plan_records.proofs.HeapGoing.{Holds, Kept, holds_plain, kept_fenced, kept_reached, goes_fit}
+use Rattle.plan_records.proofs.HeapGoing.{Holds, Kept, kept_fenced, kept_reached, goes_fit}
 use Rattle.plan_records.proofs.HeapWrites.{holds_first}
 
 -- each of all the owners is left, or has 0 as its newest value

@@ -1,10 +1,10 @@
 -- A write of 7 to a word that was 0, in a region of four buckets of one cell: its course, its progress, and why a commit fences before its end.
-use Rattle.std.proofs.Common.{◌≡◌, ◌≢◌, ◌⊎◌, inl, inr, ℕ, false, List, [], ◌∷◌, refl, sym, ap, ◌∙◌, subst, arith}
+use Rattle.std.proofs.Common.{◌≡◌, ◌⊎◌, inl, inr, ℕ, false, List, [], ◌∷◌, refl, sym, ap, ◌∙◌, subst, arith}
 use Rattle.persist_model.specs.declared.event.Event.{Event}
 use Rattle.persist_model.specs.declared.event.Event.TheVariants.{PStore, Fence}
 use Rattle.persist_model.specs.Region.{Words}
 use Rattle.persist_model.specs.Progress.{Progress, start, advance, advance_all, Wrote, Reaches}
-use Rattle.persist_model.specs.Records.{Record, Log, HasNo, IsAmong}
+use Rattle.persist_model.specs.Records.{Record, Log, HasNo}
 use Rattle.persist_model.specs.Shape.{Shape}
 use Rattle.persist_model.specs.Standing.{IsLatest}
 use Rattle.persist_model.specs.State.{State, IsSoundState}

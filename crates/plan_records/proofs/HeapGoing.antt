@@ -1,12 +1,12 @@
 -- How what a lane's stores have settled goes along with its course.
-use Rattle.std.proofs.Common.{◌≡◌, ◌≢◌, ◌⊎◌, inl, inr, ℕ, true, false, ◌==◌, ◌<◌, ◌≤◌, List, [], ◌∷◌, ◌++◌, take, zero, suc, refl, sym, ap, ◌∙◌, subst, arith}
+use Rattle.std.proofs.Common.{◌≡◌, ◌≢◌, ◌⊎◌, inl, inr, ℕ, true, false, ◌==◌, ◌<◌, ◌≤◌, List, [], ◌∷◌, refl, sym, ap, ◌∙◌, subst, arith}
 use Rattle.std.proofs.lemmas.Bool.Decides.{eqb_tells}
 use Rattle.persist_model.specs.declared.event.Event.{Event}
 use Rattle.persist_model.specs.declared.event.Event.TheVariants.{Store, PStore, WriteBack, Fence}
 use Rattle.persist_model.specs.Region.{Words}
-use Rattle.persist_model.specs.Progress.{Progress, Wrote, advance, advance_all, Reaches}
+use Rattle.persist_model.specs.Progress.{Progress, Wrote, advance, advance_all}
 use Rattle.persist_model.specs.Records.{Record, Log, IsAmong, IsOf, IsChange}
-use Rattle.persist_model.specs.Shape.{Shape, heap, part_of}
+use Rattle.persist_model.specs.Shape.{Shape, heap}
 use Rattle.persist_model.specs.Standing.{IsLatest}
 use Rattle.persist_model.specs.State.{State}
 use Rattle.persist_model.proofs.Tracking.{Wrote-push_other}
@@ -16,15 +16,14 @@ use Rattle.log_laws.specs.Recovering.{IsOnLog, AreOnLog}
 use Rattle.region_layout.specs.declared.cell.Cell.{Cell}
 use Rattle.bucket_log.specs.declared.append.Place.{Place}
 use Rattle.bucket_log.specs.declared.parts.Part.{Part}
-use Rattle.bucket_log.specs.declared.parts.Part.TheVariants.{Append, Word, Fence as Wait, Clear}
+use Rattle.bucket_log.specs.declared.parts.Part.TheVariants.{Append, Word, Fence as Wait}
 use Rattle.bucket_log.specs.Appends.{region_append}
 use Rattle.plan_records.specs.Cells.{appended}
-use Rattle.plan_records.specs.Passing.{inserted}
-use Rattle.plan_records.specs.Courses.{own_records, Course, begins, appends, makes, meanwhile}
+use Rattle.plan_records.specs.Courses.{own_records, begins, appends, makes, meanwhile}
 use Rattle.plan_records.specs.HeapCourses as heap_courses
 use Rattle.plan_records.specs.HeapCourses.{newest, IsChanged, AreNewest, Goes, MayReach, GoesAreCourses}
-use Rattle.plan_records.proofs.OwnRecords.{own_in, own_out, own_gained}
-use Rattle.plan_records.proofs.HeapOwn.{change_of, latest_changed, latest_same}
+use Rattle.plan_records.proofs.OwnRecords.{own_out, own_gained}
+use Rattle.plan_records.proofs.HeapOwn.{latest_changed, latest_same}
 
 pub goes_are_courses : GoesAreCourses
 goes_are_courses shape p t s plan q _ _ _ heap_courses.begins = begins

@@ -1,5 +1,5 @@
 -- A lane under force meets the conditions on heap words, so what its parts leave to a stop hangs on the log alone.
-use Rattle.std.proofs.Common.{◌≡◌, ◌⊎◌, inl, inr, ℕ, List, ◌∷◌, length, take, refl, subst}
+use Rattle.std.proofs.Common.{ℕ, ◌∷◌, take, refl, subst}
 use Rattle.persist_model.specs.Region.{Words}
 use Rattle.persist_model.specs.Records.{Record}
 use Rattle.persist_model.specs.Shape.{Shape, heap_words}

@@ -1,7 +1,7 @@
 -- Nobody else comes to have a transaction's words.
-use Rattle.std.proofs.Common.{◌≡◌, ◌≢◌, ◌⊎◌, inl, inr, ℕ, List, [], ◌∷◌, refl, sym, ap, ◌∙◌, subst, arith}
+use Rattle.std.proofs.Common.{◌≡◌, ◌≢◌, ◌⊎◌, inl, inr, ℕ, List, sym, ap, ◌∙◌, subst, arith}
 use Rattle.persist_model.specs.Region.{Words}
-use Rattle.persist_model.specs.Records.{Record, Log, IsAmong, Has, HasNo, IsOf, IsEnd, IsDeletion, IsCheckpoint, IsChange, NamesWord, IsRunning, IsCommitted, IsEndOf}
+use Rattle.persist_model.specs.Records.{Record, Log, IsAmong, HasNo, IsOf, IsEnd, IsCheckpoint, NamesWord, IsRunning, IsEndOf}
 use Rattle.persist_model.specs.Order.{Bars}
 use Rattle.persist_model.specs.Shape.{Shape, part_of}
 use Rattle.persist_model.specs.State.{State, IsSoundState}

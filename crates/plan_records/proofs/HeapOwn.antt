@@ -1,5 +1,5 @@
 -- A transaction's last changes of words.
-use Rattle.std.proofs.Common.{◌≡◌, ◌≢◌, ◌⊎◌, inl, inr, ℕ, ◌<◌, true, false, [], ◌∷◌, refl, sym, ap, ◌∙◌, subst, arith}
+use Rattle.std.proofs.Common.{◌≡◌, ◌≢◌, ◌⊎◌, inl, inr, ℕ, ◌<◌, ◌∷◌, refl, sym, ap, ◌∙◌, subst, arith}
 use Rattle.persist_model.specs.Progress.{Progress}
 use Rattle.persist_model.specs.Records.{Record, Log, IsAmong, IsOf, IsChange}
 use Rattle.persist_model.specs.Standing.{IsLatest}

@@ -1,16 +1,16 @@
 -- The events of an append and of a closing are on the log's words, and each image's heap words are as a tracked progress reaches.
-use Rattle.std.proofs.Common.{◌≡◌, ◌≢◌, ◌⊎◌, inl, inr, ℕ, zero, suc, ◌+◌, ◌*◌, Bool, true, false, ◌==◌, ◌<◌, ◌≤◌, cond, List, [], ◌∷◌, ◌++◌, take, map, refl, sym, ap, ◌∙◌, subst, arith}
+use Rattle.std.proofs.Common.{◌≡◌, ◌≢◌, ◌⊎◌, inl, inr, ℕ, zero, suc, ◌+◌, ◌*◌, Bool, true, false, ◌==◌, ◌<◌, ◌≤◌, cond, List, [], ◌∷◌, ◌++◌, take, refl, sym, ap, ◌∙◌, subst, arith}
 use Rattle.std.specs.Prelude.{nat_lt, ◌||◌, IsTrue}
 use Rattle.std.proofs.lemmas.Bool.{ltb-true}
 use Rattle.std.proofs.lemmas.Bool.Decides.{nat_tests, eqb_tells}
 use Rattle.persist_model.specs.declared.event.Event.{Event}
 use Rattle.persist_model.specs.declared.event.Event.TheVariants.{Fence}
 use Rattle.persist_model.specs.Region.{Words, Region}
-use Rattle.persist_model.specs.Progress.{Progress, Wrote, latest, advance_all, Reaches, Tracks, IsWordOf, AreSettledAt}
+use Rattle.persist_model.specs.Progress.{Progress, Wrote, latest, advance_all, Tracks, IsWordOf, AreSettledAt}
 use Rattle.persist_model.specs.Records.{Record, Log, IsAmong}
 use Rattle.persist_model.specs.Shape.{Shape, heap, words_of_shape, IsHeapWord, IsPlainOwner, heap_words, log_words}
-use Rattle.persist_model.specs.Chain.{view, out_event}
-use Rattle.persist_model.specs.State.{State, IsSoundState}
+use Rattle.persist_model.specs.Chain.{view}
+use Rattle.persist_model.specs.State.{State}
 use Rattle.persist_model.specs.ImageRecords.{cell_address}
 use Rattle.persist_model.specs.Sound.{HasState}
 use Rattle.persist_model.proofs.Projecting.{latest_none}
@@ -98,9 +98,13 @@ heap_word_is shape w a m = by (heap shape) (words_of_shape shape) m.0 m.1
 -- of the tracked words those of A are as they may be found
 may_reach : (A : ℕ → Type 0) (shape : Shape) (test : ℕ → Bool) (lane : ℕ) (z : Progress) (events : List Event) (region : Region) (i : Words) → ((a : ℕ) → A a → IsHeapWord shape a) →
     ((a : ℕ) → A a → IsTrue (test a)) → AreOnLog shape events → IsTrackedImage test lane z events region i → MayReach shape A z (heap_words shape i)
-may_reach A shape test lane z events region i heap_word has on of = (events, on, λ a m.
-    subst (λ n. (n ≡ (advance_all z events).durable a) ⊎ Wrote (advance_all z events).pending a n) (sym (heap_word_is shape i a (heap_word a m)))
-    (Reaches-image (λ b. IsTrue (test b)) lane (advance_all z events) region i of.inside of.image of.tracks a (has a m)))
+may_reach A shape test lane z events region i heap_word has on of = (
+  events,
+  on,
+  λ a m.
+      subst (λ n. (n ≡ (advance_all z events).durable a) ⊎ Wrote (advance_all z events).pending a n) (sym (heap_word_is shape i a (heap_word a m)))
+      (Reaches-image (λ b. IsTrue (test b)) lane (advance_all z events) region i of.inside of.image of.tracks a (has a m)),
+)
 
 -- a plain owner word is a heap word
 pub owner_is_heap_word : (shape : Shape) (a : ℕ) → IsPlainOwner shape a → IsHeapWord shape a

@@ -1,27 +1,22 @@
 -- What the lane of an update must know of its OLD.
-use Rattle.std.proofs.Common.{◌≡◌, ◌≢◌, ◌⊎◌, inl, inr, ℕ, ◌==◌, true, false, ◌<◌, ◌≤◌, [], ◌∷◌, refl, sym, ap, ◌∙◌, subst, arith}
+use Rattle.std.proofs.Common.{◌≡◌, ◌⊎◌, inl, inr, ℕ, [], ◌∷◌, refl, sym, ◌∙◌, subst}
 use Rattle.std.proofs.lemmas.Bool.Decides.{eqb_tells}
-use Rattle.persist_model.specs.Region.{Words}
-use Rattle.persist_model.specs.Progress.{Progress, Wrote, advance_all}
-use Rattle.persist_model.specs.Records.{Record, Log, IsAmong, Has, HasNo, IsChange, IsUpdate, IsRunning}
+use Rattle.persist_model.specs.Progress.{Wrote, advance_all}
+use Rattle.persist_model.specs.Records.{Record, Log, IsAmong, Has, HasNo, IsChange, IsRunning}
 use Rattle.persist_model.specs.Standing.{IsToUndo, IsLatest, Stands, undone, deleted, redone, kept}
-use Rattle.persist_model.specs.Order.{last_new, Bars}
-use Rattle.persist_model.specs.Shape.{Shape, heap, part_of}
+use Rattle.persist_model.specs.Order.{last_new}
+use Rattle.persist_model.specs.Shape.{Shape, part_of}
 use Rattle.persist_model.specs.State.{State, IsSoundState}
 use Rattle.persist_model.proofs.Projecting.{latest_none, IsFixed-aways, Reaches-fixed}
-use Rattle.log_laws.specs.Moves.{MayName, IsChangeBy}
-use Rattle.log_laws.specs.Recovering.{with_heap}
-use Rattle.log_laws.proofs.Deciding.{IsDecided, decide_equal, decide_either, decide_both}
+use Rattle.log_laws.specs.Moves.{IsChangeBy}
+use Rattle.log_laws.proofs.Deciding.{IsDecided, decide_equal, decide_either}
 use Rattle.log_laws.proofs.Keeping.{good_of}
 use Rattle.log_laws.proofs.Stacks.{IsTo, updates, compensates, neither, is_to}
 use Rattle.log_laws.proofs.Standings.{latest_some}
 use Rattle.log_laws.proofs.Undoing.{last_new_is, compensated_word}
-use Rattle.bucket_log.specs.declared.append.Place.{Place}
-use Rattle.bucket_log.specs.declared.parts.Update.{Update}
 use Rattle.plan_records.specs.Cells.{cell_of_update, appended}
-use Rattle.plan_records.specs.Conditions.{CanUpdate, IsUpdateOf}
-use Rattle.plan_records.specs.HeapCourses.{newest, IsInStep, MayReach}
-use Rattle.plan_records.specs.HeapUpdates.{IsOldIn, OldsMeet, UpdatesMeet}
+use Rattle.plan_records.specs.Conditions.{IsUpdateOf}
+use Rattle.plan_records.specs.HeapUpdates.{OldsMeet, UpdatesMeet}
 use Rattle.plan_records.proofs.HeapGoing.{on_log_away}
 
 last_new_none : (t a d : ℕ) (log : Log) → HasNo (IsChangeBy t a) log → last_new t a d log ≡ d

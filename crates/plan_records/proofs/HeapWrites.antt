@@ -1,9 +1,9 @@
 -- A write under force settles its word, and the giving back of a block keeps what is settled.
-use Rattle.std.proofs.Common.{◌≡◌, ◌≢◌, ◌⊎◌, inl, inr, ℕ, ◌<◌, ◌≤◌, List, [], ◌∷◌, refl, sym, ap, ◌∙◌, subst, arith}
+use Rattle.std.proofs.Common.{◌≡◌, ◌≢◌, inl, inr, ℕ, ◌<◌, ◌≤◌, List, [], ◌∷◌, refl, sym, subst, arith}
 use Rattle.persist_model.specs.declared.event.Event.{Event}
 use Rattle.persist_model.specs.declared.event.Event.TheVariants.{PStore, Fence}
 use Rattle.persist_model.specs.Progress.{Progress, Wrote, advance, advance_all}
-use Rattle.persist_model.specs.Records.{Record, Log, IsAmong, HasNo, IsOf, IsChange}
+use Rattle.persist_model.specs.Records.{Record, Log, IsAmong, IsOf}
 use Rattle.persist_model.specs.Shape.{Shape, heap}
 use Rattle.persist_model.specs.State.{State, IsSoundState}
 use Rattle.log_laws.specs.Recovering.{AreOnLog}

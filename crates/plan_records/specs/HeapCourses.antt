@@ -17,7 +17,7 @@ use Rattle.bucket_log.specs.declared.append.Place.{Place}
 use Rattle.bucket_log.specs.declared.parts.Update.{Update}
 use Rattle.bucket_log.specs.declared.parts.Giving.{Giving}
 use Rattle.bucket_log.specs.declared.parts.Part.{Part}
-use Rattle.bucket_log.specs.declared.parts.Part.TheVariants.{Append, Word, Fence as Wait, Clear}
+use Rattle.bucket_log.specs.declared.parts.Part.TheVariants.{Append, Word, Fence as Wait}
 use Rattle.bucket_log.specs.Plans.{place_address}
 use Rattle.bucket_log.specs.Appends.{region_append}
 use Rattle.log_clearing.specs.Plans.{closing_plan}
