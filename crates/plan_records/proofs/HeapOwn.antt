@@ -1,13 +1,15 @@
 -- A transaction's last changes of words.
-use Rattle.std.proofs.Common.{◌≡◌, ◌≢◌, ◌⊎◌, inl, inr, ℕ, ◌<◌, ◌∷◌, refl, sym, ap, ◌∙◌, subst, arith}
+use Rattle.std.proofs.Common.{◌≡◌, ◌≢◌, ◌⊎◌, inl, inr, ℕ, ◌<◌, [], ◌∷◌, refl, sym, ap, ◌∙◌, subst, arith}
 use Rattle.persist_model.specs.Progress.{Progress}
 use Rattle.persist_model.specs.Records.{Record, Log, IsAmong, IsOf, IsChange}
 use Rattle.persist_model.specs.Standing.{IsLatest}
 use Rattle.log_laws.specs.Moves.{IsChangeBy}
+use Rattle.persist_model.specs.Order.{undo_point}
 use Rattle.log_laws.proofs.Deciding.{decide_equal}
+use Rattle.log_laws.proofs.Stacks.{IsTo, updates, compensates, neither, is_to}
 use Rattle.plan_records.specs.Courses.{own_records}
 use Rattle.plan_records.specs.HeapCourses.{IsChanged, AreNewest}
-use Rattle.plan_records.proofs.OwnRecords.{own_in, own_out}
+use Rattle.plan_records.proofs.OwnRecords.{own_first, own_in, own_out, own_other}
 
 -- ---- the last change of a word
 
@@ -69,3 +71,26 @@ changed_all log t a k = (k.0, (own_out t log k.0 k.1).0, k.2)
 
 pub newest_all : (log : Log) (t : ℕ) (q : Progress) → AreNewest (own_records t log) t q → AreNewest log t q
 newest_all log t q h a r last = h a r (latest_own t a log r last)
+
+-- ---- the undo point
+
+own_cases : (t : ℕ) (r : Record) (log : Log) → (own_records t (r ∷ log) ≡ r ∷ own_records t log) ⊎ (own_records t (r ∷ log) ≡ own_records t log)
+own_cases t r log = elim (decide_equal r.transaction t) [
+  | inr ne ↦ inr (own_other t r log (λ of. ne of.0))
+  | inl own ↦ elim (decide_equal r.kind 5) [ inl five ↦ inr (own_other t r log (λ of. of.1 five)) | inr some ↦ inl (own_first t r log (own, some)) ]
+]
+
+undo_point_own : (t : ℕ) (log : Log) → undo_point t log ≡ undo_point t (own_records t log)
+undo_point_own t [] = refl
+undo_point_own t (r ∷ log) = by (is_to t r) (undo_point_own t log)
+  where
+    by : IsTo t r → undo_point t log ≡ undo_point t (own_records t log) → undo_point t (r ∷ log) ≡ undo_point t (own_records t (r ∷ log))
+    by (updates one is own) again = rw (own_first t r log (own, λ five. (let e = is in omega (arith, e, five)))) (rw one refl)
+    by (compensates not_one two is own) again = rw (own_first t r log (own, λ five. (let e = is in omega (arith, e, five)))) (rw (not_one, two) refl)
+    by (neither not_one not_two k) again = elim (own_cases t r log) [
+      | inl first ↦ rw first (rw (not_one, not_two) again)
+      | inr rest ↦ rw rest (rw (not_one, not_two) again)
+    ]
+
+pub undo_point_stays : (log later : Log) (t : ℕ) → own_records t later ≡ own_records t log → undo_point t later ≡ undo_point t log
+undo_point_stays log later t same = undo_point_own t later ∙ ap (undo_point t) same ∙ sym (undo_point_own t log)

@@ -19,7 +19,7 @@ use Rattle.plan_records.specs.Cells.{cell_of_update, cell_of_deletion, appended}
 use Rattle.plan_records.specs.Courses.{own_records, write_parts, give_parts}
 use Rattle.plan_records.specs.HeapCourses.{IsChanged, AreNewest, IsInStep, Goes, StepsStay, WritesSettle, GivesSettle, NoForceMeets}
 use Rattle.plan_records.proofs.OwnRecords.{own_out}
-use Rattle.plan_records.proofs.HeapOwn.{change_of, newest_own, newest_all, changed_own, changed_all}
+use Rattle.plan_records.proofs.HeapOwn.{undo_point_stays, change_of, newest_own, newest_all, changed_own, changed_all}
 use Rattle.plan_records.proofs.HeapGoing.{Holds, Steps, steps_changed, steps_plain, goes_fit}
 
 pub steps_stay : StepsStay
@@ -32,6 +32,7 @@ steps_stay = record {
     newest_values = newest_all later t q (subst (λ o. AreNewest o t q) (sym same) (newest_own log t q h.newest_values));
     no_other = λ a v up k. changed_all later t a (subst (λ o. IsChanged o t a) (sym same) (changed_own log t a (h.no_other a v up k)));
   };
+  point = undo_point_stays;
 }
 
 pub no_force_meets : NoForceMeets
@@ -85,8 +86,37 @@ module _ (shape : Shape) (p : ℕ) (u : Update) (high : heap shape ≤ u.word) w
   written s q rest x z sound h goes = goes_fit shape p u.transaction s (write_parts Force u) q (λ o y l. Writing shape u o y l) write_own write_add write_store write_wait
       (notes (steps_first shape u.transaction s q sound h)) rest x z goes
 
+-- up to the append nothing is stored
+data Beginning (u : Update) (q z : Progress) : List Part → Type 0 where
+  notes_first : z ≡ q → Beginning u q z (Append (cell_of_update u) ∷ Word (PStore u.word u.after) ∷ [])
+  keeps_next : Beginning u q z (Word (PStore u.word u.after) ∷ [])
+  over : Beginning u q z []
+
+module _ (shape : Shape) (p : ℕ) (u : Update) (q : Progress) where
+  begin_own : (o : Log) (z : Progress) (cell : Cell) (others : List Part) → Beginning u q z (Append cell ∷ others) → (cell.transaction ≡ u.transaction) × (cell.kind ≢ 5)
+  begin_own o z _ _ (notes_first same) = (refl, λ e. absurd (omega (arith, e)))
+
+  begin_add : (o : Log) (z : Progress) (cell : Cell) (others : List Part) (place : Place) (number : ℕ) → Beginning u q z (Append cell ∷ others) →
+      ((x : Record) → IsAmong o x → IsOf u.transaction x → x.lsn < number) → AreOnLog shape (region_append shape p place (appended place number cell)) →
+      Beginning u q (advance_all z (region_append shape p place (appended place number cell))) others
+  begin_add o z _ _ place number (notes_first same) above on = keeps_next
+
+  begin_store : (o : Log) (z : Progress) (e : Event) (others : List Part) → Beginning u q z (Word e ∷ others) → Beginning u q (advance z e) others
+  begin_store o z _ _ keeps_next = over
+
+  begin_wait : (o : Log) (z : Progress) (others : List Part) → Beginning u q z (Wait ∷ others) → Beginning u q (advance z Fence) others
+  begin_wait o z others fit = elim fit [ ]
+
+  begin_same : (z : Progress) (cell : Cell) (others : List Part) → Beginning u q z (Append cell ∷ others) → z ≡ q
+  begin_same z _ _ (notes_first same) = same
+
+  begins_same : (s : State) (x : State) (z : Progress) → Goes shape p u.transaction s (write_parts Force u) q (write_parts Force u) x z → z ≡ q
+  begins_same s x z goes = begin_same z _ _
+      (goes_fit shape p u.transaction s (write_parts Force u) q (λ o y l. Beginning u q y l) begin_own begin_add begin_store begin_wait (notes_first refl) _ x z goes)
+
 pub writes_settle : WritesSettle
 writes_settle = record {
+  same = λ shape p s u q x z goes. begins_same shape p u q s x z goes;
   before = λ shape p s u q x z sound high h goes. steps_there shape u.transaction x z (first shape u (own_records u.transaction x.log) z _ _ (written shape p u high s q _ x z sound h goes));
   behind = λ shape p s u q x z sound high h goes. steps_there shape u.transaction x z (last shape u (own_records u.transaction x.log) z (written shape p u high s q [] x z sound h goes));
 }

@@ -34,8 +34,8 @@ pub record WordsStayOwn : Type 0 where
 abbrev pub AreAllGiven : ℕ → Log → List ℕ → Type 0
 AreAllGiven t log owners = (a : ℕ) → Has (IsDeletionBy t a) log → IsAmong owners a
 
--- Where a transaction's records are to be cleared under force: behind a commit its owner words are 0, and where nobody else has its words,
--- each that it names and a committed transaction deletes is 0; behind an undo, in any words.
+-- Where a transaction's records are to be cleared under force, its owner words are 0 behind a commit. Where nobody else has its words, each
+-- that it names and a committed transaction deletes is 0 behind a commit, and behind an undo so it is in any words.
 pub record ClearsMeet : Type 0 where
   pub zero : (shape : Shape) (p t : ℕ) (s : State) (owners : List ℕ) (q : Progress) (rest : List Part) (x : State) (z : Progress) (h : Words) →
       IsSoundState shape s → CanCommit shape p t s.log owners → Goes shape p t s (commit_parts Force t owners) q (Clear ∷ rest) x z →

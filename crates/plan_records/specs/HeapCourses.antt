@@ -7,6 +7,7 @@ use Rattle.persist_model.specs.Progress.{Progress, Wrote, latest, advance, advan
 use Rattle.persist_model.specs.Records.{Record, Log, IsAmong, Has, HasNo, IsOf}
 use Rattle.persist_model.specs.Shape.{Shape, heap, IsHeapWord, heap_words, part_of}
 use Rattle.persist_model.specs.Standing.{IsLatest}
+use Rattle.persist_model.specs.Order.{undo_point}
 use Rattle.persist_model.specs.State.{State, IsSoundState}
 use Rattle.log_laws.specs.Moves.{IsChangeBy}
 use Rattle.log_laws.specs.Recovering.{AreOnLog}
@@ -87,10 +88,11 @@ pub record LogPlansAreOnLog : Type 0 where
       AreOnLog shape (take k (closing_plan gates ends checkpoints))
   pub durable : (shape : Shape) (p : ℕ) (place : Place) (r : Record) → AreDurable (region_append shape p place r)
 
--- A lane with nothing pending is in step with a transaction without records, and what others do keeps it in step.
+-- A lane with nothing pending is in step with a transaction without records, and what others do keeps it in step, and the undo point.
 pub record StepsStay : Type 0 where
   pub none : (shape : Shape) (log : Log) (t : ℕ) (q : Progress) → HasNo (IsOf t) log → q.pending ≡ [] → IsInStep shape log t q
   pub others : (shape : Shape) (log later : Log) (t : ℕ) (q : Progress) → own_records t later ≡ own_records t log → IsInStep shape log t q → IsInStep shape later t q
+  pub point : (log later : Log) (t : ℕ) → own_records t later ≡ own_records t log → undo_point t later ≡ undo_point t log
 
 -- A heap word that t hasn't changed, and that is settled at v, may be taken up: the lane stays in step, v is its newest value, and the region
 -- tracks this word beside the others.
@@ -101,8 +103,10 @@ pub record WordsAreTaken : Type 0 where
       IsInStep shape log t q → AreSettledAt (λ b. b ≡ a) (λ b. v) region → Tracks (λ b. IsTrue (test b)) lane q region →
       Tracks (λ b. IsTrue ((b == a) || test b)) lane (taking a v q) region
 
--- A write under force: up to its append the lane is in step as before, and behind the store it is again.
+-- A write under force: up to its append the lane's progress is as it was, and in step; behind the store it is in step again.
 pub record WritesSettle : Type 0 where
+  pub same : (shape : Shape) (p : ℕ) (s : State) (u : Update) (q : Progress) (x : State) (z : Progress) →
+      Goes shape p u.transaction s (write_parts Force u) q (write_parts Force u) x z → z ≡ q
   pub before : (shape : Shape) (p : ℕ) (s : State) (u : Update) (q : Progress) (x : State) (z : Progress) → IsSoundState shape s → heap shape ≤ u.word →
       IsInStep shape s.log u.transaction q → Goes shape p u.transaction s (write_parts Force u) q (write_parts Force u) x z → IsInStep shape x.log u.transaction z
   pub behind : (shape : Shape) (p : ℕ) (s : State) (u : Update) (q : Progress) (x : State) (z : Progress) → IsSoundState shape s → heap shape ≤ u.word →
