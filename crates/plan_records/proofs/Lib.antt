@@ -16,3 +16,14 @@ pub mod Beside
 pub mod AbortCourse
 pub mod CommitCourse
 pub mod WriteCourse
+mod HeapOwn
+mod HeapGoing
+mod HeapWrites
+mod HeapCommits
+mod HeapAborts
+mod HeapOthers
+mod HeapRegions
+mod HeapClears
+mod HeapUpdates
+mod HeapImages
+mod HeapExamples

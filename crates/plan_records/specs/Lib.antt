@@ -6,3 +6,7 @@ pub mod Conditions
 pub mod Laws
 pub mod Courses
 pub mod Others
+pub mod HeapCourses
+pub mod HeapClears
+pub mod HeapUpdates
+pub mod HeapImages

@@ -13,6 +13,21 @@ ghost use Rattle.plan_records.specs.Laws.{
 ghost use Rattle.plan_records.specs.Passing.{PassingsKeep};
 ghost use Rattle.plan_records.specs.Others.{OthersKeepOwn, AppendsStandInPart, EndsLeaveDeleted, OwnersAreZero};
 ghost use Rattle.plan_records.specs.Courses.{WritesGoOn, GivesGoOn, CommitsGoOn, AbortsGoOn};
+ghost use Rattle.plan_records.specs.HeapCourses.{
+  GoesAreCourses,
+  LogPlansAreOnLog,
+  StepsStay,
+  WordsAreTaken,
+  WritesSettle,
+  GivesSettle,
+  CommitsMeet,
+  AbortsMeet,
+  NoForceMeets,
+  HeapImagesReach,
+};
+ghost use Rattle.plan_records.specs.HeapClears.{WordsStayOwn, ClearsMeet};
+ghost use Rattle.plan_records.specs.HeapUpdates.{OldsMeet, UpdatesMeet};
+ghost use Rattle.plan_records.specs.HeapImages.{UpdatesLeave, CommitsLeave, AbortsLeave, ClearsLeave};
 
 /// A record that was numbered before newer records of other transactions may come behind them.
 pub fn passings_keep()
@@ -103,4 +118,94 @@ pub fn ends_leave_deleted()
 /// The parts of deletions leave each owner word durably 0.
 pub fn owners_are_zero()
     ensures { OwnersAreZero }
+{}
+
+/// A course with its lane's progress is a course.
+pub fn goes_are_courses()
+    ensures { GoesAreCourses }
+{}
+
+/// The events of an append and of a closing are on the log's words alone.
+pub fn log_plans_are_on_log()
+    ensures { LogPlansAreOnLog }
+{}
+
+/// What others do keeps a lane in step with its transaction's records.
+pub fn steps_stay()
+    ensures { StepsStay }
+{}
+
+/// A settled word that a transaction hasn't changed may be taken up.
+pub fn words_are_taken()
+    ensures { WordsAreTaken }
+{}
+
+/// Behind a write under force the lane's newest value of each word that its transaction changed is the last NEW,
+pub fn writes_settle()
+    ensures { WritesSettle }
+{}
+
+/// and so it is wherever a lane has come in the giving back of a block.
+pub fn gives_settle()
+    ensures { GivesSettle }
+{}
+
+/// At the end of a commit under force each word that the transaction changed has the last NEW,
+pub fn commits_meet()
+    ensures { CommitsMeet }
+{}
+
+/// and so it is at the end of an undo.
+pub fn aborts_meet()
+    ensures { AbortsMeet }
+{}
+
+/// Under no-force an end asks nothing of the heap words.
+pub fn no_force_meets()
+    ensures { NoForceMeets }
+{}
+
+/// Where records are cleared under force, what is deleted is 0.
+pub fn clears_meet()
+    ensures { ClearsMeet }
+{}
+
+/// Nobody else comes to have a transaction's words, up to the clearing.
+pub fn words_stay_own()
+    ensures { WordsStayOwn }
+{}
+
+/// An update whose OLD is the last NEW of its transaction, or else the standing value, may come, under both policies.
+pub fn olds_meet()
+    ensures { OldsMeet }
+{}
+
+/// Under force the lane's newest value of the word is such an OLD.
+pub fn updates_meet()
+    ensures { UpdatesMeet }
+{}
+
+/// Where a region tracks a lane's progress, each image's heap words are as that progress reaches.
+pub fn heap_images_reach()
+    ensures { HeapImagesReach }
+{}
+
+/// So under force each image of an update's append is sound, with the standing words before, where the lane is in step;
+pub fn updates_leave()
+    ensures { UpdatesLeave }
+{}
+
+/// at the end of a commit it has those before or those that the transaction wrote, by whether it has the end;
+pub fn commits_leave()
+    ensures { CommitsLeave }
+{}
+
+/// at the end of an undo those before;
+pub fn aborts_leave()
+    ensures { AbortsLeave }
+{}
+
+/// and where the records are cleared too.
+pub fn clears_leave()
+    ensures { ClearsLeave }
 {}
