@@ -9,3 +9,4 @@ pub mod Stepping
 pub mod Beginning
 pub mod Ending
 pub mod Checkpointing
+pub mod Small

@@ -4,3 +4,4 @@ pub mod Appending
 pub mod Undoing
 pub mod Passing
 pub mod Checkpoint
+pub mod Images

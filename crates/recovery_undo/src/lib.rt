@@ -9,3 +9,6 @@ mod undoing;
 pub use appending::{Appended, append_record};
 pub use checkpoint::append_checkpoint;
 pub use undoing::undo;
+
+#[cfg(test)]
+mod tests;

@@ -1,0 +1,279 @@
+-- The tests' region holds a sound state with one running transaction, and what its undo needs and leaves.
+use Rattle.std.proofs.Common.{◌≡◌, ◌≢◌, ◌⊎◌, inl, inr, ℕ, zero, suc, ◌+◌, ◌*◌, ◌<◌, ◌≤◌, ◌==◌, if◌then◌else◌, List, [], ◌∷◌, ◌++◌, length, map, reverse, refl, sym, ap, ◌∙◌, subst, arith}
+use Rattle.std.specs.Vec.{vec_len, vec_capacity}
+use Rattle.std.proofs.lemmas.List.FromFn.{length-map-range_with_len, get_or-map-range_with_len}
+use Rattle.persist_model.specs.Region.{Words, Region, loaded}
+use Rattle.persist_model.specs.Records.{Record, Log, IsAmong, Has, HasNo, IsOf, IsEnd, IsCheckpoint, IsRunning, IsLoser, IsSkipped, IsEndOf}
+use Rattle.persist_model.specs.Standing.{IsToUndo, IsToDelete, IsToRedo, Stands, undone, deleted, redone, kept}
+use Rattle.persist_model.specs.Shape.{Shape, SECOND_MAGIC, shape_of, IsShape, heap_words, log_words, words_of_shape}
+use Rattle.persist_model.specs.ImageRecords.{AreRecords}
+use Rattle.persist_model.specs.State.{State, HasOpen, IsSoundState}
+use Rattle.persist_model.specs.Sound.{HasState, IsListOf, room_of}
+use Rattle.log_laws.specs.Closing.{IsApplied}
+use Rattle.log_laws.specs.Recovery.{AreApplied}
+use Rattle.log_laws.proofs.Deciding.{from_yes, decide_both, decide_has, decide_running, decide_to_undo}
+use Rattle.log_laws.proofs.LogFaults.{LogHolds, log_some, sound_of_holds, decide_of}
+use Rattle.log_laws.proofs.RecordSorting.{log_of}
+use Rattle.log_laws.proofs.Soundness.{shape_some, parts_some, chains_in, state_gates}
+use Rattle.log_laws.proofs.Verdicts.{ListsAreSound, LogIs, from_holds, state_at, has_state_at}
+use Rattle.persist_model.specs.Faults.{IsLogFault}
+use Rattle.region_layout.specs.declared.layout.Layout.{Layout}
+use Rattle.region_layout.specs.Layout.{layout_shape, policy_number}
+use Rattle.bucket_log.specs.declared.scanning.Placed.{Placed}
+use Rattle.bucket_log.specs.Scans.{record_of_placed}
+use Rattle.bucket_log.proofs.PartStates.{log_words_same}
+use Rattle.recovery_run.specs.declared.gates.Gates.{Gates}
+use Rattle.recovery_run.specs.Groups.{ListsAll}
+use Rattle.recovery_run.specs.Reached.{newest_at, HasSettled, IsQuiet}
+use Rattle.recovery_run.proofs.ClosingPart.{same_heap}
+use Rattle.recovery_run.proofs.Reaching.{read_newest, settled_begins}
+use Rattle.recovery_undo.specs.Appending.{AreQuiet}
+use Rattle.recovery_undo.specs.Checkpoint.{CanCheckpoint}
+use Rattle.recovery_undo.specs.Images.{small, Pair, word_in, words_in, running, running_log, record_with, HasRunningGates}
+use Rattle.recovery_undo.specs.Undoing.{AreGatesOf, CanUndo, IsUndone, undo_events}
+
+abbrev w : Words
+w = word_in running
+
+-- ---- the words
+
+pub words_long : (pairs : List Pair) (n : ℕ) → length (words_in pairs n) ≡ n
+unfolding words_in
+words_long pairs n = length-map-range_with_len (word_in pairs) 0 n
+
+read_word : (a : ℕ) → a < 832 → newest_at (loaded (words_in running 832)) a ≡ w a
+unfolding words_in
+read_word a lt =
+    let size : length (words_in running 832) ≡ 832 = words_long running 832 in
+    read_newest (loaded (words_in running 832)) a (omega (arith, lt, size)) ∙ get_or-map-range_with_len w 0 832 a a 0 lt (omega arith)
+
+-- ---- the state
+
+lists_sound : ListsAreSound small w
+unfolding shape_some parts_some log_of log_some chains_in
+lists_sound = refl
+
+log_is : LogIs small w running_log
+unfolding shape_some parts_some log_of log_some chains_in
+log_is = refl
+
+abbrev pub small_state : State
+small_state = state_at small w running_log
+
+has_small : HasState small w small_state
+has_small = has_state_at small w running_log lists_sound log_is
+
+pub small_sound : IsSoundState small small_state
+unfolding shape_some parts_some log_of log_some chains_in
+small_sound = sound_of_holds small small_state has_small.records.newest_first (state_gates small w small_state has_small)
+    (from_holds (LogHolds small small_state) (IsLogFault small small_state) (log_some small small_state) refl)
+
+-- ---- the region
+
+state_of_same : (shape : Shape) (u v : Words) (s : State) → ((a : ℕ) → a < words_of_shape shape → v a ≡ u a) → HasState shape u s → HasState shape v s
+state_of_same shape u v s same h =
+    let logs : log_words shape v ≡ log_words shape u = λ i a. log_words_same shape u v a (λ lt. same a (omega (arith, lt))) i in
+    record {
+      chains = h.chains;
+      lists = λ q lt. subst (λ (x : Words). IsListOf shape q x (h.chains q)) (sym logs) (h.lists q lt);
+      records = subst (λ (x : Words). AreRecords shape h.chains x s.log) (sym logs) h.records;
+      words = h.words ∙ sym (same_heap shape u v (λ a le lt. same a lt));
+      room = λ q lt. h.room q lt ∙ ap (λ (x : Words). room_of shape x q (h.chains q)) (sym logs);
+    }
+
+abbrev region : Region
+region = loaded (words_in running 832)
+
+shape_is : shape_of (newest_at region) ≡ small
+shape_is = λ i. record {
+  policy = read_word 1 (omega arith) i;
+  cells = read_word 2 (omega arith) i;
+  buckets = read_word 3 (omega arith) i;
+  blocks = read_word 4 (omega arith) i;
+  structures = read_word 5 (omega arith) i;
+  format = if read_word 0 (omega arith) i == SECOND_MAGIC then 2 else 1;
+  partitions = if read_word 0 (omega arith) i == SECOND_MAGIC then read_word 6 (omega arith) i else 1;
+}
+
+is_shape : IsShape (length (words_in running 832)) (newest_at region)
+is_shape =
+    let magic : newest_at region 0 ≡ 5933297088048660481 = read_word 0 (omega arith) in
+    let buckets : newest_at region 3 ≡ 4 = read_word 3 (omega arith) in
+    let blocks : newest_at region 4 ≡ 16 = read_word 4 (omega arith) in
+    let structures : newest_at region 5 ≡ 1 = read_word 5 (omega arith) in
+    let size = words_long running 832 in
+    record {
+      enough = omega (arith, size);
+      magic = inl magic;
+      policy = inr (read_word 1 (omega arith));
+      cells = inr (read_word 2 (omega arith));
+      buckets = (omega (arith, buckets), omega (arith, buckets));
+      blocks = (omega (arith, blocks), omega (arith, blocks));
+      structures = (omega (arith, structures), omega (arith, structures));
+      partitions = λ second. absurd (omega (arith, magic, second));
+      kinds = λ second. absurd (omega (arith, magic, second));
+      long = size ∙ ap words_of_shape (sym shape_is);
+    }
+
+pub small_settled : HasSettled small small_state small_state region
+small_settled = settled_begins small small_state region (λ a lt. refl) (record { header = is_shape; shape_is = shape_is })
+    (state_of_same small w (newest_at region) small_state (λ a lt. read_word a lt) has_small)
+
+-- TO_APPEND and TO_REMOVE are 0
+small_quiet : (p : ℕ) → p < 1 → IsQuiet p (newest_at region)
+small_quiet zero lt = (read_word 10 (omega arith), read_word 12 (omega arith))
+small_quiet (suc p) lt = absurd (omega (arith, lt))
+
+-- ---- the transaction
+
+small_loser : IsLoser running_log 1
+unfolding decide_both decide_has decide_of decide_running
+small_loser = from_yes (decide_both _ _ (decide_has _ running_log (decide_of 1)) (decide_running running_log 1)) refl
+
+-- each record is of the transaction, and none is an end
+each_of_one : (r : Record) → IsAmong running_log r → IsOf 1 r × (IsEnd r → ⊥)
+each_of_one r m = elim m [
+  | inl e ↦ subst (λ (x : Record). IsOf 1 x × (IsEnd x → ⊥)) (sym e) ((refl, λ k. omega (arith, k)), λ k. omega (arith, k))
+  | inr m ↦ elim m [
+    | inl e ↦ subst (λ (x : Record). IsOf 1 x × (IsEnd x → ⊥)) (sym e) ((refl, λ k. omega (arith, k)), λ k. omega (arith, k))
+    | inr m ↦ elim m [
+      | inl e ↦ subst (λ (x : Record). IsOf 1 x × (IsEnd x → ⊥)) (sym e) ((refl, λ k. omega (arith, k)), λ k. omega (arith, k))
+      | inr m ↦ elim m [
+        | inl e ↦ subst (λ (x : Record). IsOf 1 x × (IsEnd x → ⊥)) (sym e) ((refl, λ k. omega (arith, k)), λ k. omega (arith, k))
+        | inr m ↦ absurd m
+      ]
+    ]
+  ]
+]
+
+-- where no transaction has ended, each word has its standing value or is to be undone
+applied_by : (policy : ℕ) (log : Log) (words : Words) (a v : ℕ) → ((t : ℕ) → IsRunning log t) → Stands policy log words a v → Has (IsToUndo log a) log ⊎ (v ≡ words a)
+applied_by policy log words a v none (undone u first e) = inl (u, first.among, first.has)
+applied_by policy log words a v none (deleted none_undone some e) = absurd (none some.0.transaction some.2.2.0 some.2.2.1 some.2.2.2.0)
+applied_by policy log words a v none (redone none_undone none_deleted r last e) = absurd (none r.transaction last.has.3.0 last.has.3.1 last.has.3.2)
+applied_by policy log words a v none (kept none_undone none_deleted none_redone e) = inr e
+
+no_end : (t : ℕ) → IsRunning running_log t
+no_end t r m k = (each_of_one r m).1 k.0
+
+small_applied : (policy : ℕ) → AreApplied policy running_log small_state.words
+small_applied policy a = elim (decide_has (IsToUndo running_log a) running_log (decide_to_undo running_log a)) [
+  | inl some ↦ inl some
+  | inr none ↦ inr (λ v stands. elim (applied_by policy running_log small_state.words a v no_end stands) [ inl some ↦ absurd (none some) | inr e ↦ e ])
+]
+
+-- ---- the gates
+
+gate_of : (a : ℕ) → IsAmong (40 ∷ 48 ∷ 56 ∷ 64 ∷ []) a → Has (λ r. (r.at ≡ a) × (IsEnd r → ⊥) × (IsCheckpoint r → ⊥)) running_log
+gate_of a m = elim m [
+  | inl e ↦ (record_with 40 1 1 577 5 7 0, inr (inr (inr (inl refl))), (sym e, λ k. omega (arith, k), λ k. omega (arith, k)))
+  | inr m ↦ elim m [
+    | inl e ↦ (record_with 48 2 1 578 0 9 1, inr (inr (inl refl)), (sym e, λ k. omega (arith, k), λ k. omega (arith, k)))
+    | inr m ↦ elim m [
+      | inl e ↦ (record_with 56 3 2 578 9 0 1, inr (inl refl), (sym e, λ k. omega (arith, k), λ k. omega (arith, k)))
+      | inr m ↦ elim m [
+        | inl e ↦ (record_with 64 4 6 592 1 0 0, inl refl, (sym e, λ k. omega (arith, k), λ k. omega (arith, k)))
+        | inr m ↦ absurd m
+      ]
+    ]
+  ]
+]
+
+at_of : {r s : Record} → r ≡ s → r.at ≡ s.at
+at_of e = ap (λ (x : Record). x.at) e
+
+among_gates : (r : Record) → IsAmong running_log r → IsAmong (40 ∷ 48 ∷ 56 ∷ 64 ∷ []) r.at
+among_gates r m = elim m [
+  | inl e ↦ inr (inr (inr (inl (at_of e))))
+  | inr m ↦ elim m [ inl e ↦ inr (inr (inl (at_of e))) | inr m ↦ elim m [ inl e ↦ inr (inl (at_of e)) | inr m ↦ elim m [ inl e ↦ inl (at_of e) | inr m ↦ absurd m ] ] ]
+]
+
+lists_of : (gates ends checkpoints : List ℕ) → gates ≡ 40 ∷ 48 ∷ 56 ∷ 64 ∷ [] → ends ≡ [] → checkpoints ≡ [] → ListsAll running_log gates ends checkpoints
+lists_of gates ends checkpoints g e c = record {
+  groups = record {
+    of_gates = λ a m. gate_of a (subst (λ (xs : List ℕ). IsAmong xs a) g m);
+    of_ends = λ a m. absurd (subst (λ (xs : List ℕ). IsAmong xs a) e m);
+    of_checkpoints = λ a m. absurd (subst (λ (xs : List ℕ). IsAmong xs a) c m);
+  };
+  each = λ r m. inl (subst (λ (xs : List ℕ). IsAmong xs r.at) (sym g) (among_gates r m));
+}
+
+-- ---- its undo
+
+pub four_records : (first second third fourth : Placed) → record_of_placed first ≡ record_with 40 1 1 577 5 7 0 → record_of_placed second ≡ record_with 48 2 1 578 0 9 1
+    → record_of_placed third ≡ record_with 56 3 2 578 9 0 1 → record_of_placed fourth ≡ record_with 64 4 6 592 1 0 0
+    → reverse (map record_of_placed (first ∷ second ∷ third ∷ fourth ∷ [])) ≡ running_log
+four_records first second third fourth e1 e2 e3 e4 = λ i. e4 i ∷ e3 i ∷ e2 i ∷ e1 i ∷ []
+
+-- of a layout of this shape and a device with these words
+pub can_undo : (layout : Layout) (cells : Region) (spare next : ℕ) (records : List Placed) (gates : Gates) → layout_shape layout ≡ small → cells ≡ region → 153 ≤ spare → next ≡ 5 →
+    length records ≡ 4 → reverse (map record_of_placed records) ≡ running_log → HasRunningGates gates → CanUndo layout 1 records next gates small_state small_state cells spare
+can_undo layout cells spare next records gates is loads room five four records_are h =
+    let sixteen : layout.cells ≡ 16 = ap (λ (s : Shape). s.cells) is in
+    let gates_len = ap length h.gates_are in
+    let ends_len = ap length h.ends_are in
+    let gates_memory = h.gates_memory in
+    let ends_memory = h.ends_memory in
+    let gates_ok = gates.gates.ok.0 in
+    let ends_ok = gates.ends.ok.0 in
+    record {
+      settled = subst (λ (s : Shape). HasSettled s small_state small_state cells) (sym is) (subst (λ (r : Region). HasSettled small small_state small_state r) (sym loads) small_settled);
+      sound = subst (λ (s : Shape). IsSoundState s small_state) (sym is) small_sound;
+      quiet = subst (λ (s : Shape). AreQuiet s cells) (sym is) (subst (λ (r : Region). AreQuiet small r) (sym loads) small_quiet);
+      loser = small_loser;
+      records_are = records_are;
+      next_is = five;
+      applied = small_applied (policy_number layout.policy);
+      lists = lists_of gates.gates.items gates.ends.items gates.checkpoints.items h.gates_are h.ends_are h.checkpoints_are;
+      gates_fit = omega (arith, gates_len, gates_memory, gates_ok);
+      ends_fit = omega (arith, ends_len, ends_memory, ends_ok);
+      spare_fits = omega (arith, sixteen, four, room);
+    }
+
+-- ---- a checkpoint behind it
+
+among_either : (xs ys : Log) (r : Record) → IsAmong (xs ++ ys) r → IsAmong xs r ⊎ IsAmong ys r
+among_either [] ys r m = inr m
+among_either (x ∷ xs) ys r (inl e) = inl (inl e)
+among_either (x ∷ xs) ys r (inr m) = elim (among_either xs ys r m) [ inl here ↦ inl (inr here) | inr there ↦ inr there ]
+
+among_left : (xs ys : Log) (r : Record) → IsAmong xs r → IsAmong (xs ++ ys) r
+among_left [] ys r m = elim m [ ]
+among_left (x ∷ xs) ys r (inl e) = inl e
+among_left (x ∷ xs) ys r (inr m) = inr (among_left xs ys r m)
+
+module _ (layout : Layout) (before gates : Gates) (next : ℕ) (cells : Region) (is : layout_shape layout ≡ small) (g : HasRunningGates before)
+    (h : IsUndone layout 1 before small_state small_state next gates cells) where
+  of_one : (r : Record) → IsAmong h.state.log r → IsOf 1 r
+  of_one r m = elim (among_either h.news running_log r (subst (λ (l : Log). IsAmong l r) h.log m)) [ inl new ↦ h.mine r new | inr old ↦ (each_of_one r old).0 ]
+
+  not_skipped : (t : ℕ) → IsSkipped h.state.log t → ⊥
+  not_skipped t k = let c = k.2.1 in (of_one c.0 c.1).1 c.2.0
+
+  opened : HasOpen h.state.log
+  opened =
+      let e = h.ended in
+      (e.0, subst (λ (l : Log). IsAmong l e.0) (sym h.log) (among_left h.news running_log e.0 e.1), ((h.mine e.0 e.1).1, not_skipped e.0.transaction))
+
+  over : (t : ℕ) → IsLoser h.state.log t → ⊥
+  over t k = let was = h.losers t k in let some = was.0.0 in was.1 (sym some.2.0 ∙ ((each_of_one some.0 some.1).0).0)
+
+  pub can_checkpoint : CanCheckpoint layout next gates small_state h.state cells
+  can_checkpoint =
+      let same = ap (λ v. vec_len v) h.grown.checkpoints in
+      let memory = ap (λ v. vec_capacity v) h.grown.checkpoints in
+      let none = ap length g.checkpoints_are in
+      let ok = before.checkpoints.ok.0 in
+      let room = g.checkpoints_memory in
+      record {
+        settled = h.settled;
+        sound = subst (λ (s : Shape). IsSoundState s small_state) (sym is) small_sound;
+        quiet = h.quiet;
+        no_force = ap (λ (s : Shape). s.policy) is;
+        opened = opened;
+        over = over;
+        applied = h.applied;
+        next_is = h.next_is;
+        lists = h.lists;
+        fits = omega (arith, same, memory, none, ok, room);
+      }

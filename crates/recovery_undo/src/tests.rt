@@ -1,0 +1,234 @@
+//! One transaction on a small region, which is undone to its end or up to a stop.
+ghost use Rattle.std.specs.Prelude.{◌≡◌, ◌≤◌, ◌+◌, ℕ, IfOk, [], ◌∷◌};
+ghost use Rattle.persist_model.specs.Region.{loaded};
+ghost use Rattle.persist_model.specs.State.{State};
+ghost use Rattle.region_layout.specs.Layout.{layout_shape};
+ghost use Rattle.bucket_log.specs.Scans.{record_of_placed};
+ghost use Rattle.recovery_undo.specs.Checkpoint.{CanCheckpoint};
+ghost use Rattle.recovery_undo.specs.Images.{small, word_in, words_in, running, record_with, HasRunningGates};
+
+use crate::{append_checkpoint, undo};
+use bucket_log::Placed;
+use lane_traits::{Device, Done};
+use persist_model::Look;
+use persist_model::format::{COMPENSATION, DELETION, UPDATE};
+use recovery_run::{Gates, put};
+use region_layout::{Cell, Layout, Policy};
+use std::alloc::Global;
+use std::process::Abort;
+use std::test::Fail;
+use word_region::{Cut, PlainCells};
+
+fn small_layout() -> Layout
+    ensures { layout_shape result ≡ small }
+{
+    Layout {
+        policy: Policy::NoForce,
+        cells: 16,
+        buckets: 4,
+        blocks: 16,
+        structures: 1,
+        format: 1,
+        partitions: 1,
+    }
+}
+
+fn word_of(pairs: &[(u32, u64)], a: u32) -> u64
+    ensures { result ≡ word_in pairs.now a }
+{
+    for pair in pairs {
+        if a == pair.0 {
+            return pair.1;
+        }
+    }
+    0
+}
+
+// So many words, as the pairs say.
+fn words_of(alloc: Global, pairs: &[(u32, u64)], size: u32) -> Result<Vec<u64>, Fail>
+    ensures { IfOk result (λ words. words.items ≡ words_in pairs.now size) }
+{
+    let mut words = Vec::new(alloc);
+    for a in 0..size {
+        let word = word_of(pairs, a);
+        words.push(word)?;
+    }
+    Ok(words)
+}
+
+// The region of the tests, with memory for the stores of an undo and of a checkpoint record.
+fn small_region(alloc: Global) -> Result<PlainCells, Fail>
+    ensures cells { IfOk result (λ region. ⟦<PlainCells as Device>⟧.cells region ≡ loaded (words_in running 832)) }
+    ensures spare { IfOk result (λ region. 153 ≤ ⟦<PlainCells as Device>⟧.spare region) }
+{
+    let pairs = [
+        (0, 5933297088048660481),
+        (1, 2),
+        (2, 16),
+        (3, 4),
+        (4, 16),
+        (5, 1),
+        (8, 32),
+        (9, 32),
+        (40, 1),
+        (41, 1),
+        (42, 1),
+        (43, 577),
+        (44, 5),
+        (45, 7),
+        (48, 2),
+        (49, 1),
+        (50, 1),
+        (51, 578),
+        (53, 9),
+        (54, 1),
+        (56, 3),
+        (57, 1),
+        (58, 2),
+        (59, 578),
+        (60, 9),
+        (62, 1),
+        (64, 4),
+        (65, 1),
+        (66, 6),
+        (67, 592),
+        (68, 1),
+        (576, 1),
+        (577, 7),
+        (578, 9),
+        (592, 1),
+    ];
+    let words = words_of(alloc, &pairs, 832)?;
+    let mut region = PlainCells::new(alloc, 100000);
+    region.load(words.as_slice())?;
+    region.reserve(153)?;
+    Ok(region)
+}
+
+// A record of the transaction that isn't an end.
+fn record(
+    at: u32,
+    gate: u64,
+    kind: u64,
+    address: u64,
+    before: u64,
+    after: u64,
+    undo_next: u64,
+) -> Placed
+    ensures { record_of_placed result ≡ record_with at gate kind address before after undo_next }
+{
+    Placed {
+        at,
+        cell: Cell {
+            gate,
+            transaction: 1,
+            kind,
+            address,
+            before,
+            after,
+            undo_next,
+            outcome: 0,
+        },
+    }
+}
+
+// The gates of the region's records.
+fn small_gates(alloc: Global) -> Result<Gates, Fail>
+    ensures { IfOk result (λ gates. HasRunningGates gates) }
+{
+    let mut gates = Gates::with_memory(alloc, 6, 1, 1)?;
+    put(&mut gates.gates, 40);
+    put(&mut gates.gates, 48);
+    put(&mut gates.gates, 56);
+    put(&mut gates.gates, 64);
+    Ok(gates)
+}
+
+// Undoes the transaction.
+fn undo_small<D: Device>(device: &mut D, layout: Layout, next: &mut u64, gates: &mut Gates) -> Done
+    requires shape { layout_shape layout ≡ small }
+    requires cells { D.cells device.old ≡ loaded (words_in running 832) }
+    requires spare { 153 ≤ D.spare device.old }
+    requires next { next.old ≡ 5 }
+    requires gates { HasRunningGates gates.old }
+    ensures made { result ≡ Done.Made → (first y : State) × CanCheckpoint layout next.new gates.new first y (D.cells device.new) }
+    ensures spare_left { 37 ≤ D.spare device.new }
+{
+    let records = [
+        record(40, 1, UPDATE, 577, 5, 7, 0),
+        record(48, 2, UPDATE, 578, 0, 9, 1),
+        record(56, 3, COMPENSATION, 578, 9, 0, 1),
+        record(64, 4, DELETION, 592, 1, 0, 0),
+    ];
+    undo(device, layout, 1, &records, next, gates)
+}
+
+fn word<W: Look>(words: &W, a: u32) -> u64 {
+    if a < words.size() { words.word(a) } else { 10 }
+}
+
+// The eight words of a cell.
+fn check_cell<W: Look>(rt: &impl Abort, words: &W, at: u32, expected: &[u64]) {
+    let mut a = at;
+    for value in expected {
+        assert_eq!(rt; word(words, a), *value, "at {a}");
+        a = a.saturating_add(1);
+    }
+}
+
+// A rollback record, a compensation of the first update, and an end come, and behind them a checkpoint record. Both words
+// are as they were before, and the block that was to be deleted keeps its owner.
+#[test]
+fn a_transaction_is_undone_and_a_checkpoint_follows(rt: HostRuntime) -> Result<(), Fail> {
+    let alloc = rt.alloc();
+    let layout = small_layout();
+    let mut region = small_region(alloc)?;
+    let mut gates = small_gates(alloc)?;
+    let mut next = 5;
+    match undo_small(&mut region, layout, &mut next, &mut gates) {
+        Done::Stopped => return Err("stopped".into()),
+        Done::Made => {}
+    }
+    // 10 + 1 + 10 + 1 + 1 + 10
+    assert_eq!(rt; region.events(), 33);
+    check_cell(&rt, &region, 64, &[4, 1, 6, 592, 1, 0, 0, 0]);
+    check_cell(&rt, &region, 72, &[5, 1, 3, 0, 0, 0, 0, 0]);
+    check_cell(&rt, &region, 80, &[6, 1, 2, 577, 7, 5, 0, 0]);
+    check_cell(&rt, &region, 88, &[7, 1, 4, 0, 0, 0, 0, 2]);
+    check_cell(&rt, &region, 576, &[1, 5, 0, 0]);
+    check_cell(&rt, &region, 592, &[1, 0]);
+    assert_eq!(rt; next, 8);
+    match append_checkpoint(&mut region, layout, &mut next, &mut gates) {
+        Done::Stopped => return Err("stopped".into()),
+        Done::Made => {}
+    }
+    assert_eq!(rt; region.events(), 43);
+    check_cell(&rt, &region, 96, &[8, 0, 5, 0, 0, 0, 0, 0]);
+    check_cell(&rt, &region, 8, &[32, 32, 0]);
+    assert_eq!(rt; next, 9);
+    assert_eq!(rt; gates.gates.as_slice(), [40, 48, 56, 64, 72, 80].as_slice());
+    assert_eq!(rt; gates.ends.as_slice(), [88].as_slice());
+    assert_eq!(rt; gates.checkpoints.as_slice(), [96].as_slice());
+    Ok(())
+}
+
+// A stop behind so many events of the undo. The old word of the update that was compensated before is the eleventh.
+fn stop_undo(rt: &impl Abort, alloc: Global, stop: u64) -> Result<(), Fail> {
+    let mut cut = Cut::new(small_region(alloc)?, stop);
+    let mut gates = small_gates(alloc)?;
+    let mut next = 5;
+    let done = undo_small(&mut cut, small_layout(), &mut next, &mut gates);
+    assert_eq!(rt; done, Done::Stopped);
+    assert_eq!(rt; cut.events(), stop);
+    assert_eq!(rt; word(&cut, 578), if stop < 11 { 9 } else { 0 });
+    assert_eq!(rt; word(&cut, 577), if stop < 22 { 7 } else { 5 });
+    Ok(())
+}
+
+#[test]
+fn an_undo_is_stopped_behind_any_event(rt: HostRuntime) -> Result<(), Fail> {
+    for stop in 0..33 {
+        stop_undo(&rt, rt.alloc(), stop)?;
+    }
+    Ok(())
+}
