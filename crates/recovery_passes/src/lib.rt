@@ -1,4 +1,6 @@
 //! Recovery: what the log of a sound image asks for is made on a device that may stop at any event.
+//!
+//! `check` and `analyse`, with which it begins, are exported here too: they read words and make no event.
 #![tactic(auto)]
 
 mod beginning;
@@ -10,3 +12,5 @@ mod redo;
 mod undoing;
 
 pub use recovering::{RecoverFault, Recovered, recover};
+pub use recovery_analysis::{Analysis, analyse};
+pub use sound_check::{CheckFault, check};
