@@ -129,7 +129,8 @@ impl Past {
         claimers(&self.claims, word).has_other(transaction)
     }
 
-    /// Takes one record more, whose number is new, and of which bars says whether it bars others from its word.
+    /// Takes one record more, whose number is new, and of which bars says whether it bars others from its word. Where there is no
+    /// memory it may be taken in part, and nothing more is to be asked.
     pub fn add(&mut self, layout: Layout, s: &Placed, bars: bool) -> Result<(), NoMemory>
         requires { (marks : Record → Bool) × (log : Log) × IsPast (part_of_shape (layout_shape layout)) marks self.old log
             × (length log + 1 < 2 ^ 64) × HasNo (λ r. r.lsn ≡ s.now.cell.gate) log }
