@@ -8,7 +8,7 @@ use Rattle.persist_model.specs.Need.{is_of, has_of, has_kind_of}
 use Rattle.bucket_log.specs.declared.scanning.Placed.{Placed}
 use Rattle.bucket_log.specs.Scans.{record_of_placed}
 use Rattle.bucket_log.proofs.Scans.{among_map, map_among, reverse_among, among_reverse}
-use Rattle.sound_check.specs.Rows.{log_of_rows}
+use Rattle.log_tables.specs.Rows.{log_of_rows}
 
 -- the test says P
 abbrev pub Tells : (Record → Type 0) → (Placed → Bool) → Type 0

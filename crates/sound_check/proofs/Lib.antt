@@ -9,10 +9,8 @@ pub mod Tried
 pub mod Asking
 pub mod Oldest
 pub mod Ordering
-pub mod Tabled
 pub mod Marked
 pub mod Needing
-pub mod Homed
 pub mod PartsTried
 pub mod RoomRead
 pub mod LogTried

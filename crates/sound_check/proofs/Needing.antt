@@ -9,9 +9,10 @@ use Rattle.persist_model.specs.Order.{is_kind_of}
 use Rattle.persist_model.specs.Shape.{Shape, part_of}
 use Rattle.persist_model.specs.State.{HasOpen, HasNumbers, total_need}
 use Rattle.bucket_log.specs.declared.scanning.Placed.{Placed}
-use Rattle.sound_check.specs.declared.summaries.Summaries.{Summaries}
-use Rattle.sound_check.specs.Rows.{log_of_rows, has_checkpoint_behind, IsDrawn}
-use Rattle.sound_check.specs.Tables.{AreSummaries, has_end_below, is_end_below, summary_of}
+use Rattle.log_tables.specs.declared.summaries.Summaries.{Summaries}
+use Rattle.log_tables.specs.Rows.{log_of_rows}
+use Rattle.sound_check.specs.Rows.{has_checkpoint_behind, IsDrawn}
+use Rattle.log_tables.specs.Tables.{AreSummaries, has_end_below, is_end_below, summary_of}
 use Rattle.sound_check.proofs.Asking.{log_has, any_has, both_true, equal_true, not_true, as_told}
 use Rattle.sound_check.proofs.Ordering.{IsKindOf, kind_of_true, has_as}
 

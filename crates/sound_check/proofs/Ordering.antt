@@ -1,11 +1,13 @@
 -- What the tests of records say of the order rule.
 use Rattle.std.proofs.Common.{◌≡◌, ◌≢◌, ◌⊎◌, ◌↔◌, inl, inr, ℕ, Bool, true, not, ◌==◌, ◌&&◌, refl, sym, ◌∙◌, subst, arith}
+use Rattle.std.specs.Prelude.{Option, Some, None, is_some}
 use Rattle.std.specs.List.{list_any}
 use Rattle.persist_model.specs.Records.{Record, Log, Has, HasNo, IsRollback, NamesWord, IsOf, IsEndOf, IsRunning, IsEnded, IsCommitted}
 use Rattle.persist_model.specs.Order.{is_kind_of, undo_point, last_new, Compensates, IsNextToUndo, UndoesWell, Bars, Follows}
 use Rattle.persist_model.specs.Need.{has_kind_of}
 use Rattle.log_laws.proofs.LogFaults.{next_on, next_back}
-use Rattle.sound_check.specs.Tables.{has_commit_of, has_outside, has_claim}
+use Rattle.bucket_log.specs.declared.scanning.Placed.{Placed}
+use Rattle.log_tables.specs.Tables.{has_commit_of, has_outside, has_claim, holds_found}
 use Rattle.sound_check.specs.Barring.{names_word, is_barring, IsClaim, compensates}
 use Rattle.sound_check.proofs.Asking.{log_has, kinds_any, both_true, either_true, equal_true, not_true, as_told, and_true}
 
@@ -13,6 +15,10 @@ use Rattle.sound_check.proofs.Asking.{log_has, kinds_any, both_true, either_true
 
 pub number_tells : (log : Log) (n : ℕ) (t : Bool) → t ≡ list_any (λ (s : Record). (s.lsn == n) && true) log → (t ≡ true) ↔ Has (λ s. s.lsn ≡ n) log
 number_tells log n t e = log_has (λ s. s.lsn ≡ n) (λ (s : Record). (s.lsn == n) && true) log t e (λ r. subst (λ b. (b ≡ true) ↔ (r.lsn ≡ n)) (sym (and_true (r.lsn == n))) (equal_true r.lsn n))
+
+pub some_holds : (o : Option Placed) → is_some o ≡ holds_found (λ r. true) o
+some_holds None = refl
+some_holds (Some u) = refl
 
 -- a record of this kind of a transaction
 abbrev pub IsKindOf : ℕ → ℕ → Record → Type 0

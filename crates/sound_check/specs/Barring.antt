@@ -3,7 +3,7 @@ use Rattle.std.specs.Prelude.{◌≡◌, ◌≢◌, Bool, not, ◌==◌, ◌&&�
 use Rattle.persist_model.specs.Records.{Record, Log}
 use Rattle.persist_model.specs.Order.{is_kind_of, Bars}
 use Rattle.persist_model.specs.Need.{has_kind_of}
-use Rattle.sound_check.specs.Tables.{has_commit_of}
+use Rattle.log_tables.specs.Tables.{has_commit_of}
 
 abbrev pub names_word : Record → Bool
 names_word s = (s.kind == 1) || ((s.kind == 2) || (s.kind == 6))

@@ -3,8 +3,4 @@ pub mod Walks
 pub mod Rules
 pub mod Rows
 pub mod Logs
-pub mod Seen
-pub mod Tables
-pub mod Passed
 pub mod Barring
-pub mod Homes

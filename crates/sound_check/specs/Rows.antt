@@ -1,15 +1,9 @@
--- Rows of records, ascending by number and address, and what is asked of them.
-use Rattle.std.specs.Prelude.{◌≡◌, ◌⊎◌, ℕ, ◌+◌, ◌-◌, ◌^◌, min, Bool, ◌==◌, ◌&&◌, nat_lt, List, map, reverse}
+-- What is asked of a log's numbers.
+use Rattle.std.specs.Prelude.{◌≡◌, ◌⊎◌, ℕ, ◌+◌, ◌-◌, ◌^◌, min, Bool, ◌==◌, ◌&&◌, nat_lt}
 use Rattle.std.specs.List.{list_any}
 use Rattle.persist_model.specs.Records.{Record, Log}
 use Rattle.persist_model.specs.Shape.{Shape, part_of}
 use Rattle.persist_model.specs.State.{HasOpen, total_need}
-use Rattle.bucket_log.specs.declared.scanning.Placed.{Placed}
-use Rattle.bucket_log.specs.Scans.{record_of_placed}
-
--- the records of some rows as a log, newest first
-abbrev pub log_of_rows : List Placed → Log
-log_of_rows rows = reverse (map record_of_placed rows)
 
 -- a checkpoint record has a number above n
 abbrev pub has_checkpoint_behind : ℕ → Log → Bool

@@ -5,7 +5,7 @@ ghost use Rattle.persist_model.specs.ImageRecords.{IsWellFormed, AreWellFormed};
 ghost use Rattle.persist_model.specs.Faults.{TriedOldest, NoFault};
 ghost use Rattle.bucket_log.specs.Scans.{record_of_placed};
 ghost use Rattle.region_layout.specs.Layout.{layout_shape};
-ghost use Rattle.sound_check.specs.Rows.{log_of_rows};
+ghost use Rattle.log_tables.specs.Rows.{log_of_rows};
 
 use bucket_log::Placed;
 use persist_model::format::{

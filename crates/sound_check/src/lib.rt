@@ -10,12 +10,7 @@ mod log_rules;
 mod log_words;
 mod numbers;
 mod order;
-mod parts;
-mod past;
 mod points;
-mod seen;
-mod summaries;
-mod transactions;
 mod walk;
 
 pub use checking::{SoundLog, check, read_sound};

@@ -6,13 +6,13 @@ ghost use Rattle.persist_model.specs.Records.{Record, Log, IsAmong};
 ghost use Rattle.persist_model.specs.Need.{need_of as need_of_log, need_in};
 ghost use Rattle.persist_model.specs.State.{HasOpen, HasRoom, HasNumbers, total_need as total_need_of};
 ghost use Rattle.region_layout.specs.Layout.{layout_shape};
-ghost use Rattle.sound_check.specs.Rows.{log_of_rows, IsDrawn, has_checkpoint_behind};
-ghost use Rattle.sound_check.specs.Tables.{IsSummary, AreSummaries, is_end_below, summary_of};
-ghost use Rattle.sound_check.specs.Homes.{share_of, AreHomes, AreTransactions};
+ghost use Rattle.log_tables.specs.Rows.{log_of_rows};
+ghost use Rattle.sound_check.specs.Rows.{IsDrawn, has_checkpoint_behind};
+ghost use Rattle.log_tables.specs.Tables.{IsSummary, AreSummaries, is_end_below, summary_of};
+ghost use Rattle.log_tables.specs.Homes.{share_of, AreHomes, AreTransactions};
 
-use crate::summaries::{Summaries, Summary};
-use crate::transactions::{Home, Transactions};
 use bucket_log::Placed;
+use log_tables::{Home, Summaries, Summary, Transactions};
 use persist_model::format::CHECKPOINT;
 use region_layout::{Layout, Policy};
 

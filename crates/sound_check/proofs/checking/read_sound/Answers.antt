@@ -3,7 +3,7 @@ use Rattle.std.proofs.Common.{ap, ◌∙◌}
 use Rattle.std.proofs.lemmas.Result.{err_from_is_err_and}
 use Rattle.persist_model.specs.Faults.{in_header}
 use Rattle.region_layout.specs.Layout.{layout_shape}
-use Rattle.sound_check.specs.Rows.{log_of_rows}
+use Rattle.log_tables.specs.Rows.{log_of_rows}
 use Rattle.sound_check.proofs.PartsTried.{unsound_as}
 use Rattle.sound_check.proofs.Images.{sized, are_logs, the_state, has_state, same_words, list_fault, log_fault, image_is_sound}
 use Rattle.sound_check.proofs.checking.read_sound.Goals as goal

@@ -4,7 +4,7 @@ use Rattle.persist_model.specs.ImageRecords.{IsWellFormed}
 use Rattle.log_laws.proofs.LogFaults.{all_formed}
 use Rattle.log_laws.proofs.Tries.{AllGood}
 use Rattle.region_layout.specs.Layout.{layout_shape}
-use Rattle.sound_check.specs.Rows.{log_of_rows}
+use Rattle.log_tables.specs.Rows.{log_of_rows}
 use Rattle.sound_check.proofs.Oldest.{good_next, first_bad}
 use Rattle.sound_check.proofs.formed.try_records.Goals as goal
 

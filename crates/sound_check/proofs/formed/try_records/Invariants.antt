@@ -2,7 +2,7 @@ use Rattle.std.proofs.Common.{take}
 use Rattle.persist_model.specs.ImageRecords.{IsWellFormed}
 use Rattle.log_laws.proofs.Tries.{AllGood}
 use Rattle.region_layout.specs.Layout.{layout_shape}
-use Rattle.sound_check.specs.Rows.{log_of_rows}
+use Rattle.log_tables.specs.Rows.{log_of_rows}
 use Rattle.sound_check.proofs.formed.try_records.Given as goal
 
 abbrev pub invariant-loop-r : goal.invariant-loop-r

@@ -2,7 +2,7 @@ use Rattle.std.specs.Prelude.{slice_index}
 use Rattle.std.proofs.Common.{refl}
 use Rattle.std.proofs.lemmas.Result.{err_from_is_err_and}
 use Rattle.region_layout.specs.Layout.{layout_shape}
-use Rattle.sound_check.specs.Rows.{log_of_rows}
+use Rattle.log_tables.specs.Rows.{log_of_rows}
 use Rattle.sound_check.proofs.PartsTried.{unsound_as}
 use Rattle.sound_check.proofs.LogTried.{record_fault, order_fault, room_fault, numbers_fault, log_holds}
 use Rattle.sound_check.proofs.log_rules.try_log.Goals as goal

@@ -3,7 +3,7 @@ use Rattle.persist_model.specs.State.{HasRoom}
 use Rattle.persist_model.specs.Shape.{list_words}
 use Rattle.persist_model.specs.Faults.{TriedEach, NoFault, parts}
 use Rattle.region_layout.specs.Layout.{layout_shape}
-use Rattle.sound_check.specs.Rows.{log_of_rows}
+use Rattle.log_tables.specs.Rows.{log_of_rows}
 use Rattle.sound_check.proofs.LogTried.{room_more, room_here}
 use Rattle.sound_check.proofs.log_rules.try_room.Goals as goal
 

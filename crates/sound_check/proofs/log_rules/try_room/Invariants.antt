@@ -3,7 +3,7 @@ use Rattle.std.proofs.Common.{ℕ, ◌<◌}
 use Rattle.persist_model.specs.State.{State, HasRoom}
 use Rattle.persist_model.specs.Sound.{HasState}
 use Rattle.region_layout.specs.Layout.{layout_shape}
-use Rattle.sound_check.specs.Rows.{log_of_rows}
+use Rattle.log_tables.specs.Rows.{log_of_rows}
 use Rattle.sound_check.proofs.log_rules.try_room.Given as goal
 
 abbrev pub invariant-loop-p : goal.invariant-loop-p

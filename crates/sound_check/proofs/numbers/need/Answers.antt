@@ -3,7 +3,7 @@ use Rattle.std.specs.Prelude.{sum_by}
 use Rattle.std.proofs.lemmas.List.{take_all}
 use Rattle.std.proofs.lemmas.List.Sums.{sum_by_more}
 use Rattle.persist_model.specs.Need.{need_of}
-use Rattle.sound_check.specs.Homes.{share_of}
+use Rattle.log_tables.specs.Homes.{share_of}
 use Rattle.sound_check.proofs.Needing.{saturated_both}
 use Rattle.sound_check.proofs.numbers.need.Goals as goal
 

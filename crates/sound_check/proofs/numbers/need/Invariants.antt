@@ -2,7 +2,7 @@ use Rattle.std.proofs.Common.{◌≡◌, ◌-◌, ◌^◌, ℕ, min, take}
 use Rattle.std.specs.Prelude.{sum_by}
 use Rattle.persist_model.specs.Records.{Log}
 use Rattle.persist_model.specs.Need.{need_of}
-use Rattle.sound_check.specs.Homes.{share_of, AreTransactions}
+use Rattle.log_tables.specs.Homes.{share_of, AreTransactions}
 use Rattle.sound_check.proofs.numbers.need.Given as goal
 
 abbrev pub invariant-loop-home : goal.invariant-loop-home

@@ -1,7 +1,8 @@
 use Rattle.std.proofs.Common.{◌≡◌, ◌||◌, Bool, sym, ap, ◌∙◌, arith}
 use Rattle.std.proofs.lemmas.List.{take_all}
-use Rattle.sound_check.specs.Rows.{log_of_rows, has_checkpoint_behind}
-use Rattle.sound_check.proofs.Oldest.{log_next}
+use Rattle.log_tables.specs.Rows.{log_of_rows}
+use Rattle.sound_check.specs.Rows.{has_checkpoint_behind}
+use Rattle.log_tables.proofs.Rows.{log_next}
 use Rattle.sound_check.proofs.numbers.newest_checkpoint.Goals as goal
 
 or_as : (a s t u : Bool) → u ≡ (a || s) → s ≡ t → u ≡ (a || t)

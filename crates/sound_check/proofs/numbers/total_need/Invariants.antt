@@ -1,7 +1,7 @@
 use Rattle.std.proofs.Common.{◌≡◌, ◌-◌, ◌^◌, ℕ, min}
 use Rattle.persist_model.specs.Records.{Log}
 use Rattle.persist_model.specs.State.{total_need}
-use Rattle.sound_check.specs.Homes.{AreTransactions}
+use Rattle.log_tables.specs.Homes.{AreTransactions}
 use Rattle.sound_check.proofs.numbers.total_need.Given as goal
 
 abbrev pub invariant-loop-p : goal.invariant-loop-p

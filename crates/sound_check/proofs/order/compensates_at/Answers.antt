@@ -1,7 +1,7 @@
 use Rattle.std.proofs.Common.{sym, ap, ◌∙◌}
 use Rattle.bucket_log.specs.Scans.{record_of_placed}
 use Rattle.sound_check.specs.Barring.{compensates}
-use Rattle.sound_check.specs.Tables.{holds_found}
+use Rattle.log_tables.specs.Tables.{holds_found}
 use Rattle.sound_check.proofs.order.compensates_at.Goals as goal
 
 pub returns-in-Some : goal.returns-in-Some

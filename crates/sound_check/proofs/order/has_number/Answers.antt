@@ -1,6 +1,5 @@
 use Rattle.std.proofs.Common.{true, sym, ◌∙◌}
-use Rattle.sound_check.proofs.Ordering.{number_tells}
-use Rattle.sound_check.proofs.Tabled.{some_holds}
+use Rattle.sound_check.proofs.Ordering.{number_tells, some_holds}
 use Rattle.sound_check.proofs.order.has_number.Goals as goal
 
 pub returns : goal.returns

@@ -1,7 +1,7 @@
 use Rattle.std.proofs.Common.{◌&&◌, ap, ◌∙◌}
 use Rattle.bucket_log.specs.Scans.{record_of_placed}
 use Rattle.sound_check.specs.Barring.{is_barring}
-use Rattle.sound_check.specs.Tables.{has_claim}
+use Rattle.log_tables.specs.Tables.{has_claim}
 use Rattle.sound_check.proofs.Ordering.{barred_tells}
 use Rattle.sound_check.proofs.order.is_barred.Goals as goal
 

@@ -1,7 +1,7 @@
 use Rattle.std.proofs.Common.{ap, ◌∙◌, rules}
 use Rattle.persist_model.specs.Shape.{part_of}
 use Rattle.region_layout.specs.Layout.{layout_shape}
-use Rattle.sound_check.specs.Seen.{has_other}
+use Rattle.log_tables.specs.Seen.{has_other}
 use Rattle.sound_check.proofs.Ordering.{scattered_tells}
 use Rattle.sound_check.proofs.order.is_scattered.Goals as goal
 

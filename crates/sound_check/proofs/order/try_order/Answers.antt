@@ -5,10 +5,11 @@ use Rattle.persist_model.specs.Order.{Follows}
 use Rattle.log_laws.proofs.LogFaults.{all_follow}
 use Rattle.log_laws.proofs.Tries.{AllGood}
 use Rattle.region_layout.specs.Layout.{layout_shape}
-use Rattle.sound_check.specs.Rows.{log_of_rows}
-use Rattle.sound_check.specs.Passed.{IsPast}
+use Rattle.log_tables.specs.Rows.{log_of_rows}
+use Rattle.log_tables.specs.Passed.{IsPast}
 use Rattle.sound_check.specs.Barring.{is_barring}
-use Rattle.sound_check.proofs.Oldest.{good_next, first_bad, log_next, log_short}
+use Rattle.log_tables.proofs.Rows.{log_next, log_short}
+use Rattle.sound_check.proofs.Oldest.{good_next, first_bad}
 use Rattle.sound_check.proofs.order.try_order.Goals as goal
 
 pub loop-i-init : goal.loop-i-init

@@ -3,8 +3,8 @@ use Rattle.persist_model.specs.Shape.{part_of}
 use Rattle.persist_model.specs.Order.{Follows}
 use Rattle.log_laws.proofs.Tries.{AllGood}
 use Rattle.region_layout.specs.Layout.{layout_shape}
-use Rattle.sound_check.specs.Rows.{log_of_rows}
-use Rattle.sound_check.specs.Passed.{IsPast}
+use Rattle.log_tables.specs.Rows.{log_of_rows}
+use Rattle.log_tables.specs.Passed.{IsPast}
 use Rattle.sound_check.specs.Barring.{is_barring}
 use Rattle.sound_check.proofs.order.try_order.Given as goal
 

@@ -1,0 +1,5 @@
+pub mod Rows
+pub mod Seen
+pub mod Tables
+pub mod Homes
+pub mod Passed

@@ -1,4 +1,0 @@
-use Rattle.sound_check.proofs.past.Past.of.Goals as goal
-
-pub returns : goal.returns
-returns c = λ part marks log past. c.of.ensures.summary part log past.summaries
