@@ -129,31 +129,31 @@ writes_settle = record {
 
 -- ---- a block that is given back
 
-data Giving_back (shape : Shape) (g : Giving) (o : Log) (z : Progress) : List Part → Type 0 where
-  gives : Steps shape g.transaction o z → Giving_back shape g o z (Append (cell_of_deletion g) ∷ [])
-  given : Steps shape g.transaction o z → Giving_back shape g o z []
+data GivesBack (shape : Shape) (g : Giving) (o : Log) (z : Progress) : List Part → Type 0 where
+  gives : Steps shape g.transaction o z → GivesBack shape g o z (Append (cell_of_deletion g) ∷ [])
+  given : Steps shape g.transaction o z → GivesBack shape g o z []
 
 module _ (shape : Shape) (p : ℕ) (g : Giving) where
-  give_own : (o : Log) (z : Progress) (cell : Cell) (others : List Part) → Giving_back shape g o z (Append cell ∷ others) → (cell.transaction ≡ g.transaction) × (cell.kind ≢ 5)
+  give_own : (o : Log) (z : Progress) (cell : Cell) (others : List Part) → GivesBack shape g o z (Append cell ∷ others) → (cell.transaction ≡ g.transaction) × (cell.kind ≢ 5)
   give_own o z _ _ (gives h) = (refl, λ e. absurd (omega (arith, e)))
 
-  give_add : (o : Log) (z : Progress) (cell : Cell) (others : List Part) (place : Place) (number : ℕ) → Giving_back shape g o z (Append cell ∷ others) →
+  give_add : (o : Log) (z : Progress) (cell : Cell) (others : List Part) (place : Place) (number : ℕ) → GivesBack shape g o z (Append cell ∷ others) →
       ((x : Record) → IsAmong o x → IsOf g.transaction x → x.lsn < number) → AreOnLog shape (region_append shape p place (appended place number cell)) →
-      Giving_back shape g (appended place number cell ∷ o) (advance_all z (region_append shape p place (appended place number cell))) others
+      GivesBack shape g (appended place number cell ∷ o) (advance_all z (region_append shape p place (appended place number cell))) others
   give_add o z _ _ place number (gives h) above on = given (steps_plain shape g.transaction o z (appended place number (cell_of_deletion g))
       (region_append shape p place (appended place number (cell_of_deletion g))) (λ c. elim c [ inl k ↦ absurd (omega (arith, k)) | inr k ↦ absurd (omega (arith, k)) ]) on h)
 
-  give_store : (o : Log) (z : Progress) (e : Event) (others : List Part) → Giving_back shape g o z (Word e ∷ others) → Giving_back shape g o (advance z e) others
+  give_store : (o : Log) (z : Progress) (e : Event) (others : List Part) → GivesBack shape g o z (Word e ∷ others) → GivesBack shape g o (advance z e) others
   give_store o z e others fit = elim fit [ ]
 
-  give_wait : (o : Log) (z : Progress) (others : List Part) → Giving_back shape g o z (Wait ∷ others) → Giving_back shape g o (advance z Fence) others
+  give_wait : (o : Log) (z : Progress) (others : List Part) → GivesBack shape g o z (Wait ∷ others) → GivesBack shape g o (advance z Fence) others
   give_wait o z others fit = elim fit [ ]
 
 pub gives_settle : GivesSettle
 gives_settle shape p s g q rest x z sound h goes = steps_there shape g.transaction x z (either rest
-    (goes_fit shape p g.transaction s (give_parts g) q (λ o y l. Giving_back shape g o y l) (give_own shape p g) (give_add shape p g) (give_store shape p g) (give_wait shape p g)
+    (goes_fit shape p g.transaction s (give_parts g) q (λ o y l. GivesBack shape g o y l) (give_own shape p g) (give_add shape p g) (give_store shape p g) (give_wait shape p g)
     (gives (steps_first shape g.transaction s q sound h)) rest x z goes))
   where
-    either : (l : List Part) → Giving_back shape g (own_records g.transaction x.log) z l → Steps shape g.transaction (own_records g.transaction x.log) z
+    either : (l : List Part) → GivesBack shape g (own_records g.transaction x.log) z l → Steps shape g.transaction (own_records g.transaction x.log) z
     either _ (gives k) = k
     either _ (given k) = k
