@@ -1,19 +1,19 @@
 -- The checkpoint record may come where nothing runs, and then nothing is to be redone.
-use Rattle.std.proofs.Common.{◌≡◌, ◌≢◌, ◌⊎◌, inl, inr, ℕ, ◌+◌, ◌<◌, ◌≤◌, ◌^◌, List, [], ◌∷◌, ◌++◌, refl, sym, ap, ◌∙◌, subst, arith}
+use Rattle.std.proofs.Common.{◌≡◌, inl, inr, ℕ, ◌+◌, ◌<◌, ◌≤◌, ◌^◌, [], ◌∷◌, ◌++◌, refl, sym, ap, ◌∙◌, subst, arith}
 use Rattle.std.specs.Vec.{vec_len, vec_capacity}
 use Rattle.persist_model.specs.Region.{Region}
-use Rattle.persist_model.specs.Records.{Record, IsAmong, IsOf, IsCheckpoint}
+use Rattle.persist_model.specs.Records.{Record, IsOf, IsCheckpoint}
 use Rattle.persist_model.specs.Shape.{Shape, part_of}
 use Rattle.persist_model.specs.ImageRecords.{IsWellFormed}
 use Rattle.persist_model.specs.State.{State, IsSoundState}
-use Rattle.log_laws.specs.Recovery.{AreApplied, Appends, Step, checkpoints, grown}
+use Rattle.log_laws.specs.Recovery.{Appends, Step, checkpoints, grown}
 use Rattle.log_laws.proofs.Applying.{applied_checkpointed}
 use Rattle.log_laws.proofs.Growing.{numbered, has_back}
 use Rattle.log_laws.proofs.Keeping.{recovery_keeps, good_of}
 use Rattle.region_layout.specs.declared.cell.Cell.{Cell}
 use Rattle.region_layout.specs.declared.layout.Layout.{Layout}
 use Rattle.region_layout.specs.Cell.{record_of}
-use Rattle.region_layout.specs.Layout.{layout_shape, policy_number}
+use Rattle.region_layout.specs.Layout.{layout_shape}
 use Rattle.bucket_log.specs.States.{less_room}
 use Rattle.recovery_run.specs.declared.gates.Gates.{Gates}
 use Rattle.recovery_run.specs.Groups.{ListsAll}

@@ -1,15 +1,15 @@
 -- The end of an undo: the old words are kept, and the end of the transaction comes.
-use Rattle.std.proofs.Common.{◌≡◌, ◌≢◌, ◌⊎◌, inl, inr, ℕ, zero, suc, ◌+◌, ◌*◌, ◌<◌, ◌≤◌, ◌^◌, Bool, true, false, List, [], ◌∷◌, ◌++◌, length, refl, sym, ap, ◌∙◌, subst, arith}
+use Rattle.std.proofs.Common.{◌≡◌, ◌≢◌, inl, inr, ℕ, ◌+◌, ◌*◌, ◌<◌, ◌≤◌, ◌^◌, [], ◌∷◌, ◌++◌, length, refl, sym, ap, ◌∙◌, subst, arith}
 use Rattle.std.specs.Vec.{vec_len, vec_capacity}
-use Rattle.persist_model.specs.Records.{Record, Log, IsAmong, Has, IsOf, IsEnd, IsEndOf, IsRollback, IsRunning, IsLoser}
+use Rattle.persist_model.specs.Records.{Record, Log, IsAmong, IsOf, IsLoser}
 use Rattle.persist_model.specs.Shape.{Shape, part_of}
 use Rattle.persist_model.specs.Need.{to_undo, need_of}
-use Rattle.persist_model.specs.State.{State, IsSoundState}
+use Rattle.persist_model.specs.State.{State}
 use Rattle.lane_traits.specs.declared.device.Done.{Done}
 use Rattle.lane_traits.specs.declared.device.Done.TheVariants.{Made, Stopped}
 use Rattle.log_laws.specs.Parts.{EachKeeps}
 use Rattle.log_laws.specs.Recovery.{AreApplied, IsStored, Step, grown}
-use Rattle.log_laws.proofs.Keeping.{runs_keep, good_of}
+use Rattle.log_laws.proofs.Keeping.{good_of}
 use Rattle.region_layout.specs.declared.cell.Cell.{Cell}
 use Rattle.region_layout.specs.Cell.{record_of}
 use Rattle.region_layout.specs.Layout.{layout_shape}
@@ -18,14 +18,13 @@ use Rattle.bucket_log.proofs.Scans.{among_append, among_right}
 use Rattle.recovery_run.specs.declared.gates.Gates.{Gates}
 use Rattle.recovery_run.specs.Edges.{HasCounted, KeepsWords}
 use Rattle.recovery_run.specs.Groups.{records_of, ListsAll}
-use Rattle.recovery_run.specs.Reached.{HasReached, HasSettled}
+use Rattle.recovery_run.specs.Reached.{HasSettled}
 use Rattle.recovery_run.proofs.Reaching.{settled_reached}
 use Rattle.recovery_undo.specs.declared.target.Target.{Target}
 use Rattle.recovery_undo.specs.Appending.{AreQuiet, CanTake, StepsTo, with_cell}
 use Rattle.recovery_undo.specs.Numbers.{next_lsn}
 use Rattle.recovery_undo.specs.Records.{plain_record}
-use Rattle.recovery_undo.specs.Undoing.{HasGrown, IsUndone}
-use Rattle.recovery_undo.specs.Passing.{IsNote, IsUndoing, Seen, HasSpent, Start, HasGone, Passes, Finishes, Halts}
+use Rattle.recovery_undo.specs.Passing.{Seen, HasSpent, Start, Passes, Finishes, Halts}
 use Rattle.recovery_undo.proofs.Noting.{above_all, has_room, end_comes, ended_applied, ended_need}
 use Rattle.recovery_undo.proofs.Passing.{pass_stack, pass_stored}
 use Rattle.recovery_undo.proofs.RecordsOf.{need_of-records_of, others_stay}

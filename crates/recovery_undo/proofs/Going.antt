@@ -1,10 +1,10 @@
 -- How the undo goes on, on the device.
-use Rattle.std.proofs.Common.{◌≡◌, ◌≢◌, ◌⊎◌, inl, inr, ℕ, zero, suc, ◌+◌, ◌*◌, ◌<◌, ◌≤◌, ◌^◌, Bool, true, false, List, [], ◌∷◌, ◌++◌, length, refl, sym, ap, ◌∙◌, subst, arith, add_assoc}
+use Rattle.std.proofs.Common.{◌≡◌, ◌≢◌, inl, inr, ℕ, ◌+◌, ◌*◌, ◌<◌, ◌≤◌, ◌^◌, List, [], ◌∷◌, ◌++◌, length, refl, sym, ap, ◌∙◌, subst, arith, add_assoc}
 use Rattle.std.specs.Vec.{vec_len, vec_capacity}
 use Rattle.persist_model.specs.Region.{Region}
-use Rattle.persist_model.specs.Records.{Record, Log, IsAmong, Has, IsEnd, IsCheckpoint, IsRunning}
-use Rattle.persist_model.specs.Shape.{Shape, heap, words_of_shape, list_words, part_of}
-use Rattle.persist_model.specs.Need.{to_undo, need_of, has_kind_of}
+use Rattle.persist_model.specs.Records.{Record, Log, IsAmong, IsEnd, IsCheckpoint, IsRunning}
+use Rattle.persist_model.specs.Shape.{Shape, list_words}
+use Rattle.persist_model.specs.Need.{need_of}
 use Rattle.persist_model.specs.State.{State, IsSoundState}
 use Rattle.lane_traits.specs.declared.device.Done.{Done}
 use Rattle.lane_traits.specs.declared.device.Done.TheVariants.{Made, Stopped}
@@ -12,22 +12,19 @@ use Rattle.lane_traits.specs.Device.{Counts}
 use Rattle.log_laws.specs.Parts.{EachKeeps}
 use Rattle.log_laws.proofs.Keeping.{good_of}
 use Rattle.log_laws.proofs.Needs.{has_kind_false}
-use Rattle.log_clearing.specs.Closed.{AreGroups, IsListed}
 use Rattle.region_layout.specs.declared.cell.Cell.{Cell}
 use Rattle.region_layout.specs.Cell.{record_of}
 use Rattle.region_layout.specs.Layout.{layout_shape}
 use Rattle.bucket_log.proofs.Appending.{IsAmong-push, IsAmong-last, IsAmong-cases}
-use Rattle.bucket_log.proofs.Partitions.{few_parts}
-use Rattle.log_laws.proofs.Views.{list_words_cases}
 use Rattle.recovery_run.specs.declared.gates.Gates.{Gates}
-use Rattle.recovery_run.specs.Edges.{counts_with, HasCounted, HasOneValue, KeepsWords, IsHeaderWord}
+use Rattle.recovery_run.specs.Edges.{counts_with, HasCounted, HasOneValue, KeepsWords}
 use Rattle.recovery_run.specs.Groups.{ListsAll}
-use Rattle.recovery_run.specs.Reached.{newest_at, HasReached, HasSettled, IsQuiet}
+use Rattle.recovery_run.specs.Reached.{newest_at, HasReached, HasSettled}
 use Rattle.recovery_run.proofs.Reaching.{log_word_one, settled_reached}
 use Rattle.recovery_undo.specs.declared.target.Target.{Target}
 use Rattle.recovery_undo.specs.Appending.{AreQuiet, CanTake, with_cell}
 use Rattle.recovery_undo.specs.Numbers.{next_lsn}
-use Rattle.recovery_undo.specs.Passing.{IsNote, IsUndoing, Seen, HasSpent, Start, HasGone, CanNote, Halts}
+use Rattle.recovery_undo.specs.Passing.{IsUndoing, Seen, HasSpent, Start, HasGone, CanNote, Halts}
 use Rattle.recovery_undo.proofs.Noting.{above_all, has_room}
 use Rattle.recovery_undo.proofs.Places.{allowed}
 use Rattle.recovery_undo.proofs.Taking.{list_words_few, reads_zero}

@@ -1,27 +1,24 @@
 -- The records that an undo appends, one by one: each may come, and the undo goes on with it.
-use Rattle.std.proofs.Common.{◌≡◌, ◌≢◌, ◌⊎◌, inl, inr, ℕ, ◌+◌, ◌-◌, zero-add, ◌<◌, ◌≤◌, ◌==◌, Bool, true, false, if◌then◌else◌, cond, List, [], ◌∷◌, ◌++◌, length, refl, sym, ap, ◌∙◌, subst, arith}
-use Rattle.std.proofs.lemmas.Bool.Decides.{eqb_tells, nat_tests}
-use Rattle.persist_model.specs.Region.{Words}
-use Rattle.persist_model.specs.Records.{Record, Log, IsAmong, Has, HasNo, IsOf, IsEndOf, IsUpdate, IsCompensation, IsRollback, IsEnd, IsRunning, IsLoser}
-use Rattle.persist_model.specs.Standing.{IsToUndo}
-use Rattle.persist_model.specs.Order.{IsInOrder, is_kind_of}
+use Rattle.std.proofs.Common.{◌≡◌, ◌≢◌, inl, inr, ℕ, ◌+◌, ◌-◌, zero-add, ◌<◌, ◌≤◌, true, false, [], ◌∷◌, length, refl, sym, ap, ◌∙◌, subst, arith}
+use Rattle.std.proofs.lemmas.Bool.Decides.{eqb_tells}
+use Rattle.persist_model.specs.Records.{Record, Log, IsAmong, Has, HasNo, IsOf, IsUpdate, IsRollback, IsRunning, IsLoser}
+use Rattle.persist_model.specs.Order.{IsInOrder}
 use Rattle.persist_model.specs.Shape.{Shape, part_of}
 use Rattle.persist_model.specs.ImageRecords.{IsWellFormed}
-use Rattle.persist_model.specs.Need.{to_undo, need_of, need_in, has_kind_of}
+use Rattle.persist_model.specs.Need.{to_undo, need_of, has_kind_of}
 use Rattle.persist_model.specs.State.{State, IsSoundState}
 use Rattle.log_laws.specs.Appending.{MayCome}
-use Rattle.log_laws.specs.Recovery.{AreApplied, IsCovered, Appends, IsOfLoser, IsStored, grown, Step, stores, rolls_back, compensates, ends}
+use Rattle.log_laws.specs.Recovery.{AreApplied, IsCovered, Appends, IsOfLoser, IsStored, grown, Step, rolls_back, compensates, ends}
 use Rattle.log_laws.specs.Recovering.{with_heap}
 use Rattle.log_laws.proofs.Deciding.{decide_equal}
 use Rattle.log_laws.proofs.Growing.{Descends, numbered, one_before}
 use Rattle.log_laws.proofs.Keeping.{recovery_keeps, good_of, undone_of}
 use Rattle.log_laws.proofs.Clearing.{loser_needs}
-use Rattle.log_laws.proofs.Needs.{need_rollback, need_compensation, need_end, has_kind_true, has_kind_false}
+use Rattle.log_laws.proofs.Needs.{need_rollback, need_compensation, has_kind_true, has_kind_false}
 use Rattle.log_laws.proofs.Applying.{applied_stored, applied_noted, applied_ended}
 use Rattle.log_laws.proofs.Passes.{part_inside}
 use Rattle.bucket_log.specs.States.{less_room}
 use Rattle.bucket_log.proofs.PartStates.{less_here, less_elsewhere}
-use Rattle.bucket_log.proofs.Scans.{among_right, among_append}
 use Rattle.recovery_run.specs.Reached.{with_value}
 use Rattle.recovery_run.proofs.Coming.{compensation_may_come, rollback_may_come}
 use Rattle.recovery_undo.specs.Numbers.{next_lsn}

@@ -1,9 +1,7 @@
 -- The pass over the records of a transaction, newest first, with a count of the compensations whose updates are still to come.
-use Rattle.std.proofs.Common.{◌≡◌, ◌≢◌, ◌⊎◌, inl, inr, ℕ, zero, suc, ◌+◌, ◌≤◌, ◌==◌, ◌&&◌, Bool, true, false, if◌then◌else◌, List, [], ◌∷◌, ◌++◌, drop, refl, sym, ap, ◌∙◌, subst, arith, add-one}
+use Rattle.std.proofs.Common.{◌≡◌, ◌≢◌, ◌⊎◌, inl, inr, ℕ, zero, suc, ◌+◌, ◌≤◌, ◌==◌, Bool, true, false, if◌then◌else◌, [], ◌∷◌, drop, refl, sym, ap, ◌∙◌, subst, arith, add-one}
 use Rattle.std.proofs.lemmas.Bool.Decides.{nat_tests}
-use Rattle.persist_model.specs.Region.{Words}
 use Rattle.persist_model.specs.Records.{Record, Log, IsAmong, Has, IsOf, IsUpdate, IsCompensation, IsRollback}
-use Rattle.persist_model.specs.Standing.{IsEarliest}
 use Rattle.persist_model.specs.Order.{is_kind_of}
 use Rattle.persist_model.specs.Shape.{Shape, part_of}
 use Rattle.persist_model.specs.Need.{rest, to_undo}
@@ -21,7 +19,7 @@ use Rattle.recovery_run.specs.Reached.{with_value}
 use Rattle.recovery_undo.specs.Passing.{IsUndoing, IsPassing}
 use Rattle.recovery_undo.specs.Records.{compensation_of, plain_record}
 use Rattle.recovery_undo.proofs.RecordsOf.{to_undo-records_of, undone_words-records_of, records_of_are}
-use Rattle.recovery_undo.proofs.Noting.{compensated, stored, rolled_back}
+use Rattle.recovery_undo.proofs.Noting.{compensated, stored}
 
 -- ---- a stack without its first records
 

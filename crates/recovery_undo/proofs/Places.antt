@@ -1,27 +1,13 @@
 -- Where a record goes that recovery appends, and what its append leaves of the recovery words and of the header.
-use Rattle.std.proofs.Common.{◌≡◌, ◌≢◌, ◌⊎◌, ◌↔◌, inl, inr, ℕ, zero, suc, ◌+◌, ◌-◌, ◌*◌, ◌<◌, ◌≤◌, ◌==◌, Bool, true, false, if◌then◌else◌, List, [], ◌∷◌, ◌++◌, length, map, Some, None, Option, refl, sym, ap, ◌∙◌, subst, arith}
-use Rattle.std.specs.Prelude.{slice_index, slice_index_or, All}
-use Rattle.std.proofs.lemmas.Bool.Decides.{eqb_tells, nat_tests}
-use Rattle.std.proofs.lemmas.List.{map-append}
+use Rattle.std.proofs.Common.{◌≡◌, ◌↔◌, ℕ, ◌+◌, ◌<◌, ◌≤◌, Bool, true, false, List, length, None, Option, sym, ap, ◌∙◌, subst, arith}
+use Rattle.std.specs.Prelude.{slice_index}
 use Rattle.std.proofs.lemmas.List.FromFn.{length-map-range_with_len}
-use Rattle.persist_model.specs.declared.event.Event.{Event}
-use Rattle.persist_model.specs.declared.event.Event.TheVariants.{Store, PStore, WriteBack, Fence}
-use Rattle.persist_model.specs.declared.event.Candidate.{Candidate}
-use Rattle.persist_model.specs.Region.{Words, Region, after, candidate, fenced, IsCandidate, newest, newest_words}
-use Rattle.persist_model.specs.Records.{Record, IsAmong}
-use Rattle.persist_model.specs.Shape.{Shape, shape_of, heap, words_of_shape, bucket_size, log_words, list_words, part_of, IsShape, IsBucketOf}
-use Rattle.persist_model.specs.Chain.{view, out_address, out_event, TO_APPEND, TO_REMOVE, last_or, AreBuckets, ListRules}
-use Rattle.persist_model.specs.ImageRecords.{cell_address}
+use Rattle.persist_model.specs.Region.{Words, Region, newest, newest_words}
+use Rattle.persist_model.specs.Shape.{Shape, shape_of, heap, words_of_shape, log_words, list_words, IsShape, IsBucketOf}
+use Rattle.persist_model.specs.Chain.{view, out_address, AreBuckets, ListRules}
 use Rattle.persist_model.specs.State.{State}
 use Rattle.persist_model.specs.Sound.{HasState, room_of}
-use Rattle.persist_model.proofs.Candidates.{fenced-push}
-use Rattle.lane_traits.specs.Device.{IsWithin}
-use Rattle.log_laws.specs.Appending.{IsAppend}
-use Rattle.log_laws.specs.MoveRoom.{TakesCell}
-use Rattle.log_laws.specs.Recovering.{RECOVERY}
-use Rattle.log_laws.specs.Parts.{after_plan}
-use Rattle.log_laws.proofs.Views.{IsStoreOn, AreStoresOn, AreStoresOn-append, AreStoresOn-map, AreStoresOn-out, out_cases, view-out, list_words_cases}
-use Rattle.atomic_list.specs.Plans.{insertion}
+use Rattle.log_laws.proofs.Views.{view-out}
 use Rattle.atomic_list.specs.Reads.{SameLog}
 use Rattle.atomic_list.specs.Rules.{IsAtRest, IsList, at_rest, appending, removing, IsListWord}
 use Rattle.atomic_list.specs.Walk.{chain_of}
@@ -32,30 +18,21 @@ use Rattle.atomic_list.proofs.RulesToCases.{list_of_rules}
 use Rattle.atomic_list.proofs.Walks.{chain_of_list}
 use Rattle.region_layout.specs.declared.layout.Layout.{Layout}
 use Rattle.region_layout.specs.declared.layout.Buckets.{Buckets}
-use Rattle.region_layout.specs.declared.cell.Cell.{Cell}
-use Rattle.region_layout.specs.Cell.{record_of}
 use Rattle.region_layout.specs.Layout.{layout_shape, IsAllowed, IsPart}
 use Rattle.region_layout.proofs.Headers.{shapes_are_read}
 use Rattle.bucket_log.specs.declared.append.Place.{Place}
-use Rattle.bucket_log.specs.Appends.{CanAppend, region_append}
 use Rattle.bucket_log.specs.Places.{IsPlaceBy, IsNextPlace}
 use Rattle.bucket_log.specs.Reads.{IsLogOfPart}
-use Rattle.bucket_log.specs.Plans.{closing, body, opening, cell_plan, insertion_of, append_plan, place_address}
-use Rattle.bucket_log.specs.States.{less_room}
-use Rattle.bucket_log.specs.Words.{IsPartWord}
 use Rattle.bucket_log.proofs.Addresses.{bucket_above, list_word_is_log_word}
-use Rattle.bucket_log.proofs.Appending.{Each-among, among_last, closing_stores}
-use Rattle.bucket_log.proofs.Appended.{inside_log, view_room, next_places_take, appends_are_states, appends_take_cell}
-use Rattle.bucket_log.proofs.Partitions.{few_parts, bucket_word_below, log_word_out, part_word_below, part_of_cell, registers_below}
+use Rattle.bucket_log.proofs.Appending.{Each-among}
+use Rattle.bucket_log.proofs.Appended.{inside_log, view_room, next_places_take}
+use Rattle.bucket_log.proofs.Partitions.{few_parts, bucket_word_below, log_word_out, part_word_below, registers_below}
 use Rattle.log_partition.specs.Views.{viewed}
 use Rattle.log_partition.specs.Merging.{AreLogsOf}
 use Rattle.log_partition.proofs.Views.{viewed-is, length-viewed, view_shape, out_below}
-use Rattle.recovery_run.specs.Edges.{StoresElsewhere, StoreElsewhere, HasOneValue, KeepsWords, IsHeaderWord, AreOffHeader}
 use Rattle.recovery_run.specs.Reached.{newest_at, HasReached, IsQuiet}
-use Rattle.recovery_run.proofs.Aside.{plan_keeps}
-use Rattle.recovery_run.proofs.Composing.{size_plan}
-use Rattle.recovery_run.proofs.Reaching.{has_state, log_word_one, read_newest, newest_one}
-use Rattle.recovery_undo.specs.Appending.{CanTake, IsPlaceFor}
+use Rattle.recovery_run.proofs.Reaching.{has_state}
+use Rattle.recovery_undo.specs.Appending.{IsPlaceFor}
 
 -- ---- the next place
 

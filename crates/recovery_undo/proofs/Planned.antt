@@ -1,6 +1,6 @@
 -- The plan of an append on the region: which words it stores to, and what it leaves of the recovery words.
-use Rattle.std.proofs.Common.{◌≡◌, ◌≢◌, ◌⊎◌, inl, inr, ℕ, zero, suc, ◌+◌, ◌-◌, ◌*◌, ◌<◌, ◌≤◌, ◌==◌, Bool, true, false, if◌then◌else◌, List, [], ◌∷◌, ◌++◌, length, map, Some, None, Option, refl, sym, ap, ◌∙◌, subst, arith}
-use Rattle.std.specs.Prelude.{slice_get, slice_index_or, All}
+use Rattle.std.proofs.Common.{◌≡◌, ◌≢◌, ◌⊎◌, inl, inr, ℕ, zero, suc, ◌+◌, ◌<◌, ◌≤◌, ◌==◌, Bool, true, false, if◌then◌else◌, List, [], ◌∷◌, ◌++◌, length, map, refl, sym, ap, ◌∙◌, subst, arith}
+use Rattle.std.specs.Prelude.{slice_index_or, All}
 use Rattle.std.proofs.lemmas.Bool.Decides.{eqb_tells, nat_tests}
 use Rattle.std.proofs.lemmas.List.{map-append, length-map}
 use Rattle.std.proofs.Common.{append_assoc}
@@ -8,23 +8,22 @@ use Rattle.persist_model.specs.declared.event.Event.{Event}
 use Rattle.persist_model.specs.declared.event.Event.TheVariants.{Store, PStore, WriteBack, Fence}
 use Rattle.persist_model.specs.Region.{Region, after, candidate, fenced, IsCandidate}
 use Rattle.persist_model.specs.Records.{Record}
-use Rattle.persist_model.specs.Shape.{Shape, heap, words_of_shape, list_words, IsBucketOf}
-use Rattle.persist_model.specs.Chain.{out_address, out_event, TO_APPEND, word_behind, last_or}
+use Rattle.persist_model.specs.Shape.{Shape, heap, list_words, IsBucketOf}
+use Rattle.persist_model.specs.Chain.{out_address, out_event, word_behind, last_or}
 use Rattle.persist_model.proofs.Candidates.{fenced-push}
 use Rattle.lane_traits.specs.Device.{IsWithin}
 use Rattle.log_laws.specs.Recovering.{RECOVERY, IsOnLog, AreOnLog}
 use Rattle.log_laws.specs.Parts.{after_plan}
 use Rattle.log_laws.proofs.Views.{AreStoresOn, AreStoresOn-append, AreStoresOn-out, out_cases, list_words_cases}
-use Rattle.atomic_list.specs.declared.plans.Insert.{Insert}
 use Rattle.atomic_list.specs.Plans.{insertion}
 use Rattle.bucket_log.specs.declared.append.Place.{Place}
-use Rattle.bucket_log.specs.Appends.{CanAppend, region_append}
+use Rattle.bucket_log.specs.Appends.{CanAppend}
 use Rattle.bucket_log.specs.Places.{IsPlaceBy}
 use Rattle.bucket_log.specs.Plans.{closing, cell_plan, insertion_of, append_plan, append_events, place_address}
 use Rattle.bucket_log.proofs.Addresses.{bucket_above}
 use Rattle.bucket_log.proofs.AppendPlans.{appends_have_events}
 use Rattle.bucket_log.proofs.Appending.{Each-among, among_last, closing_stores}
-use Rattle.recovery_run.specs.Edges.{StoresElsewhere, StoreElsewhere, HasOneValue}
+use Rattle.recovery_run.specs.Edges.{StoreElsewhere, HasOneValue}
 use Rattle.recovery_run.proofs.Aside.{plan_keeps}
 use Rattle.recovery_run.proofs.Making.{past_end}
 

@@ -1,15 +1,14 @@
 -- The tests' region holds a sound state with one running transaction, and what its undo needs and leaves.
-use Rattle.std.proofs.Common.{◌≡◌, ◌≢◌, ◌⊎◌, inl, inr, ℕ, zero, suc, ◌+◌, ◌*◌, ◌<◌, ◌≤◌, ◌==◌, if◌then◌else◌, List, [], ◌∷◌, ◌++◌, length, map, reverse, refl, sym, ap, ◌∙◌, subst, arith}
+use Rattle.std.proofs.Common.{◌≡◌, ◌⊎◌, inl, inr, ℕ, zero, suc, ◌<◌, ◌≤◌, ◌==◌, if◌then◌else◌, List, [], ◌∷◌, ◌++◌, length, map, reverse, refl, sym, ap, ◌∙◌, subst, arith}
 use Rattle.std.specs.Vec.{vec_len, vec_capacity}
 use Rattle.std.proofs.lemmas.List.FromFn.{length-map-range_with_len, get_or-map-range_with_len}
 use Rattle.persist_model.specs.Region.{Words, Region, loaded}
-use Rattle.persist_model.specs.Records.{Record, Log, IsAmong, Has, HasNo, IsOf, IsEnd, IsCheckpoint, IsRunning, IsLoser, IsSkipped, IsEndOf}
-use Rattle.persist_model.specs.Standing.{IsToUndo, IsToDelete, IsToRedo, Stands, undone, deleted, redone, kept}
-use Rattle.persist_model.specs.Shape.{Shape, SECOND_MAGIC, shape_of, IsShape, heap_words, log_words, words_of_shape}
+use Rattle.persist_model.specs.Records.{Record, Log, IsAmong, Has, IsOf, IsEnd, IsCheckpoint, IsRunning, IsLoser, IsSkipped}
+use Rattle.persist_model.specs.Standing.{IsToUndo, Stands, undone, deleted, redone, kept}
+use Rattle.persist_model.specs.Shape.{Shape, SECOND_MAGIC, shape_of, IsShape, log_words, words_of_shape}
 use Rattle.persist_model.specs.ImageRecords.{AreRecords}
 use Rattle.persist_model.specs.State.{State, HasOpen, IsSoundState}
 use Rattle.persist_model.specs.Sound.{HasState, IsListOf, room_of}
-use Rattle.log_laws.specs.Closing.{IsApplied}
 use Rattle.log_laws.specs.Recovery.{AreApplied}
 use Rattle.log_laws.proofs.Deciding.{from_yes, decide_both, decide_has, decide_running, decide_to_undo}
 use Rattle.log_laws.proofs.LogFaults.{LogHolds, log_some, sound_of_holds, decide_of}
@@ -30,7 +29,7 @@ use Rattle.recovery_run.proofs.Reaching.{read_newest, settled_begins}
 use Rattle.recovery_undo.specs.Appending.{AreQuiet}
 use Rattle.recovery_undo.specs.Checkpoint.{CanCheckpoint}
 use Rattle.recovery_undo.specs.Images.{small, Pair, word_in, words_in, running, running_log, record_with, HasRunningGates}
-use Rattle.recovery_undo.specs.Undoing.{AreGatesOf, CanUndo, IsUndone, undo_events}
+use Rattle.recovery_undo.specs.Undoing.{CanUndo, IsUndone}
 
 abbrev w : Words
 w = word_in running

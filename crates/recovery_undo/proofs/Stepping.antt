@@ -1,14 +1,11 @@
 -- The turns of the pass on the device: what each needs, and how the pass goes on behind it.
-use Rattle.std.proofs.Common.{◌≡◌, ◌≢◌, ◌⊎◌, inl, inr, ℕ, zero, suc, ◌+◌, ◌-◌, ◌*◌, ◌<◌, ◌≤◌, ◌==◌, Bool, true, false, List, [], ◌∷◌, ◌++◌, length, map, reverse, refl, sym, ap, ◌∙◌, subst, arith}
+use Rattle.std.proofs.Common.{◌≡◌, ◌≢◌, inl, ℕ, suc, ◌+◌, ◌<◌, ◌≤◌, List, [], ◌∷◌, length, map, reverse, refl, sym, ap, ◌∙◌, subst, arith}
 use Rattle.std.proofs.Common.{get_or, take}
 use Rattle.std.proofs.lemmas.List.{take_more, map-append, reverse-append}
-use Rattle.std.specs.Vec.{vec_len, vec_capacity}
-use Rattle.persist_model.specs.Region.{Region}
-use Rattle.persist_model.specs.Records.{Record, Log, IsAmong, Has, HasNo, IsOf, IsUpdate, IsCompensation, IsRollback}
-use Rattle.persist_model.specs.Shape.{Shape, heap, words_of_shape, part_of, IsHeapWord}
+use Rattle.persist_model.specs.Records.{Record, Log, IsAmong, IsUpdate, IsCompensation}
+use Rattle.persist_model.specs.Shape.{Shape, words_of_shape, part_of, IsHeapWord}
 use Rattle.persist_model.specs.Need.{to_undo, need_of}
 use Rattle.persist_model.specs.State.{State}
-use Rattle.lane_traits.specs.declared.device.Done.{Done}
 use Rattle.lane_traits.specs.declared.device.Done.TheVariants.{Made, Stopped}
 use Rattle.log_laws.specs.Appending.{MayCome}
 use Rattle.log_laws.specs.Recovery.{IsCovered, grown}
@@ -21,14 +18,13 @@ use Rattle.bucket_log.specs.declared.scanning.Placed.{Placed}
 use Rattle.bucket_log.specs.Scans.{record_of_placed}
 use Rattle.bucket_log.specs.States.{less_room}
 use Rattle.recovery_run.specs.declared.gates.Gates.{Gates}
-use Rattle.recovery_run.specs.Edges.{HasCounted, KeepsWords, IsHeaderWord}
-use Rattle.recovery_run.specs.Reached.{newest_at, with_value, HasReached}
+use Rattle.recovery_run.specs.Reached.{with_value, HasReached}
 use Rattle.recovery_undo.specs.declared.target.Target.{Target}
 use Rattle.recovery_undo.specs.Appending.{AreQuiet, with_cell}
 use Rattle.recovery_undo.specs.Numbers.{next_lsn}
-use Rattle.recovery_undo.specs.Records.{compensation_of, plain_record}
-use Rattle.recovery_undo.specs.Passing.{IsUndoing, IsPassing, Seen, HasSpent, Start, HasGone, CanNote, Passes, Halts}
-use Rattle.recovery_undo.proofs.Noting.{compensation_comes, compensation_less, rollback_comes, rollback_less, covers}
+use Rattle.recovery_undo.specs.Records.{compensation_of}
+use Rattle.recovery_undo.specs.Passing.{IsPassing, Seen, HasSpent, Start, HasGone, CanNote, Passes, Halts}
+use Rattle.recovery_undo.proofs.Noting.{compensation_comes, compensation_less, covers}
 use Rattle.recovery_undo.proofs.Passing.{passed_among, pass_other, pass_compensation, pass_update, top_is, pass_compensates}
 use Rattle.recovery_undo.proofs.Going.{spent_more, few_partitions, halts, store_spare}
 

@@ -1,10 +1,10 @@
 -- What the append of a record needs and leaves, from the conditions of the call.
-use Rattle.std.proofs.Common.{◌≡◌, ◌≢◌, ◌⊎◌, inl, inr, ℕ, ◌+◌, ◌<◌, ◌≤◌, List, length, map, refl, sym, ap, ◌∙◌, subst, arith, Bool, true, false}
+use Rattle.std.proofs.Common.{◌≡◌, ◌≢◌, ◌⊎◌, inl, inr, ℕ, ◌+◌, ◌<◌, ◌≤◌, length, refl, sym, ap, ◌∙◌, subst, arith, Bool, true, false}
 use Rattle.std.specs.Prelude.{All}
 use Rattle.std.proofs.lemmas.Bool.Decides.{eqb_tells}
-use Rattle.persist_model.specs.Region.{Words, Region, IsCandidate}
+use Rattle.persist_model.specs.Region.{Words, Region}
 use Rattle.persist_model.specs.Records.{Record}
-use Rattle.persist_model.specs.Shape.{Shape, heap, log_words, list_words, words_of_shape, part_of, IsBucketOf}
+use Rattle.persist_model.specs.Shape.{Shape, log_words, list_words, part_of, IsBucketOf}
 use Rattle.persist_model.specs.Chain.{view}
 use Rattle.persist_model.specs.State.{State}
 use Rattle.lane_traits.specs.Device.{IsWithin}
@@ -26,7 +26,7 @@ use Rattle.bucket_log.proofs.Appended.{appends_are_states, appends_take_cell}
 use Rattle.bucket_log.proofs.Appending.{Each-among}
 use Rattle.bucket_log.proofs.Partitions.{few_parts, part_of_cell}
 use Rattle.recovery_run.specs.Edges.{StoreElsewhere, HasOneValue, KeepsWords, IsHeaderWord, AreOffHeader}
-use Rattle.recovery_run.specs.Reached.{newest_at, HasReached, IsQuiet}
+use Rattle.recovery_run.specs.Reached.{newest_at, IsQuiet}
 use Rattle.recovery_run.proofs.Aside.{plan_keeps}
 use Rattle.recovery_run.proofs.Composing.{size_plan}
 use Rattle.recovery_run.proofs.Reaching.{log_word_one, read_newest, newest_one}

@@ -1,5 +1,5 @@
 -- How far the undo of one transaction has come.
-use Rattle.std.specs.Prelude.{◌≡◌, ◌⊎◌, ℕ, ◌+◌, ◌*◌, ◌≤◌, ◌==◌, if◌then◌else◌, List, [], ◌∷◌, ◌++◌, length, map, reverse, drop}
+use Rattle.std.specs.Prelude.{◌≡◌, ◌⊎◌, ℕ, ◌+◌, ◌*◌, ◌≤◌, if◌then◌else◌, List, [], ◌∷◌, ◌++◌, length, map, reverse, drop}
 use Rattle.std.specs.Vec.{vec_len, vec_capacity}
 use Rattle.persist_model.specs.Region.{Words, Region}
 use Rattle.persist_model.specs.Records.{Record, Log, IsAmong, Has, IsOf, IsRollback, IsRunning}

@@ -1,7 +1,4 @@
-use Rattle.std.proofs.Common.{◌≡◌, ◌≤◌, ◌<◌, ℕ, List, length, Some, None, refl, sym, ap, ◌∙◌, subst, arith}
-use Rattle.std.specs.Prelude.{slice_index}
-use Rattle.std.proofs.lemmas.List.FromFn.{length-map-range_with_len}
-use Rattle.persist_model.specs.Region.{newest, newest_words}
+use Rattle.std.proofs.Common.{◌≡◌, ◌≤◌, ℕ, List, length, None, sym, ap, ◌∙◌, subst, arith}
 use Rattle.persist_model.specs.Chain.{view}
 use Rattle.persist_model.specs.Shape.{log_words, words_of_shape}
 use Rattle.region_layout.specs.Layout.{layout_shape}

@@ -1,5 +1,4 @@
-use Rattle.std.proofs.Common.{◌≡◌, ◌≤◌, ◌<◌, ℕ, ◌+◌, refl, arith}
-use Rattle.region_layout.specs.Layout.{layout_shape}
+use Rattle.std.proofs.Common.{refl, arith}
 use Rattle.recovery_undo.proofs.Checkpointing.{checkpoint_take, checkpoint_next, checkpoint_steps, checkpointed}
 use Rattle.recovery_undo.proofs.checkpoint.append_checkpoint.Goals as goal
 

@@ -1,6 +1,4 @@
-use Rattle.std.proofs.Common.{◌≡◌, ◌∷◌, [], refl, ap, arith}
-use Rattle.persist_model.specs.Records.{Record, Log}
-use Rattle.recovery_undo.specs.Images.{running_log}
+use Rattle.std.proofs.Common.{◌∷◌, [], refl, ap, arith}
 use Rattle.recovery_undo.specs.Undoing.{CanUndo}
 use Rattle.recovery_undo.proofs.Small.{small_state, four_records, can_undo, can_checkpoint}
 use Rattle.recovery_undo.proofs.tests.undo_small.Goals as goal

@@ -1,8 +1,4 @@
-use Rattle.std.proofs.Common.{◌≡◌, ◌≤◌, ◌<◌, ℕ, ◌+◌, length, refl, sym, ap, ◌∙◌, subst, arith}
-use Rattle.lane_traits.specs.declared.device.Done.{Done}
-use Rattle.lane_traits.specs.declared.device.Done.TheVariants.{Made, Stopped}
-use Rattle.region_layout.specs.Layout.{layout_shape}
-use Rattle.recovery_undo.specs.Passing.{seen, HasSpent}
+use Rattle.std.proofs.Common.{refl, arith}
 use Rattle.recovery_undo.proofs.Going.{note_take, note_spare, note_fits, note_next, note_halts, note_goes}
 use Rattle.recovery_undo.proofs.undoing.append_note.Goals as goal
 

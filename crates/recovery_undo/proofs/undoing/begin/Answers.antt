@@ -1,4 +1,4 @@
-use Rattle.std.proofs.Common.{◌≡◌, ℕ, length, refl, sym, ap, ◌∙◌, subst, arith}
+use Rattle.std.proofs.Common.{length, sym}
 use Rattle.recovery_undo.proofs.Beginning.{rolled_passes, can_roll, roll_goes}
 use Rattle.recovery_undo.proofs.undoing.begin.Goals as goal
 

@@ -1,4 +1,4 @@
-use Rattle.std.proofs.Common.{◌≡◌, ℕ, ◌+◌, ◌∷◌, length, refl, sym, ap, ◌∙◌, subst, arith}
+use Rattle.std.proofs.Common.{ℕ, ◌∷◌, length}
 use Rattle.bucket_log.specs.Scans.{record_of_placed}
 use Rattle.recovery_undo.proofs.Stepping.{can_compensate, compensate_goes}
 use Rattle.recovery_undo.proofs.undoing.compensate.Goals as goal

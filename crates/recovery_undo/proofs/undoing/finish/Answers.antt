@@ -1,6 +1,5 @@
-use Rattle.std.proofs.Common.{◌≡◌, ◌≤◌, ◌<◌, ℕ, ◌+◌, [], length, refl, sym, ap, ◌∙◌, subst, arith}
+use Rattle.std.proofs.Common.{refl, arith}
 use Rattle.region_layout.specs.Layout.{layout_shape}
-use Rattle.lane_traits.specs.declared.device.Done.TheVariants.{Made, Stopped}
 use Rattle.recovery_undo.specs.Passing.{seen}
 use Rattle.recovery_undo.proofs.Ending.{fence_halts, fenced_quiet, end_take, end_steps, end_spare, end_fits, end_next, end_halts, finishes}
 use Rattle.recovery_undo.proofs.undoing.finish.Goals as goal

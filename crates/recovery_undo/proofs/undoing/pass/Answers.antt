@@ -1,6 +1,4 @@
-use Rattle.std.proofs.Common.{◌≡◌, ◌≤◌, ◌<◌, ℕ, ◌+◌, ◌-◌, [], ◌∷◌, List, length, map, reverse, take, get_or, refl, sym, ap, ◌∙◌, subst, arith}
-use Rattle.std.proofs.lemmas.List.{take_all}
-use Rattle.persist_model.specs.Records.{Log}
+use Rattle.std.proofs.Common.{◌≡◌, ◌-◌, [], ◌∷◌, map, reverse, take, get_or, refl, ap, arith}
 use Rattle.bucket_log.specs.Scans.{record_of_placed}
 use Rattle.recovery_undo.specs.Passing.{Start, Passes, seen}
 use Rattle.recovery_undo.proofs.Stepping.{no_placed, newest_of, passes_on}

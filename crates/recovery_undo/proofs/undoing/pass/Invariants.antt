@@ -1,4 +1,4 @@
-use Rattle.std.proofs.Common.{◌≡◌, ◌≤◌, ◌+◌, ℕ, length, map, reverse, take}
+use Rattle.std.proofs.Common.{◌≤◌, ◌+◌, length, map, reverse, take}
 use Rattle.bucket_log.specs.Scans.{record_of_placed}
 use Rattle.recovery_undo.specs.Passing.{seen, Start, Passes}
 use Rattle.recovery_undo.proofs.undoing.pass.Given as goal

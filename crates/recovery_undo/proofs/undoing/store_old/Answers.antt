@@ -1,10 +1,8 @@
-use Rattle.std.proofs.Common.{◌≡◌, ◌≤◌, ◌<◌, ℕ, ◌+◌, ◌∷◌, List, length, refl, sym, ap, ◌∙◌, subst, arith}
-use Rattle.persist_model.specs.Region.{Region}
+use Rattle.std.proofs.Common.{◌≡◌, ◌≤◌, ◌<◌, ℕ, sym, ◌∙◌, arith}
 use Rattle.persist_model.specs.Shape.{heap}
 use Rattle.lane_traits.specs.declared.device.Done.TheVariants.{Made, Stopped}
 use Rattle.region_layout.specs.Layout.{layout_shape}
 use Rattle.bucket_log.specs.Scans.{record_of_placed}
-use Rattle.recovery_run.specs.Edges.{KeepsWords, IsHeaderWord}
 use Rattle.recovery_undo.specs.Passing.{seen}
 use Rattle.recovery_undo.proofs.Going.{counted_as, quiet_kept, at_most_three}
 use Rattle.recovery_undo.proofs.Stepping.{heap_word, word_inside, covered, spare_one, old_goes, old_halts}

@@ -1,4 +1,3 @@
-use Rattle.std.proofs.Common.{◌≡◌, ◌≤◌, ◌<◌, ℕ, ◌+◌, length, refl, sym, ap, ◌∙◌, subst, arith}
 use Rattle.recovery_undo.specs.Passing.{seen, HasSpent}
 use Rattle.recovery_undo.specs.Undoing.{CanUndo, undo_events}
 use Rattle.region_layout.specs.Layout.{layout_shape}

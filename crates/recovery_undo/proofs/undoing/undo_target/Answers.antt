@@ -1,4 +1,4 @@
-use Rattle.std.proofs.Common.{◌≡◌, ℕ, refl}
+use Rattle.std.proofs.Common.{refl}
 use Rattle.recovery_undo.proofs.undoing.undo_target.Goals as goal
 
 pub pass-requires : goal.pass-requires

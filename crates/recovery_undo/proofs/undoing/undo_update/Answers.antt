@@ -1,4 +1,4 @@
-use Rattle.std.proofs.Common.{◌≡◌, ◌≤◌, ◌<◌, ℕ, ◌+◌, ◌-◌, ◌∷◌, List, length, refl, sym, ap, ◌∙◌, subst, arith}
+use Rattle.std.proofs.Common.{◌≡◌, ◌+◌, ◌-◌, ◌∷◌, refl, sym, arith}
 use Rattle.bucket_log.specs.Scans.{record_of_placed}
 use Rattle.recovery_undo.proofs.Stepping.{passes_at}
 use Rattle.recovery_undo.proofs.undoing.undo_update.Goals as goal
