@@ -82,7 +82,7 @@ module _ (layout : Layout) (p : ℕ) (cell : Cell) (first y : State) (region : R
 
   pub is_append : IsAppend (layout_shape layout) (newest_at region) y (record_of (place_address place) cell) (less_room p y.room)
       (region_append (layout_shape layout) p place (record_of (place_address place) cell))
-  is_append = appends_are_states shape p w y (takes can.quiet).chain place r ok can.inside (has layout first y region can.reached) appends
+  is_append = appends_are_states shape p w y (takes can.quiet).chain place r ok can.inside (has layout first y region can.reached) appends can.above
 
   pub cell_taken : TakesCell (layout_shape layout) y (record_of (place_address place) cell) (less_room p y.room)
   cell_taken = appends_take_cell shape p w y (takes can.quiet).chain place r ok can.inside (has layout first y region can.reached) appends
