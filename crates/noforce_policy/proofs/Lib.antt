@@ -1,3 +1,6 @@
 pub mod Courses
 pub mod Checkpoints
+pub mod Sweeps
+pub mod Backed
+pub mod BackedImages
 mod Examples

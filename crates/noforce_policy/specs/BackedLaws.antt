@@ -1,0 +1,106 @@
+-- The laws of words that the log backs: an update's OLD and a checkpoint's sweep meet what their appends ask of an image's heap words.
+use Rattle.std.specs.Prelude.{◌≡◌, ◌≢◌, ◌⊎◌, ℕ, ◌<◌, List, [], ◌∷◌, ◌++◌}
+use Rattle.persist_model.specs.declared.event.Event.{Event}
+use Rattle.persist_model.specs.declared.event.Event.TheVariants.{Store, WriteBack, Fence}
+use Rattle.persist_model.specs.Region.{Words, Region, IsCandidate, newest, after, MayStand}
+use Rattle.persist_model.specs.Law.{after_all}
+use Rattle.persist_model.specs.Records.{Record, Log, IsAmong, Has, HasNo, IsChange, IsEnd, IsCheckpoint, IsRunning}
+use Rattle.persist_model.specs.Shape.{Shape, IsHeapWord, words_of_shape, heap_words}
+use Rattle.persist_model.specs.Standing.{IsToUndo, IsToDelete, IsLatest}
+use Rattle.persist_model.specs.Order.{undo_point}
+use Rattle.persist_model.specs.State.{State, IsSoundState}
+use Rattle.log_laws.specs.Closing.{IsClosing}
+use Rattle.log_laws.specs.Moves.{MayName, IsChangeBy}
+use Rattle.bucket_log.specs.declared.append.Place.{Place}
+use Rattle.bucket_log.specs.declared.parts.Update.{Update}
+use Rattle.bucket_log.specs.Appends.{region_append}
+use Rattle.plan_records.specs.Cells.{cell_of_update, cell_of_checkpoint, appended}
+use Rattle.plan_records.specs.Passing.{inserted, Passes}
+use Rattle.plan_records.specs.Appends.{MayAppend, MayStandAt}
+use Rattle.plan_records.specs.Conditions.{CanUpdate, CanCheckpoint, IsUpdateOf, AreSweptIn}
+use Rattle.plan_records.specs.Courses.{IsAboveOwn}
+use Rattle.plan_records.specs.HeapImages.{LeavesKept}
+use Rattle.noforce_policy.specs.Backed.{HasOneValue, IsBacked, AreBacked, AreOwnBacked, AreAllSwept, IsNoStoreTo, AreNoStoresTo, IsWrittenBack, IsBesideSweep, AreBesideSweep}
+
+-- ---- the sweep of one word
+
+pub record SweepsSettle : Type 0 where
+  pub written_back : (region : Region) (lane a v : ℕ) → IsCandidate (region.at a) v → IsWrittenBack lane (after region lane (WriteBack a)) a
+  pub beside : (region : Region) (lane a by : ℕ) (e : Event) → IsBesideSweep lane a by e → IsWrittenBack lane region a → IsWrittenBack lane (after region by e) a
+  pub fenced : (region : Region) (lane a : ℕ) → IsWrittenBack lane region a → HasOneValue (after region lane Fence) a
+  pub stays : (region : Region) (by a : ℕ) (e : Event) → IsNoStoreTo a e → HasOneValue region a → HasOneValue (after region by e) a
+  pub same : (region : Region) (by a : ℕ) (e : Event) → IsNoStoreTo a e → newest ((after region by e).at a) ≡ newest (region.at a)
+
+-- A word that a lane wrote back, and that then nobody stored to and nobody else wrote back, has one value behind that lane's next fence, the
+-- newest one, and keeps it until it is stored to again, whatever is done to other words meanwhile.
+abbrev pub SweptWordsSettle : Type 0
+SweptWordsSettle = (region : Region) (lane a v : ℕ) (until rest : List (ℕ × Event)) → IsCandidate (region.at a) v → AreBesideSweep lane a until → AreNoStoresTo a rest →
+    let later = after_all region ((lane, WriteBack a) ∷ (until ++ (lane, Fence) ∷ rest)) in
+    HasOneValue later a × (newest (later.at a) ≡ newest (region.at a))
+
+-- ---- what keeps words backed
+
+pub record EventsKeepBacked : Type 0 where
+  pub word : (log : Log) (region : Region) (by a : ℕ) (e : Event) → IsNoStoreTo a e → IsBacked log region a → IsBacked log (after region by e) a
+  -- each store to a heap word is to one that is to be undone or deleted
+  pub each : (shape : Shape) (log : Log) (region : Region) (by : ℕ) (e : Event) →
+      ((a : ℕ) → IsHeapWord shape a → IsNoStoreTo a e ⊎ Has (IsToUndo log a) log ⊎ Has (IsToDelete log a) log) →
+      AreBacked shape log region → AreBacked shape log (after region by e)
+  -- the store of the NEW of the last change by a running transaction
+  pub store : (shape : Shape) (x : State) (region : Region) (lane t a : ℕ) (r : Record) → IsSoundState shape x → IsRunning x.log t → IsLatest (IsChangeBy t a) x.log r →
+      IsBacked x.log (after region lane (Store a r.after)) a
+
+pub record RecordsKeepBacked : Type 0 where
+  -- a record that is no checkpoint record and doesn't change the word
+  pub word : (log : Log) (region : Region) (r : Record) (a : ℕ) → Passes log r → r.kind ≢ 5 → (IsChange r → r.word ≢ a) → IsBacked log region a → IsBacked (inserted r log) region a
+  -- a record of a running transaction, but its end
+  pub running : (shape : Shape) (s x : State) (region : Region) (r : Record) → Passes s.log r → r.kind ≢ 4 → r.kind ≢ 5 → IsRunning s.log r.transaction →
+      x.log ≡ inserted r s.log → IsSoundState shape x → AreBacked shape s.log region → AreBacked shape x.log region
+  -- the end of a transaction whose words are backed
+  pub ends : (shape : Shape) (log : Log) (region : Region) (e : Record) → Passes log e → IsEnd e → AreOwnBacked e.transaction log region →
+      AreBacked shape log region → AreBacked shape (inserted e log) region
+  -- a checkpoint record behind its sweep; a running transaction's words aren't asked to be swept
+  pub checkpoints : (shape : Shape) (s : State) (region : Region) (c : Record) → shape.policy ≡ 2 → IsSoundState shape s → IsCheckpoint c → Passes s.log c →
+      AreBacked shape s.log region → AreAllSwept shape s.log region → AreBacked shape (inserted c s.log) region
+  pub own : (shape : Shape) (s : State) (region : Region) (c : Record) (t : ℕ) → IsSoundState shape s → IsCheckpoint c → IsRunning s.log t →
+      AreOwnBacked t s.log region → AreOwnBacked t (inserted c s.log) region
+  -- a closing, where the words of the blocks that are deleted have one value
+  pub closings : (shape : Shape) (s : State) (region : Region) (w : Words) (later : Log) → shape.policy ≡ 2 → IsSoundState shape s → IsClosing shape.policy s.log w later →
+      ((a : ℕ) → IsHeapWord shape a → Has (IsToDelete s.log a) s.log → HasOneValue region a) → AreBacked shape s.log region → AreBacked shape later region
+
+-- A change that is stored backs its word, and its transaction's other words stay backed: a write's parts and each undo of an abort.
+abbrev pub ChangesAreBacked : Type 0
+ChangesAreBacked = (shape : Shape) (s x : State) (region : Region) (lane : ℕ) (r : Record) → Passes s.log r → IsChange r → IsRunning s.log r.transaction →
+    IsAboveOwn r.transaction s.log r.lsn → x.log ≡ inserted r s.log → IsSoundState shape x → AreOwnBacked r.transaction s.log region →
+    AreOwnBacked r.transaction x.log (after region lane (Store r.word r.after))
+
+-- where no records are each word has one value
+abbrev pub EmptyLogsBack : Type 0
+EmptyLogsBack = (shape : Shape) (region : Region) → ((a : ℕ) → IsHeapWord shape a → HasOneValue region a) → AreBacked shape [] region
+
+-- ---- what the appends ask of an image
+
+-- an update whose OLD is the newest value of its word, in each image
+abbrev pub BackedUpdatesMeet : Type 0
+BackedUpdatesMeet = (shape : Shape) (x : State) (u : Record) (region : Region) (i : Words) → shape.policy ≡ 2 → IsSoundState shape x → IsHeapWord shape u.word →
+    IsRunning x.log u.transaction → MayName x.log u → u.undo_next ≡ undo_point u.transaction x.log → region.size ≡ words_of_shape shape → MayStand i region →
+    AreBacked shape x.log region → AreOwnBacked u.transaction x.log region → u.before ≡ newest (region.at u.word) → IsUpdateOf shape x u (heap_words shape i)
+
+-- a checkpoint behind its sweep
+abbrev pub SweptWordsMeet : Type 0
+SweptWordsMeet = (shape : Shape) (s : State) (region : Region) (i : Words) → shape.policy ≡ 2 → IsSoundState shape s → region.size ≡ words_of_shape shape → MayStand i region →
+    AreBacked shape s.log region → AreAllSwept shape s.log region → AreSweptIn shape s (heap_words shape i)
+
+-- So what their appends leave to a stop hangs on no image's heap words.
+abbrev pub UpdatesLeave : Type 0
+UpdatesLeave = (shape : Shape) (p : ℕ) (w : Words) (x : State) (u : Update) (chain : List ℕ) (place : Place) (number k : ℕ) (region : Region) (i : Words) →
+    let r = appended place number (cell_of_update u) in
+    shape.policy ≡ 2 → MayAppend shape p w x chain place r → CanUpdate shape x r → u.previous ≡ undo_point u.transaction x.log →
+    region.size ≡ words_of_shape shape → MayStand i region → AreBacked shape x.log region → AreOwnBacked u.transaction x.log region → u.before ≡ newest (region.at u.word) →
+    MayStandAt shape w (region_append shape p place r) k i → LeavesKept shape p x place r k i
+
+abbrev pub CheckpointsLeave : Type 0
+CheckpointsLeave = (shape : Shape) (w : Words) (s : State) (chain : List ℕ) (place : Place) (number k : ℕ) (region : Region) (i : Words) →
+    let c = appended place number cell_of_checkpoint in
+    shape.policy ≡ 2 → MayAppend shape 0 w s chain place c → CanCheckpoint shape s c → region.size ≡ words_of_shape shape → MayStand i region →
+    AreBacked shape s.log region → AreAllSwept shape s.log region → MayStandAt shape w (region_append shape 0 place c) k i → LeavesKept shape 0 s place c k i
