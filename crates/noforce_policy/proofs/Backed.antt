@@ -12,7 +12,7 @@ use Rattle.persist_model.proofs.Candidates.{newest-push}
 use Rattle.log_laws.specs.Closing.{IsClosing}
 use Rattle.log_laws.specs.Moves.{IsChangeBy}
 use Rattle.log_laws.proofs.Deciding.{IsDecided, decide_equal, decide_either, decide_less, decide_to_undo, decide_to_delete, decide_to_redo, has_or_none, ended_or_running}
-use Rattle.log_laws.proofs.Growing.{numbered}
+use Rattle.log_laws.proofs.Growing.{numbered, word_is_one's}
 use Rattle.log_laws.proofs.Keeping.{good_of}
 use Rattle.log_laws.proofs.Standings.{AreNumbered, latest_some}
 use Rattle.log_laws.proofs.Undoing.{compensated_word, lesser_before}
@@ -22,7 +22,7 @@ use Rattle.plan_records.specs.Courses.{IsAboveOwn}
 use Rattle.plan_records.specs.HeapCourses.{IsChanged}
 use Rattle.plan_records.proofs.Passing.{inserted_out, inserted_in}
 use Rattle.noforce_policy.specs.Backed.{HasOneValue, IsUnpassed, IsBacked, IsCommittedWord, AreBacked, AreOwnBacked, AreAllSwept, IsNoStoreTo}
-use Rattle.noforce_policy.specs.BackedLaws.{EventsKeepBacked, RecordsKeepBacked, ChangesAreBacked, EmptyLogsBack}
+use Rattle.noforce_policy.specs.BackedLaws.{EventsKeepBacked, RecordsKeepBacked, RecordsKeepOwn, ChangesAreBacked, EmptyLogsBack}
 use Rattle.noforce_policy.proofs.Sweeps.{same_word, same_newest, stays}
 
 -- ---- changes
@@ -105,6 +105,7 @@ events_keep_backed = record {
     | inr (inl u) ↦ absurd (is.not_undone u.0 u.1 u.2)
     | inr (inr d) ↦ absurd (is.not_deleted d.0 d.1 d.2)
   ];
+  own = λ log region t by e away own a changed. backed_event log region by a e (away a changed) (own a changed);
   store = backed_store;
 }
 
@@ -274,7 +275,70 @@ backed_closing shape s region w later two sound closing zero all a word = record
         (λ r m k. closing.redone a r m (to_redo_of shape s a r two sound not_undone m k))
 
 pub records_keep_backed : RecordsKeepBacked
-records_keep_backed = record { word = backed_record; running = backed_running; ends = backed_end; checkpoints = backed_checkpoint; own = backed_own; closings = backed_closing }
+records_keep_backed = record { word = backed_record; running = backed_running; ends = backed_end; checkpoints = backed_checkpoint; closings = backed_closing }
+
+-- ---- the words of a running transaction
+
+-- behind a record that doesn't change them
+own_others : (shape : Shape) (s x : State) (region : Region) (r : Record) (t : ℕ) → Passes s.log r → r.kind ≢ 5 → (IsChange r → r.transaction ≢ t) →
+    IsRunning s.log r.transaction → IsRunning s.log t → x.log ≡ inserted r s.log → IsSoundState shape x → AreOwnBacked t s.log region → AreOwnBacked t x.log region
+own_others shape s x region r t passes no_check apart runs running is sound own a changed =
+    subst (λ l. IsBacked l region a) (sym is) (backed_record s.log region r a passes no_check other (own a (before (inserted_out r s.log changed.0 here))))
+  where
+    here : IsAmong (inserted r s.log) changed.0
+    here = subst (λ l. IsAmong l changed.0) is changed.1
+
+    before : (changed.0 ≡ r) ⊎ IsAmong s.log changed.0 → IsChanged s.log t a
+    before (inl e) = absurd (apart (subst IsChange e changed.2.0) (ap (λ (y : Record). y.transaction) (sym e) ∙ changed.2.2))
+    before (inr m) = (changed.0, m, changed.2)
+
+    other : IsChange r → r.word ≢ a
+    other change word =
+        let runs_later : IsRunning x.log r.transaction = subst (λ l. IsRunning l r.transaction) (sym is) (runs_on r s.log r.transaction (λ four. absurd (no_end_change r change four)) runs) in
+        let own_later : IsRunning x.log changed.0.transaction = subst (λ y. IsRunning x.log y) (sym changed.2.2)
+            (subst (λ l. IsRunning l t) (sym is) (runs_on r s.log t (λ four. absurd (no_end_change r change four)) running)) in
+        word_is_one's (part_of shape) x.log sound.order r changed.0 (subst (λ l. IsAmong l r) (sym is) (inserted_in r s.log r (inl refl))) changed.1
+        (inl change) (inl changed.2.0) (word ∙ sym changed.2.1) (inl (inl change, runs_later)) (inl (inl changed.2.0, own_later)) (λ e. apart change (e ∙ changed.2.2))
+
+-- behind a closing
+own_closing : (shape : Shape) (s : State) (region : Region) (w : Words) (later : Log) (t : ℕ) → IsSoundState shape s → IsClosing shape.policy s.log w later → IsRunning s.log t →
+    AreOwnBacked t s.log region → AreOwnBacked t later region
+own_closing shape s region w later t sound closing running own a changed = by (latest_some (IsChangeBy t a) s.log (decide_change t a))
+  where
+    before : (x : Record) → IsAmong later x → IsAmong s.log x
+    before x m = part_among _ later s.log closing.part x m
+
+    was : (x : Record) → IsAmong later x → IsUnpassed later a x → IsUnpassed s.log a x
+    was x m k = (k.0, k.1, λ skipped. k.2 (skipped_closed shape.policy s.log w later closing x.transaction (x, m, (refl, no_check_change x k.0)) skipped))
+
+    -- a record of t stays
+    still : (r : Record) → IsAmong s.log r → IsChangeBy t a r → IsAmong later r
+    still r m k = elim (part_cases _ later s.log closing.part r m) [
+      | inl on ↦ on
+      | inr gone ↦ absurd (elim gone.ended [ inl five ↦ no_check_change r k.0 five | inr ended ↦ running ended.0 ended.1 (ended.2.0, ended.2.1 ∙ k.2) ])
+    ]
+
+    by : ((r : Record) × IsLatest (IsChangeBy t a) s.log r) ⊎ HasNo (IsChangeBy t a) s.log → IsBacked later region a
+    by (inr none) = absurd (none changed.0 (before changed.0 changed.1) changed.2)
+    by (inl r) =
+        let l = own_is_latest shape s t a r.0 sound running r.1 in
+        let here = still r.0 l.among r.1.has in
+        let open_one : IsUnpassed later a r.0 = (l.has.0, l.has.1, λ skipped. running skipped.0 (before skipped.0 skipped.1) (skipped.2.0.0, skipped.2.0.1 ∙ r.1.has.2)) in
+        record {
+          changed = λ x k. (
+              let p = l.last x (before x k.among) (was x k.among k.has) in
+              let q = k.last r.0 here open_one in
+              (own a (r.0, l.among, r.1.has)).changed r.0 l ∙ ap (λ (y : Record). y.after) (numbered (part_of shape) s.log s.log sound.order r.0 x l.among (before x k.among) (omega (arith, p, q))));
+          unchanged = λ none. absurd (none r.0 here open_one);
+        }
+
+pub records_keep_own : RecordsKeepOwn
+records_keep_own = record {
+  none = λ log region t none a changed. absurd (none changed.0 changed.1 (changed.2.2, no_check_change changed.0 changed.2.0));
+  others = own_others;
+  checkpoints = backed_own;
+  closings = own_closing;
+}
 
 -- ---- a change and its store
 

@@ -3,4 +3,5 @@ pub mod Checkpoints
 pub mod Sweeps
 pub mod Backed
 pub mod BackedImages
+pub mod StoredChanges
 mod Examples

@@ -1,15 +1,16 @@
 -- What a sweep makes of the candidates of one word.
-use Rattle.std.proofs.Common.{◌≡◌, ◌≢◌, ◌⊎◌, inl, inr, ℕ, ◌+◌, cond, List, [], ◌∷◌, ◌++◌, refl, sym, ap, ◌∙◌, subst, arith}
+use Rattle.std.proofs.Common.{◌≡◌, ◌≢◌, ◌⊎◌, inl, inr, ℕ, ◌+◌, Bool, IsTrue, cond, List, [], ◌∷◌, ◌++◌, refl, sym, ap, ◌∙◌, subst, arith}
 use Rattle.std.proofs.lemmas.Bool.Decides.{eqb_tells}
 use Rattle.persist_model.specs.declared.event.Candidate.{Candidate}
 use Rattle.persist_model.specs.declared.event.Event.{Event}
 use Rattle.persist_model.specs.declared.event.Event.TheVariants.{Store, PStore, WriteBack, Fence}
 use Rattle.persist_model.specs.Region.{Region, candidate, with_word, mark_last, fenced, after, IsCandidate, newest}
 use Rattle.persist_model.specs.Law.{after_all}
+use Rattle.persist_model.specs.Shape.{Shape, IsHeapWord}
 use Rattle.persist_model.proofs.Candidates.{newest-push, newest_same_values, map-value_of-mark_last, mark_last-push, newest-fenced, IsCandidate_same_values, IsCandidate-fenced, fenced-push}
 use Rattle.persist_model.proofs.OtherFences.{fenced-other}
-use Rattle.noforce_policy.specs.Backed.{HasOneValue, IsNoStoreTo, AreNoStoresTo, IsWrittenBack, IsBesideSweep, AreBesideSweep}
-use Rattle.noforce_policy.specs.BackedLaws.{SweepsSettle, SweptWordsSettle}
+use Rattle.noforce_policy.specs.Backed.{HasOneValue, IsNoStoreTo, AreNoStoresTo, IsWrittenBack, IsBesideSweep, AreBesideSweep, TellsDirty}
+use Rattle.noforce_policy.specs.BackedLaws.{SweepsSettle, SweptWordsSettle, SweepsTell}
 
 -- ---- one word of a region
 
@@ -64,6 +65,9 @@ written_back region lane a v k =
     let m = mark_last_is (lane + 1) v (region.at a) k in
     written_of (after region lane (WriteBack a)) lane a (newest (region.at a)) m.0 (same_word a (mark_last (lane + 1)) region ∙ m.1)
 
+stored : (region : Region) (lane a v : ℕ) → IsWrittenBack lane (after region lane (PStore a v)) a
+stored region lane a v = written_of (after region lane (PStore a v)) lane a v (region.at a) (same_word a (λ cs. cs ++ candidate v (lane + 1) ∷ []) region)
+
 next_marks : (a b : ℕ) → a ≢ b → b + 1 ≢ a + 1
 next_marks a b ne e = ne (omega (arith, e))
 
@@ -91,7 +95,7 @@ settled region lane a w =
     one_of (after region lane Fence) a (newest (region.at a)) (ap (fenced (lane + 1)) w.1 ∙ fenced-push (lane + 1) w.0 (newest (region.at a)))
 
 pub sweeps_settle : SweepsSettle
-sweeps_settle = record { written_back = written_back; beside = beside; fenced = settled; stays = stays; same = same_newest }
+sweeps_settle = record { written_back = written_back; stored = stored; beside = beside; fenced = settled; stays = stays; same = same_newest }
 
 -- ---- the whole sweep of a word
 
@@ -121,3 +125,53 @@ from_written region lane a n (e ∷ until) rest near away w is =
 pub swept_words_settle : SweptWordsSettle
 swept_words_settle region lane a v until rest k near away =
     from_written (after region lane (WriteBack a)) lane a (newest (region.at a)) until rest near away (written_back region lane a v k) (same_newest region lane a (WriteBack a) tt)
+
+-- ---- the sweep of all words
+
+tells_stored : (shape : Shape) (dirty later : ℕ → Bool) (lane by b v : ℕ) (region : Region) → ((a : ℕ) → IsTrue (dirty a) → IsTrue (later a)) → IsTrue (later b) →
+    TellsDirty shape dirty lane region → TellsDirty shape later lane (after region by (Store b v))
+tells_stored shape dirty later lane by b v region more here tells a word = elim (eqb_tells a b) [
+  | inl e ↦ inl (subst (λ n. IsTrue (later n)) (sym e.1) here)
+  | inr off ↦ elim (tells a word) [
+    | inl d ↦ inl (more a d)
+    | inr (inl w) ↦ inr (inl (beside region lane a by (Store b v) off.1 w))
+    | inr (inr one) ↦ inr (inr (stays region by a (Store b v) off.1 one))
+  ]
+]
+
+tells_written_back : (shape : Shape) (dirty later : ℕ → Bool) (lane b v : ℕ) (region : Region) → ((a : ℕ) → IsTrue (dirty a) → (a ≡ b) ⊎ IsTrue (later a)) → IsCandidate (region.at b) v →
+    TellsDirty shape dirty lane region → TellsDirty shape later lane (after region lane (WriteBack b))
+tells_written_back shape dirty later lane b v region less k tells a word = elim (tells a word) [
+  | inl d ↦ (elim (less a d) [
+    | inl e ↦ inr (inl (subst (λ n. IsWrittenBack lane (after region lane (WriteBack b)) n) (sym e) (written_back region lane b v k)))
+    | inr d ↦ inl d
+  ])
+  | inr (inl w) ↦ inr (inl (beside region lane a lane (WriteBack b) (λ _. refl) w))
+  | inr (inr one) ↦ inr (inr (stays region lane a (WriteBack b) tt one))
+]
+
+tells_beside : (shape : Shape) (dirty : ℕ → Bool) (lane by : ℕ) (e : Event) (region : Region) → ((a : ℕ) → IsHeapWord shape a → IsBesideSweep lane a by e) →
+    TellsDirty shape dirty lane region → TellsDirty shape dirty lane (after region by e)
+tells_beside shape dirty lane by e region near tells a word = elim (tells a word) [
+  | inl d ↦ inl d
+  | inr (inl w) ↦ inr (inl (beside region lane a by e (near a word) w))
+  | inr (inr one) ↦ inr (inr (stays region by a e (no_store_beside lane a by e (near a word)) one))
+]
+
+tells_fenced : (shape : Shape) (dirty : ℕ → Bool) (lane : ℕ) (region : Region) → TellsDirty shape dirty lane region →
+    (a : ℕ) → IsHeapWord shape a → IsTrue (dirty a) ⊎ HasOneValue (after region lane Fence) a
+tells_fenced shape dirty lane region tells a word = elim (tells a word) [
+  | inl d ↦ inl d
+  | inr (inl w) ↦ inr (settled region lane a w)
+  | inr (inr one) ↦ inr (stays region lane a Fence tt one)
+]
+
+pub sweeps_tell : SweepsTell
+sweeps_tell = record {
+  begins = λ shape dirty lane region one a word. elim (one a word) [ inl d ↦ inl d | inr k ↦ inr (inr k) ];
+  stores = tells_stored;
+  writes_back = tells_written_back;
+  beside = tells_beside;
+  fences = tells_fenced;
+  swept = λ shape dirty lane region log clean tells a is redo. elim (tells_fenced shape dirty lane region tells a is.heap_word) [ inl d ↦ absurd (clean a is.heap_word d) | inr one ↦ one ];
+}

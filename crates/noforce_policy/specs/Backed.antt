@@ -1,5 +1,5 @@
 -- Heap words under no-force, where a stop may lose a store: what of a word's newest value the log has.
-use Rattle.std.specs.Prelude.{◌≡◌, ◌≢◌, ℕ, ◌+◌, List, [], ◌∷◌, ◌++◌}
+use Rattle.std.specs.Prelude.{◌≡◌, ◌≢◌, ◌⊎◌, ℕ, ◌+◌, Bool, IsTrue, List, [], ◌∷◌, ◌++◌}
 use Rattle.persist_model.specs.declared.event.Candidate.{Candidate}
 use Rattle.persist_model.specs.declared.event.Event.{Event}
 use Rattle.persist_model.specs.declared.event.Event.TheVariants.{Store, PStore, WriteBack, Fence}
@@ -7,6 +7,9 @@ use Rattle.persist_model.specs.Region.{Region, candidate, IsCandidate, newest}
 use Rattle.persist_model.specs.Records.{Record, Log, Has, HasNo, IsChange, IsSkipped}
 use Rattle.persist_model.specs.Shape.{Shape, IsHeapWord}
 use Rattle.persist_model.specs.Standing.{IsToUndo, IsToDelete, IsToRedo, IsLatest}
+use Rattle.region_layout.specs.declared.cell.Cell.{Cell}
+use Rattle.bucket_log.specs.declared.parts.Part.{Part}
+use Rattle.bucket_log.specs.declared.parts.Part.TheVariants.{Append, Word}
 use Rattle.plan_records.specs.HeapCourses.{IsChanged}
 
 -- whatever a stop leaves of the word is its newest value
@@ -65,3 +68,15 @@ IsBesideSweep lane a by Fence = by ≢ lane
 abbrev pub AreBesideSweep : ℕ → ℕ → List (ℕ × Event) → Type 0
 AreBesideSweep lane a [] = Unit {0}
 AreBesideSweep lane a (e ∷ events) = IsBesideSweep lane a e.0 e.1 × AreBesideSweep lane a events
+
+-- Dirty words are told by a test: each other heap word was written back by the lane, or has one value.
+abbrev pub TellsDirty : Shape → (ℕ → Bool) → ℕ → Region → Type 0
+TellsDirty shape dirty lane region = (a : ℕ) → IsHeapWord shape a → IsTrue (dirty a) ⊎ IsWrittenBack lane region a ⊎ HasOneValue region a
+
+-- ---- plans
+
+-- the plan's only stores are that of the NEW of each change, right behind its record
+pub data StoresChanges : List Part → Type 0 where
+  nothing : StoresChanges []
+  notes : {parts : List Part} (cell : Cell) → cell.kind ≢ 1 → cell.kind ≢ 2 → StoresChanges parts → StoresChanges (Append cell ∷ parts)
+  changes : {parts : List Part} (cell : Cell) → StoresChanges parts → StoresChanges (Append cell ∷ Word (Store cell.address cell.after) ∷ parts)

@@ -1,10 +1,10 @@
 -- The laws of words that the log backs: an update's OLD and a checkpoint's sweep meet what their appends ask of an image's heap words.
-use Rattle.std.specs.Prelude.{◌≡◌, ◌≢◌, ◌⊎◌, ℕ, ◌<◌, List, [], ◌∷◌, ◌++◌}
+use Rattle.std.specs.Prelude.{◌≡◌, ◌≢◌, ◌⊎◌, ℕ, Bool, IsTrue, List, [], ◌∷◌, ◌++◌}
 use Rattle.persist_model.specs.declared.event.Event.{Event}
-use Rattle.persist_model.specs.declared.event.Event.TheVariants.{Store, WriteBack, Fence}
+use Rattle.persist_model.specs.declared.event.Event.TheVariants.{Store, PStore, WriteBack, Fence}
 use Rattle.persist_model.specs.Region.{Words, Region, IsCandidate, newest, after, MayStand}
 use Rattle.persist_model.specs.Law.{after_all}
-use Rattle.persist_model.specs.Records.{Record, Log, IsAmong, Has, HasNo, IsChange, IsEnd, IsCheckpoint, IsRunning}
+use Rattle.persist_model.specs.Records.{Record, Log, Has, HasNo, IsOf, IsChange, IsEnd, IsCheckpoint, IsRunning}
 use Rattle.persist_model.specs.Shape.{Shape, IsHeapWord, words_of_shape, heap_words}
 use Rattle.persist_model.specs.Standing.{IsToUndo, IsToDelete, IsLatest}
 use Rattle.persist_model.specs.Order.{undo_point}
@@ -13,6 +13,9 @@ use Rattle.log_laws.specs.Closing.{IsClosing}
 use Rattle.log_laws.specs.Moves.{MayName, IsChangeBy}
 use Rattle.bucket_log.specs.declared.append.Place.{Place}
 use Rattle.bucket_log.specs.declared.parts.Update.{Update}
+use Rattle.bucket_log.specs.declared.parts.Giving.{Giving}
+use Rattle.bucket_log.specs.declared.parts.Closing.{Closing}
+use Rattle.bucket_log.specs.declared.parts.Undoing.{Undoing}
 use Rattle.bucket_log.specs.Appends.{region_append}
 use Rattle.plan_records.specs.Cells.{cell_of_update, cell_of_checkpoint, appended}
 use Rattle.plan_records.specs.Passing.{inserted, Passes}
@@ -20,12 +23,16 @@ use Rattle.plan_records.specs.Appends.{MayAppend, MayStandAt}
 use Rattle.plan_records.specs.Conditions.{CanUpdate, CanCheckpoint, IsUpdateOf, AreSweptIn}
 use Rattle.plan_records.specs.Courses.{IsAboveOwn}
 use Rattle.plan_records.specs.HeapImages.{LeavesKept}
-use Rattle.noforce_policy.specs.Backed.{HasOneValue, IsBacked, AreBacked, AreOwnBacked, AreAllSwept, IsNoStoreTo, AreNoStoresTo, IsWrittenBack, IsBesideSweep, AreBesideSweep}
+use Rattle.plan_records.specs.HeapCourses.{IsChanged}
+use Rattle.noforce_policy.specs.Plans.{write_plan, give_plan, commit_plan, abort_plan}
+use Rattle.noforce_policy.specs.Backed.{HasOneValue, IsBacked, AreBacked, AreOwnBacked, AreAllSwept, IsNoStoreTo, AreNoStoresTo, IsWrittenBack, IsBesideSweep, AreBesideSweep, TellsDirty, StoresChanges}
 
 -- ---- the sweep of one word
 
 pub record SweepsSettle : Type 0 where
   pub written_back : (region : Region) (lane a v : ℕ) → IsCandidate (region.at a) v → IsWrittenBack lane (after region lane (WriteBack a)) a
+  -- a durable store is as good as a store and a write back
+  pub stored : (region : Region) (lane a v : ℕ) → IsWrittenBack lane (after region lane (PStore a v)) a
   pub beside : (region : Region) (lane a by : ℕ) (e : Event) → IsBesideSweep lane a by e → IsWrittenBack lane region a → IsWrittenBack lane (after region by e) a
   pub fenced : (region : Region) (lane a : ℕ) → IsWrittenBack lane region a → HasOneValue (after region lane Fence) a
   pub stays : (region : Region) (by a : ℕ) (e : Event) → IsNoStoreTo a e → HasOneValue region a → HasOneValue (after region by e) a
@@ -38,6 +45,27 @@ SweptWordsSettle = (region : Region) (lane a v : ℕ) (until rest : List (ℕ ×
     let later = after_all region ((lane, WriteBack a) ∷ (until ++ (lane, Fence) ∷ rest)) in
     HasOneValue later a × (newest (later.at a) ≡ newest (region.at a))
 
+-- ---- the sweep of all words
+
+pub record SweepsTell : Type 0 where
+  -- where each word that isn't dirty has one value any lane may begin to sweep
+  pub begins : (shape : Shape) (dirty : ℕ → Bool) (lane : ℕ) (region : Region) → ((a : ℕ) → IsHeapWord shape a → IsTrue (dirty a) ⊎ HasOneValue region a) → TellsDirty shape dirty lane region
+  -- a store by any lane makes its word dirty
+  pub stores : (shape : Shape) (dirty later : ℕ → Bool) (lane by b v : ℕ) (region : Region) → ((a : ℕ) → IsTrue (dirty a) → IsTrue (later a)) → IsTrue (later b) →
+      TellsDirty shape dirty lane region → TellsDirty shape later lane (after region by (Store b v))
+  -- the lane's write back makes it clean
+  pub writes_back : (shape : Shape) (dirty later : ℕ → Bool) (lane b v : ℕ) (region : Region) → ((a : ℕ) → IsTrue (dirty a) → (a ≡ b) ⊎ IsTrue (later a)) → IsCandidate (region.at b) v →
+      TellsDirty shape dirty lane region → TellsDirty shape later lane (after region lane (WriteBack b))
+  -- what others do, and the lane's own events on the log, keep what the test tells
+  pub beside : (shape : Shape) (dirty : ℕ → Bool) (lane by : ℕ) (e : Event) (region : Region) → ((a : ℕ) → IsHeapWord shape a → IsBesideSweep lane a by e) →
+      TellsDirty shape dirty lane region → TellsDirty shape dirty lane (after region by e)
+  -- Behind the lane's fence each word that isn't dirty has one value.
+  pub fences : (shape : Shape) (dirty : ℕ → Bool) (lane : ℕ) (region : Region) → TellsDirty shape dirty lane region →
+      (a : ℕ) → IsHeapWord shape a → IsTrue (dirty a) ⊎ HasOneValue (after region lane Fence) a
+  -- So where no word is dirty all are swept.
+  pub swept : (shape : Shape) (dirty : ℕ → Bool) (lane : ℕ) (region : Region) (log : Log) → ((a : ℕ) → IsHeapWord shape a → IsTrue (dirty a) → ⊥) →
+      TellsDirty shape dirty lane region → AreAllSwept shape log (after region lane Fence)
+
 -- ---- what keeps words backed
 
 pub record EventsKeepBacked : Type 0 where
@@ -46,10 +74,13 @@ pub record EventsKeepBacked : Type 0 where
   pub each : (shape : Shape) (log : Log) (region : Region) (by : ℕ) (e : Event) →
       ((a : ℕ) → IsHeapWord shape a → IsNoStoreTo a e ⊎ Has (IsToUndo log a) log ⊎ Has (IsToDelete log a) log) →
       AreBacked shape log region → AreBacked shape log (after region by e)
+  -- what isn't a store to a word of t
+  pub own : (log : Log) (region : Region) (t by : ℕ) (e : Event) → ((a : ℕ) → IsChanged log t a → IsNoStoreTo a e) → AreOwnBacked t log region → AreOwnBacked t log (after region by e)
   -- the store of the NEW of the last change by a running transaction
   pub store : (shape : Shape) (x : State) (region : Region) (lane t a : ℕ) (r : Record) → IsSoundState shape x → IsRunning x.log t → IsLatest (IsChangeBy t a) x.log r →
       IsBacked x.log (after region lane (Store a r.after)) a
 
+-- what a record keeps backed of the committed words
 pub record RecordsKeepBacked : Type 0 where
   -- a record that is no checkpoint record and doesn't change the word
   pub word : (log : Log) (region : Region) (r : Record) (a : ℕ) → Passes log r → r.kind ≢ 5 → (IsChange r → r.word ≢ a) → IsBacked log region a → IsBacked (inserted r log) region a
@@ -62,17 +93,33 @@ pub record RecordsKeepBacked : Type 0 where
   -- a checkpoint record behind its sweep; a running transaction's words aren't asked to be swept
   pub checkpoints : (shape : Shape) (s : State) (region : Region) (c : Record) → shape.policy ≡ 2 → IsSoundState shape s → IsCheckpoint c → Passes s.log c →
       AreBacked shape s.log region → AreAllSwept shape s.log region → AreBacked shape (inserted c s.log) region
-  pub own : (shape : Shape) (s : State) (region : Region) (c : Record) (t : ℕ) → IsSoundState shape s → IsCheckpoint c → IsRunning s.log t →
-      AreOwnBacked t s.log region → AreOwnBacked t (inserted c s.log) region
   -- a closing, where the words of the blocks that are deleted have one value
   pub closings : (shape : Shape) (s : State) (region : Region) (w : Words) (later : Log) → shape.policy ≡ 2 → IsSoundState shape s → IsClosing shape.policy s.log w later →
       ((a : ℕ) → IsHeapWord shape a → Has (IsToDelete s.log a) s.log → HasOneValue region a) → AreBacked shape s.log region → AreBacked shape later region
+
+-- and of the words that a running transaction changed
+pub record RecordsKeepOwn : Type 0 where
+  pub none : (log : Log) (region : Region) (t : ℕ) → HasNo (IsOf t) log → AreOwnBacked t log region
+  -- a record of a running transaction that is no change by t
+  pub others : (shape : Shape) (s x : State) (region : Region) (r : Record) (t : ℕ) → Passes s.log r → r.kind ≢ 5 → (IsChange r → r.transaction ≢ t) →
+      IsRunning s.log r.transaction → IsRunning s.log t → x.log ≡ inserted r s.log → IsSoundState shape x → AreOwnBacked t s.log region → AreOwnBacked t x.log region
+  pub checkpoints : (shape : Shape) (s : State) (region : Region) (c : Record) (t : ℕ) → IsSoundState shape s → IsCheckpoint c → IsRunning s.log t →
+      AreOwnBacked t s.log region → AreOwnBacked t (inserted c s.log) region
+  pub closings : (shape : Shape) (s : State) (region : Region) (w : Words) (later : Log) (t : ℕ) → IsSoundState shape s → IsClosing shape.policy s.log w later → IsRunning s.log t →
+      AreOwnBacked t s.log region → AreOwnBacked t later region
 
 -- A change that is stored backs its word, and its transaction's other words stay backed: a write's parts and each undo of an abort.
 abbrev pub ChangesAreBacked : Type 0
 ChangesAreBacked = (shape : Shape) (s x : State) (region : Region) (lane : ℕ) (r : Record) → Passes s.log r → IsChange r → IsRunning s.log r.transaction →
     IsAboveOwn r.transaction s.log r.lsn → x.log ≡ inserted r s.log → IsSoundState shape x → AreOwnBacked r.transaction s.log region →
     AreOwnBacked r.transaction x.log (after region lane (Store r.word r.after))
+
+-- The plans of transactions store no other values.
+pub record PlansStoreChanges : Type 0 where
+  pub writes : (u : Update) → StoresChanges (write_plan u)
+  pub gives : (g : Giving) → StoresChanges (give_plan g)
+  pub commits : (c : Closing) → StoresChanges (commit_plan c)
+  pub aborts : (u : Undoing) → StoresChanges (abort_plan u)
 
 -- where no records are each word has one value
 abbrev pub EmptyLogsBack : Type 0

@@ -1,6 +1,6 @@
 //! What the plans leave to a stop, as functions that do nothing: the clause is the law.
 ghost use Rattle.noforce_policy.specs.Laws.{WritesGoOn, GivesGoOn, CommitsGoOn, AbortsGoOn, CheckpointsServe};
-ghost use Rattle.noforce_policy.specs.BackedLaws.{SweepsSettle, SweptWordsSettle, EventsKeepBacked, RecordsKeepBacked, ChangesAreBacked, EmptyLogsBack, BackedUpdatesMeet, SweptWordsMeet, UpdatesLeave, CheckpointsLeave};
+ghost use Rattle.noforce_policy.specs.BackedLaws.{SweepsSettle, SweptWordsSettle, SweepsTell, EventsKeepBacked, RecordsKeepBacked, RecordsKeepOwn, PlansStoreChanges, ChangesAreBacked, EmptyLogsBack, BackedUpdatesMeet, SweptWordsMeet, UpdatesLeave, CheckpointsLeave};
 
 use plan_records::laws::olds_meet;
 
@@ -41,19 +41,34 @@ pub fn swept_words_settle()
     ensures { SweptWordsSettle }
 {}
 
+/// While a test tells which words are dirty, a sweep of these and the sweeping lane's fence leave each word with one value.
+pub fn sweeps_tell()
+    ensures { SweepsTell }
+{}
+
 /// What no event but a store to it, and which stores, keep of a word that the log backs.
 pub fn events_keep_backed()
     ensures { EventsKeepBacked }
 {}
 
-/// Every record that a transaction or a checkpoint adds, and a closing, keep the words backed.
+/// Every record that a transaction or a checkpoint adds, and a closing, keep the committed words backed.
 pub fn records_keep_backed()
     ensures { RecordsKeepBacked }
+{}
+
+/// So is it of the words that a running transaction changed, which the others leave alone.
+pub fn records_keep_own()
+    ensures { RecordsKeepOwn }
 {}
 
 /// A change that is recorded and then stored backs its word again: a write's parts, and each undo of an abort.
 pub fn changes_are_backed()
     ensures { ChangesAreBacked }
+{}
+
+/// The plans of transactions store the NEW of each change right behind its record, and nothing else.
+pub fn plans_store_changes()
+    ensures { PlansStoreChanges }
 {}
 
 /// Where no records are, words with one value are backed.
