@@ -22,7 +22,7 @@ use Rattle.plan_records.specs.Courses.{IsAboveOwn}
 use Rattle.plan_records.specs.HeapCourses.{IsChanged}
 use Rattle.plan_records.proofs.Passing.{inserted_out, inserted_in}
 use Rattle.noforce_policy.specs.Backed.{HasOneValue, IsUnpassed, IsBacked, IsCommittedWord, AreBacked, AreOwnBacked, AreAllSwept, IsNoStoreTo}
-use Rattle.noforce_policy.specs.BackedLaws.{EventsKeepBacked, RecordsKeepBacked, RecordsKeepOwn, ChangesAreBacked, EmptyLogsBack}
+use Rattle.noforce_policy.specs.BackedLaws.{EventsKeepBacked, RecordsKeepBacked, RecordsKeepOwn, ChangedWordsAreOwn, ChangesAreBacked, EmptyLogsBack}
 use Rattle.noforce_policy.proofs.Sweeps.{same_word, same_newest, stays}
 
 -- ---- changes
@@ -339,6 +339,16 @@ records_keep_own = record {
   checkpoints = backed_own;
   closings = own_closing;
 }
+
+changed_one : (shape : Shape) (x : State) (t u a : ℕ) → IsSoundState shape x → IsRunning x.log t → IsRunning x.log u → IsChanged x.log t a → IsChanged x.log u a → t ≡ u
+changed_one shape x t u a sound runs other c d = elim (decide_equal t u) [
+  | inl e ↦ e
+  | inr ne ↦ absurd (word_is_one's (part_of shape) x.log sound.order c.0 d.0 c.1 d.1 (inl c.2.0) (inl d.2.0) (c.2.1 ∙ sym d.2.1)
+    (inl (inl c.2.0, subst (λ y. IsRunning x.log y) (sym c.2.2) runs)) (inl (inl d.2.0, subst (λ y. IsRunning x.log y) (sym d.2.2) other)) (λ e. ne (sym c.2.2 ∙ e ∙ d.2.2)))
+]
+
+pub changed_words_are_own : ChangedWordsAreOwn
+changed_words_are_own = record { undone = λ shape x t a sound running c. to_undo_of shape x t a c.0 sound running c.1 c.2; one = changed_one }
 
 -- ---- a change and its store
 

@@ -1,9 +1,9 @@
 -- What words that the log backs are in each image.
-use Rattle.std.proofs.Common.{◌≡◌, ◌≢◌, ◌⊎◌, inl, inr, ℕ, ◌<◌, ◌≤◌, nat_lt, cond, refl, sym, ◌∙◌, subst, arith}
+use Rattle.std.proofs.Common.{◌≡◌, ◌≢◌, ◌⊎◌, inl, inr, ℕ, ◌+◌, ◌*◌, ◌<◌, ◌≤◌, nat_lt, cond, refl, sym, ◌∙◌, subst, arith}
 use Rattle.std.proofs.lemmas.Bool.Decides.{nat_tests}
 use Rattle.persist_model.specs.Region.{Words, Region, newest, MayStand}
 use Rattle.persist_model.specs.Records.{Record, Log, IsAmong, Has, HasNo, IsRunning, IsChange}
-use Rattle.persist_model.specs.Shape.{Shape, IsHeapWord, heap, words_of_shape, heap_words}
+use Rattle.persist_model.specs.Shape.{Shape, IsHeapWord, IsPlainOwner, heap, words_of_shape, heap_words}
 use Rattle.persist_model.specs.Standing.{IsToUndo, IsToDelete, IsToRedo, IsLatest, Stands, undone, deleted, redone, kept}
 use Rattle.persist_model.specs.State.{State, IsSoundState}
 use Rattle.log_laws.specs.Moves.{MayName, IsChangeBy}
@@ -17,7 +17,8 @@ use Rattle.plan_records.specs.HeapUpdates.{OldsMeet}
 use Rattle.plan_records.specs.HeapImages.{LeavesKept}
 use Rattle.plan_records.proofs.Records.{updates_keep, checkpoints_keep}
 use Rattle.noforce_policy.specs.Backed.{HasOneValue, IsUnpassed, IsBacked, IsCommittedWord, AreBacked, AreOwnBacked}
-use Rattle.noforce_policy.specs.BackedLaws.{BackedUpdatesMeet, SweptWordsMeet, UpdatesLeave, CheckpointsLeave}
+use Rattle.noforce_policy.specs.BackedLaws.{BackedUpdatesMeet, SweptWordsMeet, UpdatesLeave, CheckpointsLeave, ClearsLeave}
+use Rattle.noforce_policy.proofs.Checkpoints.{checkpoints_serve}
 use Rattle.noforce_policy.proofs.Backed.{decide_change, own_is_latest, to_redo_of}
 
 -- a heap word is itself in the heap words
@@ -119,3 +120,14 @@ checkpoints_leave shape w s chain place number k region i two may can size image
     let c : Record = appended place number cell_of_checkpoint in
     kept_in shape 0 w s place c (AreSweptIn shape s) k i (checkpoints_keep shape 0 w s chain place number may can)
     (swept_words_meet shape s region i two may.sound size image all swept) stands
+
+pub clears_leave : ClearsLeave
+clears_leave shape w s chain place number owners z v x gates ends checkpoints k region may can all is close size image zero stands =
+    (checkpoints_serve shape w s chain place number owners may can all).clear z v x gates ends checkpoints k is close
+    (λ a m. in_image shape region v a (owner_word a m) size image (zero a m).0 ∙ (zero a m).1) stands
+  where
+    plain_is : (a : ℕ) → IsPlainOwner shape a → IsHeapWord shape a
+    plain_is a k = let e : a ≡ heap shape + 16 * k.0 = k.3 in let lt : k.0 < shape.blocks = k.2 in (omega (arith, e), omega (arith, e, lt))
+
+    owner_word : (a : ℕ) → IsAmong owners a → IsHeapWord shape a
+    owner_word a m = let d = (all a).0 m in subst (λ b. IsHeapWord shape b) d.2.1 (plain_is d.0.word ((may.sound.formed d.0 d.1).deletion d.2.0))

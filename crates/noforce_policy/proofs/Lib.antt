@@ -5,3 +5,4 @@ pub mod Backed
 pub mod BackedImages
 pub mod StoredChanges
 mod Examples
+mod BackedExamples

@@ -150,6 +150,16 @@ tells_written_back shape dirty later lane b v region less k tells a word = elim 
   | inr (inr one) ↦ inr (inr (stays region lane a (WriteBack b) tt one))
 ]
 
+tells_stored_durably : (shape : Shape) (dirty : ℕ → Bool) (lane b v : ℕ) (region : Region) → TellsDirty shape dirty lane region → TellsDirty shape dirty lane (after region lane (PStore b v))
+tells_stored_durably shape dirty lane b v region tells a word = elim (eqb_tells a b) [
+  | inl e ↦ inr (inl (subst (λ n. IsWrittenBack lane (after region lane (PStore b v)) n) (sym e.1) (stored region lane b v)))
+  | inr off ↦ elim (tells a word) [
+    | inl d ↦ inl d
+    | inr (inl w) ↦ inr (inl (beside region lane a lane (PStore b v) off.1 w))
+    | inr (inr one) ↦ inr (inr (stays region lane a (PStore b v) off.1 one))
+  ]
+]
+
 tells_beside : (shape : Shape) (dirty : ℕ → Bool) (lane by : ℕ) (e : Event) (region : Region) → ((a : ℕ) → IsHeapWord shape a → IsBesideSweep lane a by e) →
     TellsDirty shape dirty lane region → TellsDirty shape dirty lane (after region by e)
 tells_beside shape dirty lane by e region near tells a word = elim (tells a word) [
@@ -171,6 +181,7 @@ sweeps_tell = record {
   begins = λ shape dirty lane region one a word. elim (one a word) [ inl d ↦ inl d | inr k ↦ inr (inr k) ];
   stores = tells_stored;
   writes_back = tells_written_back;
+  stores_durably = tells_stored_durably;
   beside = tells_beside;
   fences = tells_fenced;
   swept = λ shape dirty lane region log clean tells a is redo. elim (tells_fenced shape dirty lane region tells a is.heap_word) [ inl d ↦ absurd (clean a is.heap_word d) | inr one ↦ one ];

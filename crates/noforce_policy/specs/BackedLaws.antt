@@ -4,7 +4,7 @@ use Rattle.persist_model.specs.declared.event.Event.{Event}
 use Rattle.persist_model.specs.declared.event.Event.TheVariants.{Store, PStore, WriteBack, Fence}
 use Rattle.persist_model.specs.Region.{Words, Region, IsCandidate, newest, after, MayStand}
 use Rattle.persist_model.specs.Law.{after_all}
-use Rattle.persist_model.specs.Records.{Record, Log, Has, HasNo, IsOf, IsChange, IsEnd, IsCheckpoint, IsRunning}
+use Rattle.persist_model.specs.Records.{Record, Log, IsAmong, Has, HasNo, IsOf, IsChange, IsEnd, IsCheckpoint, IsRunning}
 use Rattle.persist_model.specs.Shape.{Shape, IsHeapWord, words_of_shape, heap_words}
 use Rattle.persist_model.specs.Standing.{IsToUndo, IsToDelete, IsLatest}
 use Rattle.persist_model.specs.Order.{undo_point}
@@ -17,6 +17,8 @@ use Rattle.bucket_log.specs.declared.parts.Giving.{Giving}
 use Rattle.bucket_log.specs.declared.parts.Closing.{Closing}
 use Rattle.bucket_log.specs.declared.parts.Undoing.{Undoing}
 use Rattle.bucket_log.specs.Appends.{region_append}
+use Rattle.log_clearing.specs.Plans.{closing_plan}
+use Rattle.log_clearing.specs.Clearing.{IsClearing}
 use Rattle.plan_records.specs.Cells.{cell_of_update, cell_of_checkpoint, appended}
 use Rattle.plan_records.specs.Passing.{inserted, Passes}
 use Rattle.plan_records.specs.Appends.{MayAppend, MayStandAt}
@@ -25,6 +27,7 @@ use Rattle.plan_records.specs.Courses.{IsAboveOwn}
 use Rattle.plan_records.specs.HeapImages.{LeavesKept}
 use Rattle.plan_records.specs.HeapCourses.{IsChanged}
 use Rattle.noforce_policy.specs.Plans.{write_plan, give_plan, commit_plan, abort_plan}
+use Rattle.noforce_policy.specs.Laws.{AreAllDeletions, MayCloseEnded}
 use Rattle.noforce_policy.specs.Backed.{HasOneValue, IsBacked, AreBacked, AreOwnBacked, AreAllSwept, IsNoStoreTo, AreNoStoresTo, IsWrittenBack, IsBesideSweep, AreBesideSweep, TellsDirty, StoresChanges}
 
 -- ---- the sweep of one word
@@ -56,6 +59,8 @@ pub record SweepsTell : Type 0 where
   -- the lane's write back makes it clean
   pub writes_back : (shape : Shape) (dirty later : ℕ → Bool) (lane b v : ℕ) (region : Region) → ((a : ℕ) → IsTrue (dirty a) → (a ≡ b) ⊎ IsTrue (later a)) → IsCandidate (region.at b) v →
       TellsDirty shape dirty lane region → TellsDirty shape later lane (after region lane (WriteBack b))
+  -- its durable store leaves it written back
+  pub stores_durably : (shape : Shape) (dirty : ℕ → Bool) (lane b v : ℕ) (region : Region) → TellsDirty shape dirty lane region → TellsDirty shape dirty lane (after region lane (PStore b v))
   -- what others do, and the lane's own events on the log, keep what the test tells
   pub beside : (shape : Shape) (dirty : ℕ → Bool) (lane by : ℕ) (e : Event) (region : Region) → ((a : ℕ) → IsHeapWord shape a → IsBesideSweep lane a by e) →
       TellsDirty shape dirty lane region → TellsDirty shape dirty lane (after region by e)
@@ -108,6 +113,11 @@ pub record RecordsKeepOwn : Type 0 where
   pub closings : (shape : Shape) (s : State) (region : Region) (w : Words) (later : Log) (t : ℕ) → IsSoundState shape s → IsClosing shape.policy s.log w later → IsRunning s.log t →
       AreOwnBacked t s.log region → AreOwnBacked t later region
 
+-- A word that a running transaction changed is to be undone, and no other running one changed it.
+pub record ChangedWordsAreOwn : Type 0 where
+  pub undone : (shape : Shape) (x : State) (t a : ℕ) → IsSoundState shape x → IsRunning x.log t → IsChanged x.log t a → Has (IsToUndo x.log a) x.log
+  pub one : (shape : Shape) (x : State) (t u a : ℕ) → IsSoundState shape x → IsRunning x.log t → IsRunning x.log u → IsChanged x.log t a → IsChanged x.log u a → t ≡ u
+
 -- A change that is stored backs its word, and its transaction's other words stay backed: a write's parts and each undo of an abort.
 abbrev pub ChangesAreBacked : Type 0
 ChangesAreBacked = (shape : Shape) (s x : State) (region : Region) (lane : ℕ) (r : Record) → Passes s.log r → IsChange r → IsRunning s.log r.transaction →
@@ -151,3 +161,12 @@ CheckpointsLeave = (shape : Shape) (w : Words) (s : State) (chain : List ℕ) (p
     let c = appended place number cell_of_checkpoint in
     shape.policy ≡ 2 → MayAppend shape 0 w s chain place c → CanCheckpoint shape s c → region.size ≡ words_of_shape shape → MayStand i region →
     AreBacked shape s.log region → AreAllSwept shape s.log region → MayStandAt shape w (region_append shape 0 place c) k i → LeavesKept shape 0 s place c k i
+
+-- The clearing behind a checkpoint record, where each owner word of a deleted block is 0 and nothing else is left of it.
+abbrev pub ClearsLeave : Type 0
+ClearsLeave = (shape : Shape) (w : Words) (s : State) (chain : List ℕ) (place : Place) (number : ℕ) (owners : List ℕ) (z v : Words) (x : State) (gates ends checkpoints : List ℕ)
+    (k : ℕ) (region : Region) →
+    let c = appended place number cell_of_checkpoint in
+    MayAppend shape 0 w s chain place c → CanCheckpoint shape s c → AreAllDeletions s.log owners → x.log ≡ inserted c s.log → MayCloseEnded shape c z x gates ends checkpoints →
+    region.size ≡ words_of_shape shape → MayStand v region → ((a : ℕ) → IsAmong owners a → HasOneValue region a × (newest (region.at a) ≡ 0)) →
+    MayStandAt shape z (closing_plan gates ends checkpoints) k v → IsClearing shape v x gates ends checkpoints

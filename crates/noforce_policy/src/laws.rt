@@ -1,6 +1,6 @@
 //! What the plans leave to a stop, as functions that do nothing: the clause is the law.
 ghost use Rattle.noforce_policy.specs.Laws.{WritesGoOn, GivesGoOn, CommitsGoOn, AbortsGoOn, CheckpointsServe};
-ghost use Rattle.noforce_policy.specs.BackedLaws.{SweepsSettle, SweptWordsSettle, SweepsTell, EventsKeepBacked, RecordsKeepBacked, RecordsKeepOwn, PlansStoreChanges, ChangesAreBacked, EmptyLogsBack, BackedUpdatesMeet, SweptWordsMeet, UpdatesLeave, CheckpointsLeave};
+ghost use Rattle.noforce_policy.specs.BackedLaws.{SweepsSettle, SweptWordsSettle, SweepsTell, EventsKeepBacked, RecordsKeepBacked, RecordsKeepOwn, ChangedWordsAreOwn, PlansStoreChanges, ChangesAreBacked, EmptyLogsBack, BackedUpdatesMeet, SweptWordsMeet, UpdatesLeave, CheckpointsLeave, ClearsLeave};
 
 use plan_records::laws::olds_meet;
 
@@ -61,6 +61,11 @@ pub fn records_keep_own()
     ensures { RecordsKeepOwn }
 {}
 
+/// A word that a running transaction changed is to be undone, and no other running one changed it.
+pub fn changed_words_are_own()
+    ensures { ChangedWordsAreOwn }
+{}
+
 /// A change that is recorded and then stored backs its word again: a write's parts, and each undo of an abort.
 pub fn changes_are_backed()
     ensures { ChangesAreBacked }
@@ -98,4 +103,9 @@ pub fn updates_leave()
 /// So it is at the append of a checkpoint record behind its sweep.
 pub fn checkpoints_leave()
     ensures { CheckpointsLeave }
+{}
+
+/// The clearing behind a checkpoint record closes what it may, where the owner words of deleted blocks are 0 and nothing else is left of them.
+pub fn clears_leave()
+    ensures { ClearsLeave }
 {}
