@@ -1,9 +1,9 @@
 -- What keeps the words of a log backed.
-use Rattle.std.proofs.Common.{◌≡◌, ◌≢◌, ◌⊎◌, inl, inr, ℕ, ◌<◌, ◌≤◌, ◌+◌, [], ◌∷◌, ◌++◌, refl, sym, ap, ◌∙◌, subst, arith}
+use Rattle.std.proofs.Common.{◌≡◌, ◌≢◌, ◌⊎◌, inl, inr, ℕ, ◌<◌, [], ◌∷◌, ◌++◌, refl, sym, ap, ◌∙◌, subst, arith}
 use Rattle.persist_model.specs.declared.event.Event.{Event}
 use Rattle.persist_model.specs.declared.event.Event.TheVariants.{Store}
 use Rattle.persist_model.specs.Region.{Words, Region, candidate, newest, after}
-use Rattle.persist_model.specs.Records.{Record, Log, IsAmong, Has, HasNo, IsOf, IsUpdate, IsCompensation, IsChange, IsCheckpoint, IsEnd, IsRunning, IsEnded, IsCommitted, IsSkipped}
+use Rattle.persist_model.specs.Records.{Record, Log, IsAmong, Has, HasNo, IsChange, IsCheckpoint, IsEnd, IsRunning, IsSkipped}
 use Rattle.persist_model.specs.Shape.{Shape, IsHeapWord, part_of}
 use Rattle.persist_model.specs.Standing.{IsToUndo, IsToDelete, IsToRedo, IsLatest}
 use Rattle.persist_model.specs.Order.{Follows}
@@ -18,7 +18,6 @@ use Rattle.log_laws.proofs.Standings.{AreNumbered, latest_some}
 use Rattle.log_laws.proofs.Undoing.{compensated_word, lesser_before}
 use Rattle.log_laws.proofs.Closings.{part_among, part_cases, running_back, skipped_on as skipped_closed}
 use Rattle.plan_records.specs.Passing.{inserted, Passes}
-use Rattle.plan_records.specs.Courses.{IsAboveOwn}
 use Rattle.plan_records.specs.HeapCourses.{IsChanged}
 use Rattle.plan_records.proofs.Passing.{inserted_out, inserted_in}
 use Rattle.noforce_policy.specs.Backed.{HasOneValue, IsUnpassed, IsBacked, IsCommittedWord, AreBacked, AreOwnBacked, AreAllSwept, IsNoStoreTo}
@@ -259,14 +258,17 @@ backed_closing shape s region w later two sound closing zero all a word = record
     none : (r : Record) → IsAmong later r → IsUnpassed later a r → ⊥
     none r m k = elim (ended_or_running later r.transaction) [
       | inl ended ↦ closing.redone a r (part_among _ later s.log closing.part r m) (
-        two, k.0, k.1,
+        two,
+        k.0,
+        k.1,
         (ended.0, part_among _ later s.log closing.part ended.0 ended.1, ended.2),
-        λ skipped. k.2 (skipped_closed shape.policy s.log w later closing r.transaction (r, m, (refl, no_check_change r k.0)) skipped))
+        λ skipped. k.2 (skipped_closed shape.policy s.log w later closing r.transaction (r, m, (refl, no_check_change r k.0)) skipped),
+      )
       | inr running ↦ (
-        let before = part_among _ later s.log closing.part r m in
-        let runs = running_back shape.policy s.log w later closing r.transaction (r, m, (refl, no_check_change r k.0)) running in
-        let u = to_undo_of shape s r.transaction a r sound runs before (k.0, k.1, refl) in
-        not_undone u.0 u.1 u.2)
+          let before = part_among _ later s.log closing.part r m in
+          let runs = running_back shape.policy s.log w later closing r.transaction (r, m, (refl, no_check_change r k.0)) running in
+          let u = to_undo_of shape s r.transaction a r sound runs before (k.0, k.1, refl) in
+          not_undone u.0 u.1 u.2)
     ]
 
     one : Has (IsToDelete s.log a) s.log ⊎ HasNo (IsToDelete s.log a) s.log → HasOneValue region a
@@ -296,7 +298,7 @@ own_others shape s x region r t passes no_check apart runs running is sound own 
     other change word =
         let runs_later : IsRunning x.log r.transaction = subst (λ l. IsRunning l r.transaction) (sym is) (runs_on r s.log r.transaction (λ four. absurd (no_end_change r change four)) runs) in
         let own_later : IsRunning x.log changed.0.transaction = subst (λ y. IsRunning x.log y) (sym changed.2.2)
-            (subst (λ l. IsRunning l t) (sym is) (runs_on r s.log t (λ four. absurd (no_end_change r change four)) running)) in
+        (subst (λ l. IsRunning l t) (sym is) (runs_on r s.log t (λ four. absurd (no_end_change r change four)) running)) in
         word_is_one's (part_of shape) x.log sound.order r changed.0 (subst (λ l. IsAmong l r) (sym is) (inserted_in r s.log r (inl refl))) changed.1
         (inl change) (inl changed.2.0) (word ∙ sym changed.2.1) (inl (inl change, runs_later)) (inl (inl changed.2.0, own_later)) (λ e. apart change (e ∙ changed.2.2))
 
@@ -344,7 +346,7 @@ changed_one : (shape : Shape) (x : State) (t u a : ℕ) → IsSoundState shape x
 changed_one shape x t u a sound runs other c d = elim (decide_equal t u) [
   | inl e ↦ e
   | inr ne ↦ absurd (word_is_one's (part_of shape) x.log sound.order c.0 d.0 c.1 d.1 (inl c.2.0) (inl d.2.0) (c.2.1 ∙ sym d.2.1)
-    (inl (inl c.2.0, subst (λ y. IsRunning x.log y) (sym c.2.2) runs)) (inl (inl d.2.0, subst (λ y. IsRunning x.log y) (sym d.2.2) other)) (λ e. ne (sym c.2.2 ∙ e ∙ d.2.2)))
+      (inl (inl c.2.0, subst (λ y. IsRunning x.log y) (sym c.2.2) runs)) (inl (inl d.2.0, subst (λ y. IsRunning x.log y) (sym d.2.2) other)) (λ e. ne (sym c.2.2 ∙ e ∙ d.2.2)))
 ]
 
 pub changed_words_are_own : ChangedWordsAreOwn

@@ -1,12 +1,11 @@
 -- A word that was 5, and the log of a transaction that wrote 6 to it and committed: where the word is backed, and what a sweep has to do.
-use Rattle.std.proofs.Common.{◌≡◌, ◌⊎◌, inl, inr, ℕ, List, [], ◌∷◌, ◌++◌, refl, sym, ap, ◌∙◌, subst, arith}
+use Rattle.std.proofs.Common.{◌≡◌, ◌⊎◌, inl, inr, ℕ, List, [], ◌∷◌, refl, sym, ap, subst, arith}
 use Rattle.persist_model.specs.declared.event.Candidate.{Candidate}
 use Rattle.persist_model.specs.declared.event.Event.TheVariants.{Store, WriteBack, Fence}
-use Rattle.persist_model.specs.Region.{Words, Region, candidate, after}
+use Rattle.persist_model.specs.Region.{Region, candidate, after}
 use Rattle.persist_model.specs.Law.{after_all}
-use Rattle.persist_model.specs.Records.{Record, Log, IsAmong, Has, HasNo, IsSkipped}
-use Rattle.persist_model.specs.Standing.{IsToRedo, IsLatest, redone}
-use Rattle.log_laws.specs.Closing.{IsApplied}
+use Rattle.persist_model.specs.Records.{Record, Log, IsAmong, HasNo, IsSkipped}
+use Rattle.persist_model.specs.Standing.{IsLatest}
 use Rattle.noforce_policy.specs.Backed.{HasOneValue, IsUnpassed, IsBacked, IsBesideSweep}
 
 abbrev update : Record

@@ -1,11 +1,11 @@
 -- What words that the log backs are in each image.
-use Rattle.std.proofs.Common.{◌≡◌, ◌≢◌, ◌⊎◌, inl, inr, ℕ, ◌+◌, ◌*◌, ◌<◌, ◌≤◌, nat_lt, cond, refl, sym, ◌∙◌, subst, arith}
+use Rattle.std.proofs.Common.{◌≡◌, ◌⊎◌, inl, inr, ℕ, ◌+◌, ◌*◌, ◌<◌, ◌≤◌, nat_lt, cond, sym, ◌∙◌, subst, arith}
 use Rattle.std.proofs.lemmas.Bool.Decides.{nat_tests}
 use Rattle.persist_model.specs.Region.{Words, Region, newest, MayStand}
 use Rattle.persist_model.specs.Records.{Record, Log, IsAmong, Has, HasNo, IsRunning, IsChange}
 use Rattle.persist_model.specs.Shape.{Shape, IsHeapWord, IsPlainOwner, heap, words_of_shape, heap_words}
-use Rattle.persist_model.specs.Standing.{IsToUndo, IsToDelete, IsToRedo, IsLatest, Stands, undone, deleted, redone, kept}
-use Rattle.persist_model.specs.State.{State, IsSoundState}
+use Rattle.persist_model.specs.Standing.{IsToDelete, IsToRedo, Stands, undone, deleted, redone, kept}
+use Rattle.persist_model.specs.State.{State}
 use Rattle.log_laws.specs.Moves.{MayName, IsChangeBy}
 use Rattle.log_laws.proofs.Deciding.{decide_equal, has_or_none, ended_or_running}
 use Rattle.bucket_log.specs.declared.append.Place.{Place}

@@ -1,16 +1,11 @@
 -- The plans of transactions store the NEW of each change and nothing else.
-use Rattle.std.proofs.Common.{ℕ, List, [], ◌∷◌, ◌++◌, arith}
+use Rattle.std.proofs.Common.{List, [], ◌∷◌, ◌++◌}
 use Rattle.region_layout.specs.declared.cell.Cell.{Cell}
 use Rattle.region_layout.specs.declared.layout.Policy.TheVariants.{NoForce}
 use Rattle.bucket_log.specs.declared.parts.Part.{Part}
-use Rattle.bucket_log.specs.declared.parts.Update.{Update}
-use Rattle.bucket_log.specs.declared.parts.Giving.{Giving}
-use Rattle.bucket_log.specs.declared.parts.Closing.{Closing}
-use Rattle.bucket_log.specs.declared.parts.Undoing.{Undoing}
 use Rattle.plan_records.specs.declared.cells.Outcome.TheVariants.{Committed, RolledBack}
 use Rattle.plan_records.specs.Cells.{cell_of_update, cell_of_compensation, cell_of_rollback, cell_of_end, cell_of_deletion}
 use Rattle.plan_records.specs.Sequences.{undo_parts}
-use Rattle.noforce_policy.specs.Plans.{abort_plan}
 use Rattle.noforce_policy.specs.Backed.{StoresChanges, nothing, notes, changes}
 use Rattle.noforce_policy.specs.BackedLaws.{PlansStoreChanges}
 

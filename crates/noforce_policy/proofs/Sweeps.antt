@@ -78,7 +78,7 @@ beside region lane a by (PStore b v) away w =
     written_of (after region by (PStore b v)) lane a (newest (region.at a)) w.0 (other_word a b (λ cs. cs ++ candidate v (by + 1) ∷ []) region away ∙ w.1)
 beside region lane a by (WriteBack b) own w = elim (write_back_cases region by a b) [
   | inl e ↦ written_of (after region by (WriteBack b)) lane a (newest (region.at a)) w.0 (e.1 ∙ ap (λ n. mark_last (n + 1) (region.at a)) (own e.0)
-    ∙ ap (mark_last (lane + 1)) w.1 ∙ mark_last-push (lane + 1) w.0 (candidate (newest (region.at a)) (lane + 1)))
+      ∙ ap (mark_last (lane + 1)) w.1 ∙ mark_last-push (lane + 1) w.0 (candidate (newest (region.at a)) (lane + 1)))
   | inr e ↦ written_of (after region by (WriteBack b)) lane a (newest (region.at a)) w.0 (e.1 ∙ w.1)
 ]
 beside region lane a by Fence other w =
