@@ -1,5 +1,5 @@
 -- What keeps the words of a log backed.
-use Rattle.std.proofs.Common.{◌≡◌, ◌≢◌, ◌⊎◌, inl, inr, ℕ, ◌<◌, [], ◌∷◌, ◌++◌, refl, sym, ap, ◌∙◌, subst, arith}
+use Rattle.std.proofs.Common.{◌≡◌, ◌≢◌, ◌⊎◌, inl, inr, ℕ, ◌<◌, [], ◌∷◌, ◌++◌, refl, sym, ap, ◌∙◌, subst, arith, Option, Some, None}
 use Rattle.persist_model.specs.declared.event.Event.{Event}
 use Rattle.persist_model.specs.declared.event.Event.TheVariants.{Store}
 use Rattle.persist_model.specs.Region.{Words, Region, candidate, newest, after}
@@ -18,7 +18,9 @@ use Rattle.log_laws.proofs.Standings.{AreNumbered, latest_some}
 use Rattle.log_laws.proofs.Undoing.{compensated_word, lesser_before}
 use Rattle.log_laws.proofs.Closings.{part_among, part_cases, running_back, skipped_on as skipped_closed}
 use Rattle.plan_records.specs.Passing.{inserted, Passes}
+use Rattle.plan_records.specs.Courses.{own_records, IsAboveOwn}
 use Rattle.plan_records.specs.HeapCourses.{IsChanged}
+use Rattle.plan_records.proofs.OwnRecords.{own_in, own_out}
 use Rattle.plan_records.proofs.Passing.{inserted_out, inserted_in}
 use Rattle.noforce_policy.specs.Backed.{HasOneValue, IsUnpassed, IsBacked, IsCommittedWord, AreBacked, AreOwnBacked, AreAllSwept, IsNoStoreTo}
 use Rattle.noforce_policy.specs.BackedLaws.{EventsKeepBacked, RecordsKeepBacked, RecordsKeepOwn, ChangedWordsAreOwn, ChangesAreBacked, EmptyLogsBack}
@@ -104,7 +106,7 @@ events_keep_backed = record {
     | inr (inl u) ↦ absurd (is.not_undone u.0 u.1 u.2)
     | inr (inr d) ↦ absurd (is.not_deleted d.0 d.1 d.2)
   ];
-  own = λ log region t by e away own a changed. backed_event log region by a e (away a changed) (own a changed);
+  own = λ log region t by waiting e away own a apart changed. backed_event log region by a e (away a changed) (own a apart changed);
   store = backed_store;
 }
 
@@ -170,7 +172,7 @@ backed_running shape s x region r passes no_end no_check running is sound all a 
         let u = to_undo_of shape x r.transaction a r sound runs (subst (λ l. IsAmong l r) (sym is) (inserted_in r s.log r (inl refl))) (change, e, refl) in
         word.not_undone u.0 u.1 u.2
 
-backed_end : (shape : Shape) (log : Log) (region : Region) (e : Record) → Passes log e → IsEnd e → AreOwnBacked e.transaction log region →
+backed_end : (shape : Shape) (log : Log) (region : Region) (e : Record) → Passes log e → IsEnd e → AreOwnBacked e.transaction None log region →
     AreBacked shape log region → AreBacked shape (inserted e log) region
 backed_end shape log region e passes end own all a word =
     backed_record log region e a passes (λ five. (let four : e.kind ≡ 4 = end in omega (arith, four, five))) (λ change. absurd (no_end_change e change end))
@@ -178,7 +180,7 @@ backed_end shape log region e passes end own all a word =
   where
     by : Has (IsToUndo log a) log ⊎ HasNo (IsToUndo log a) log → IsBacked log region a
     by (inl u) = elim (decide_equal u.0.transaction e.transaction) [
-      | inl same ↦ own a (u.0, u.1, (inl u.2.0, u.2.1, same))
+      | inl same ↦ own a (λ e. cc) (u.0, u.1, (inl u.2.0, u.2.1, same))
       | inr ne ↦ absurd (word.not_undone u.0 (inserted_in e log u.0 (inr u.1)) (u.2.0, u.2.1, runs_on e log u.0.transaction (λ four same. ne (sym same)) u.2.2))
     ]
     by (inr none) = all a (record { heap_word = word.heap_word; not_undone = none; not_deleted = λ d m k. word.not_deleted d (inserted_in e log d (inr m)) (deleted_on e log a d k) })
@@ -214,9 +216,9 @@ backed_checkpoint shape s region c two sound check passes all swept a word = rec
     one (inl h) = swept a before (subst (λ n. Has (IsToRedo n s.log a) s.log) two h)
     one (inr off) = (all a before).unchanged (λ r m k. off r m (to_redo_of shape s a r two sound before.not_undone m k))
 
-backed_own : (shape : Shape) (s : State) (region : Region) (c : Record) (t : ℕ) → IsSoundState shape s → IsCheckpoint c → IsRunning s.log t →
-    AreOwnBacked t s.log region → AreOwnBacked t (inserted c s.log) region
-backed_own shape s region c t sound check running own a changed = by (latest_some (IsChangeBy t a) s.log (decide_change t a))
+backed_own : (shape : Shape) (s : State) (region : Region) (c : Record) (t : ℕ) (waiting : Option ℕ) → IsSoundState shape s → IsCheckpoint c → IsRunning s.log t →
+    AreOwnBacked t waiting s.log region → AreOwnBacked t waiting (inserted c s.log) region
+backed_own shape s region c t waiting sound check running own a apart changed = by (latest_some (IsChangeBy t a) s.log (decide_change t a))
   where
     before : (x : Record) → IsChange x → (x ≡ c) ⊎ IsAmong s.log x → IsAmong s.log x
     before x change (inl e) = absurd (no_check_change x change (ap (λ (y : Record). y.kind) e ∙ check))
@@ -236,7 +238,7 @@ backed_own shape s region c t sound check running own a changed = by (latest_som
               let w = was x k.among k.has in
               let p = l.last x w.0 w.1 in
               let q = k.last r.0 (inserted_in c s.log r.0 (inr l.among)) still in
-              (own a (r.0, l.among, r.1.has)).changed r.0 l ∙ ap (λ (y : Record). y.after) (numbered (part_of shape) s.log s.log sound.order r.0 x l.among w.0 (omega (arith, p, q))));
+              (own a apart (r.0, l.among, r.1.has)).changed r.0 l ∙ ap (λ (y : Record). y.after) (numbered (part_of shape) s.log s.log sound.order r.0 x l.among w.0 (omega (arith, p, q))));
           unchanged = λ none. absurd (none r.0 (inserted_in c s.log r.0 (inr l.among)) still);
         }
 
@@ -282,10 +284,10 @@ records_keep_backed = record { word = backed_record; running = backed_running; e
 -- ---- the words of a running transaction
 
 -- behind a record that doesn't change them
-own_others : (shape : Shape) (s x : State) (region : Region) (r : Record) (t : ℕ) → Passes s.log r → r.kind ≢ 5 → (IsChange r → r.transaction ≢ t) →
-    IsRunning s.log r.transaction → IsRunning s.log t → x.log ≡ inserted r s.log → IsSoundState shape x → AreOwnBacked t s.log region → AreOwnBacked t x.log region
-own_others shape s x region r t passes no_check apart runs running is sound own a changed =
-    subst (λ l. IsBacked l region a) (sym is) (backed_record s.log region r a passes no_check other (own a (before (inserted_out r s.log changed.0 here))))
+own_others : (shape : Shape) (s x : State) (region : Region) (r : Record) (t : ℕ) (waiting : Option ℕ) → Passes s.log r → r.kind ≢ 5 → (IsChange r → r.transaction ≢ t) →
+    IsRunning s.log r.transaction → IsRunning s.log t → x.log ≡ inserted r s.log → IsSoundState shape x → AreOwnBacked t waiting s.log region → AreOwnBacked t waiting x.log region
+own_others shape s x region r t waiting passes no_check apart runs running is sound own a off changed =
+    subst (λ l. IsBacked l region a) (sym is) (backed_record s.log region r a passes no_check other (own a off (before (inserted_out r s.log changed.0 here))))
   where
     here : IsAmong (inserted r s.log) changed.0
     here = subst (λ l. IsAmong l changed.0) is changed.1
@@ -303,9 +305,9 @@ own_others shape s x region r t passes no_check apart runs running is sound own 
         (inl change) (inl changed.2.0) (word ∙ sym changed.2.1) (inl (inl change, runs_later)) (inl (inl changed.2.0, own_later)) (λ e. apart change (e ∙ changed.2.2))
 
 -- behind a closing
-own_closing : (shape : Shape) (s : State) (region : Region) (w : Words) (later : Log) (t : ℕ) → IsSoundState shape s → IsClosing shape.policy s.log w later → IsRunning s.log t →
-    AreOwnBacked t s.log region → AreOwnBacked t later region
-own_closing shape s region w later t sound closing running own a changed = by (latest_some (IsChangeBy t a) s.log (decide_change t a))
+own_closing : (shape : Shape) (s : State) (region : Region) (w : Words) (later : Log) (t : ℕ) (waiting : Option ℕ) → IsSoundState shape s → IsClosing shape.policy s.log w later → IsRunning s.log t →
+    AreOwnBacked t waiting s.log region → AreOwnBacked t waiting later region
+own_closing shape s region w later t waiting sound closing running own a apart changed = by (latest_some (IsChangeBy t a) s.log (decide_change t a))
   where
     before : (x : Record) → IsAmong later x → IsAmong s.log x
     before x m = part_among _ later s.log closing.part x m
@@ -330,13 +332,13 @@ own_closing shape s region w later t sound closing running own a changed = by (l
           changed = λ x k. (
               let p = l.last x (before x k.among) (was x k.among k.has) in
               let q = k.last r.0 here open_one in
-              (own a (r.0, l.among, r.1.has)).changed r.0 l ∙ ap (λ (y : Record). y.after) (numbered (part_of shape) s.log s.log sound.order r.0 x l.among (before x k.among) (omega (arith, p, q))));
+              (own a apart (r.0, l.among, r.1.has)).changed r.0 l ∙ ap (λ (y : Record). y.after) (numbered (part_of shape) s.log s.log sound.order r.0 x l.among (before x k.among) (omega (arith, p, q))));
           unchanged = λ none. absurd (none r.0 here open_one);
         }
 
 pub records_keep_own : RecordsKeepOwn
 records_keep_own = record {
-  none = λ log region t none a changed. absurd (none changed.0 changed.1 (changed.2.2, no_check_change changed.0 changed.2.0));
+  none = λ log region t none a apart changed. absurd (none changed.0 changed.1 (changed.2.2, no_check_change changed.0 changed.2.0));
   others = own_others;
   checkpoints = backed_own;
   closings = own_closing;
@@ -354,32 +356,42 @@ changed_words_are_own = record { undone = λ shape x t a sound running c. to_und
 
 -- ---- a change and its store
 
-pub changes_are_backed : ChangesAreBacked
-changes_are_backed shape s x region lane r passes change running above is sound own a changed = by (decide_equal a r.word)
+change_recorded : (shape : Shape) (s : State) (region : Region) (r : Record) → Passes s.log r → IsChange r → AreOwnBacked r.transaction None s.log region →
+    AreOwnBacked r.transaction (Some r.word) (inserted r s.log) region
+change_recorded shape s region r passes change own a apart changed =
+    backed_record s.log region r a passes (no_check_change r change) (λ c e. apart (ap (λ n. Some n) e)) (own a (λ e. cc) (before (inserted_out r s.log changed.0 changed.1)))
   where
-    runs : IsRunning x.log r.transaction
-    runs = subst (λ l. IsRunning l r.transaction) (sym is) (runs_on r s.log r.transaction (λ four. absurd (no_end_change r change four)) running)
+    before : (changed.0 ≡ r) ⊎ IsAmong s.log changed.0 → IsChanged s.log r.transaction a
+    before (inl e) = absurd (apart (ap (λ n. Some n) (ap (λ (z : Record). z.word) (sym e) ∙ changed.2.1)))
+    before (inr m) = (changed.0, m, changed.2)
 
-    last : IsLatest (IsChangeBy r.transaction r.word) x.log r
-    last = record {
-      among = subst (λ l. IsAmong l r) (sym is) (inserted_in r s.log r (inl refl));
-      has = (change, refl, refl);
-      last = λ y m k. elim (inserted_out r s.log y (subst (λ l. IsAmong l y) is m)) [
-        | inl e ↦ (let same : y.lsn ≡ r.lsn = ap (λ (z : Record). z.lsn) e in omega (arith, same))
-        | inr n ↦ (let lt = above y n (k.2, no_check_change y k.0) in omega (arith, lt))
-      ];
-    }
+change_last : (log : Log) (r : Record) → IsChange r → IsAboveOwn r.transaction log r.lsn → IsLatest (IsChangeBy r.transaction r.word) (inserted r log) r
+change_last log r change above = record {
+  among = inserted_in r log r (inl refl);
+  has = (change, refl, refl);
+  last = λ y m k. elim (inserted_out r log y m) [
+    | inl e ↦ (let same : y.lsn ≡ r.lsn = ap (λ (z : Record). z.lsn) e in omega (arith, same))
+    | inr n ↦ (let lt = above y n (k.2, no_check_change y k.0) in omega (arith, lt))
+  ];
+}
 
-    before : a ≢ r.word → IsChanged s.log r.transaction a
-    before ne = elim (inserted_out r s.log changed.0 (subst (λ l. IsAmong l changed.0) is changed.1)) [
-      | inl e ↦ absurd (ne (sym changed.2.1 ∙ ap (λ (z : Record). z.word) e))
-      | inr m ↦ (changed.0, m, changed.2)
-    ]
+change_waits : (log later : Log) (t a : ℕ) (r : Record) → own_records t later ≡ own_records t log → IsLatest (IsChangeBy t a) log r → IsLatest (IsChangeBy t a) later r
+change_waits log later t a r same l = record {
+  among = (own_out t later r (subst (λ o. IsAmong o r) (sym same) (own_in t log r l.among (l.has.2, no_check_change r l.has.0)))).0;
+  has = l.has;
+  last = λ y m k. l.last y (own_out t log y (subst (λ o. IsAmong o y) same (own_in t later y m (k.2, no_check_change y k.0)))).0 k;
+}
 
-    by : IsDecided (a ≡ r.word) → IsBacked x.log (after region lane (Store r.word r.after)) a
-    by (inl e) = subst (λ b. IsBacked x.log (after region lane (Store r.word r.after)) b) (sym e) (backed_store shape x region lane r.transaction r.word r sound runs last)
-    by (inr ne) = backed_event x.log region lane a (Store r.word r.after) ne
-        (subst (λ l. IsBacked l region a) (sym is) (backed_record s.log region r a passes (no_check_change r change) (λ c e. ne (sym e)) (own a (before ne))))
+change_stored : (shape : Shape) (x : State) (region : Region) (lane t a : ℕ) (r : Record) → IsSoundState shape x → IsRunning x.log t → IsLatest (IsChangeBy t a) x.log r →
+    AreOwnBacked t (Some a) x.log region → AreOwnBacked t None x.log (after region lane (Store a r.after))
+change_stored shape x region lane t a r sound running l own b apart changed = by (decide_equal b a)
+  where
+    by : IsDecided (b ≡ a) → IsBacked x.log (after region lane (Store a r.after)) b
+    by (inl e) = subst (λ c. IsBacked x.log (after region lane (Store a r.after)) c) (sym e) (backed_store shape x region lane t a r sound running l)
+    by (inr ne) = backed_event x.log region lane b (Store a r.after) ne (own b (λ e. ne (cc)) changed)
+
+pub changes_are_backed : ChangesAreBacked
+changes_are_backed = record { recorded = change_recorded; last = change_last; waits = change_waits; stored = change_stored }
 
 pub empty_logs_back : EmptyLogsBack
 empty_logs_back shape region one a word = record { changed = λ r l. absurd l.among; unchanged = λ none. one a word.heap_word }

@@ -1,5 +1,5 @@
 -- What words that the log backs are in each image.
-use Rattle.std.proofs.Common.{◌≡◌, ◌⊎◌, inl, inr, ℕ, ◌+◌, ◌*◌, ◌<◌, ◌≤◌, nat_lt, cond, sym, ◌∙◌, subst, arith}
+use Rattle.std.proofs.Common.{◌≡◌, ◌⊎◌, inl, inr, ℕ, ◌+◌, ◌*◌, ◌<◌, ◌≤◌, nat_lt, cond, sym, ◌∙◌, subst, arith, None}
 use Rattle.std.proofs.lemmas.Bool.Decides.{nat_tests}
 use Rattle.persist_model.specs.Region.{Words, Region, newest, MayStand}
 use Rattle.persist_model.specs.Records.{Record, Log, IsAmong, Has, HasNo, IsRunning, IsChange}
@@ -43,7 +43,7 @@ others_run_not log u s free none m change word running = elim (decide_equal s.tr
 ]
 
 free_backed : (shape : Shape) (log : Log) (u : Record) (region : Region) → IsHeapWord shape u.word → IsRunning log u.transaction → MayName log u → AreBacked shape log region →
-    AreOwnBacked u.transaction log region → IsBacked log region u.word
+    AreOwnBacked u.transaction None log region → IsBacked log region u.word
 free_backed shape log u region word running free all own = by (has_or_none (IsChangeBy u.transaction u.word) log (decide_change u.transaction u.word))
   where
     not_deleted : HasNo (IsToDelete log u.word) log
@@ -53,7 +53,7 @@ free_backed shape log u region word running free all own = by (has_or_none (IsCh
     ]
 
     by : Has (IsChangeBy u.transaction u.word) log ⊎ HasNo (IsChangeBy u.transaction u.word) log → IsBacked log region u.word
-    by (inl h) = own u.word h
+    by (inl h) = own u.word (λ e. cc) h
     by (inr none) = all u.word (record {
       heap_word = word;
       not_undone = λ s m k. others_run_not log u s free none m (inl k.0) k.1 k.2;

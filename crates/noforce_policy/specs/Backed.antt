@@ -1,5 +1,5 @@
 -- Heap words under no-force, where a stop may lose a store: what of a word's newest value the log has.
-use Rattle.std.specs.Prelude.{◌≡◌, ◌≢◌, ◌⊎◌, ℕ, ◌+◌, Bool, IsTrue, List, [], ◌∷◌, ◌++◌}
+use Rattle.std.specs.Prelude.{◌≡◌, ◌≢◌, ◌⊎◌, ℕ, ◌+◌, Bool, IsTrue, List, [], ◌∷◌, ◌++◌, Option, Some}
 use Rattle.persist_model.specs.declared.event.Candidate.{Candidate}
 use Rattle.persist_model.specs.declared.event.Event.{Event}
 use Rattle.persist_model.specs.declared.event.Event.TheVariants.{Store, PStore, WriteBack, Fence}
@@ -34,11 +34,11 @@ pub record IsCommittedWord (shape : Shape) (log : Log) (a : ℕ) : Type 0 where
 abbrev pub AreBacked : Shape → Log → Region → Type 0
 AreBacked shape log region = (a : ℕ) → IsCommittedWord shape log a → IsBacked log region a
 
--- the words that t changed
-abbrev pub AreOwnBacked : ℕ → Log → Region → Type 0
-AreOwnBacked t log region = (a : ℕ) → IsChanged log t a → IsBacked log region a
+-- the words that t changed are, but for one whose change is recorded and not stored yet
+abbrev pub AreOwnBacked : ℕ → Option ℕ → Log → Region → Type 0
+AreOwnBacked t waiting log region = (a : ℕ) → waiting ≢ Some a → IsChanged log t a → IsBacked log region a
 
--- a stop leaves the newest value of each of them of which something is to be redone
+-- a stop leaves the newest value of each committed word of which something is to be redone
 abbrev pub AreAllSwept : Shape → Log → Region → Type 0
 AreAllSwept shape log region = (a : ℕ) → IsCommittedWord shape log a → Has (IsToRedo 2 log a) log → HasOneValue region a
 

@@ -1,5 +1,5 @@
 -- The laws of words that the log backs: an update's OLD and a checkpoint's sweep meet what their appends ask of an image's heap words.
-use Rattle.std.specs.Prelude.{◌≡◌, ◌≢◌, ◌⊎◌, ℕ, Bool, IsTrue, List, [], ◌∷◌, ◌++◌}
+use Rattle.std.specs.Prelude.{◌≡◌, ◌≢◌, ◌⊎◌, ℕ, Bool, IsTrue, List, [], ◌∷◌, ◌++◌, Option, Some, None}
 use Rattle.persist_model.specs.declared.event.Event.{Event}
 use Rattle.persist_model.specs.declared.event.Event.TheVariants.{Store, PStore, WriteBack, Fence}
 use Rattle.persist_model.specs.Region.{Words, Region, IsCandidate, newest, after, MayStand}
@@ -23,7 +23,7 @@ use Rattle.plan_records.specs.Cells.{cell_of_update, cell_of_checkpoint, appende
 use Rattle.plan_records.specs.Passing.{inserted, Passes}
 use Rattle.plan_records.specs.Appends.{MayAppend, MayStandAt}
 use Rattle.plan_records.specs.Conditions.{CanUpdate, CanCheckpoint, IsUpdateOf, AreSweptIn}
-use Rattle.plan_records.specs.Courses.{IsAboveOwn}
+use Rattle.plan_records.specs.Courses.{own_records, IsAboveOwn}
 use Rattle.plan_records.specs.HeapImages.{LeavesKept}
 use Rattle.plan_records.specs.HeapCourses.{IsChanged}
 use Rattle.noforce_policy.specs.Plans.{write_plan, give_plan, commit_plan, abort_plan}
@@ -80,7 +80,8 @@ pub record EventsKeepBacked : Type 0 where
       ((a : ℕ) → IsHeapWord shape a → IsNoStoreTo a e ⊎ Has (IsToUndo log a) log ⊎ Has (IsToDelete log a) log) →
       AreBacked shape log region → AreBacked shape log (after region by e)
   -- what isn't a store to a word of t
-  pub own : (log : Log) (region : Region) (t by : ℕ) (e : Event) → ((a : ℕ) → IsChanged log t a → IsNoStoreTo a e) → AreOwnBacked t log region → AreOwnBacked t log (after region by e)
+  pub own : (log : Log) (region : Region) (t by : ℕ) (waiting : Option ℕ) (e : Event) → ((a : ℕ) → IsChanged log t a → IsNoStoreTo a e) →
+      AreOwnBacked t waiting log region → AreOwnBacked t waiting log (after region by e)
   -- the store of the NEW of the last change by a running transaction
   pub store : (shape : Shape) (x : State) (region : Region) (lane t a : ℕ) (r : Record) → IsSoundState shape x → IsRunning x.log t → IsLatest (IsChangeBy t a) x.log r →
       IsBacked x.log (after region lane (Store a r.after)) a
@@ -93,7 +94,7 @@ pub record RecordsKeepBacked : Type 0 where
   pub running : (shape : Shape) (s x : State) (region : Region) (r : Record) → Passes s.log r → r.kind ≢ 4 → r.kind ≢ 5 → IsRunning s.log r.transaction →
       x.log ≡ inserted r s.log → IsSoundState shape x → AreBacked shape s.log region → AreBacked shape x.log region
   -- the end of a transaction whose words are backed
-  pub ends : (shape : Shape) (log : Log) (region : Region) (e : Record) → Passes log e → IsEnd e → AreOwnBacked e.transaction log region →
+  pub ends : (shape : Shape) (log : Log) (region : Region) (e : Record) → Passes log e → IsEnd e → AreOwnBacked e.transaction None log region →
       AreBacked shape log region → AreBacked shape (inserted e log) region
   -- a checkpoint record behind its sweep; a running transaction's words aren't asked to be swept
   pub checkpoints : (shape : Shape) (s : State) (region : Region) (c : Record) → shape.policy ≡ 2 → IsSoundState shape s → IsCheckpoint c → Passes s.log c →
@@ -104,25 +105,31 @@ pub record RecordsKeepBacked : Type 0 where
 
 -- and of the words that a running transaction changed
 pub record RecordsKeepOwn : Type 0 where
-  pub none : (log : Log) (region : Region) (t : ℕ) → HasNo (IsOf t) log → AreOwnBacked t log region
+  pub none : (log : Log) (region : Region) (t : ℕ) → HasNo (IsOf t) log → AreOwnBacked t None log region
   -- a record of a running transaction that is no change by t
-  pub others : (shape : Shape) (s x : State) (region : Region) (r : Record) (t : ℕ) → Passes s.log r → r.kind ≢ 5 → (IsChange r → r.transaction ≢ t) →
-      IsRunning s.log r.transaction → IsRunning s.log t → x.log ≡ inserted r s.log → IsSoundState shape x → AreOwnBacked t s.log region → AreOwnBacked t x.log region
-  pub checkpoints : (shape : Shape) (s : State) (region : Region) (c : Record) (t : ℕ) → IsSoundState shape s → IsCheckpoint c → IsRunning s.log t →
-      AreOwnBacked t s.log region → AreOwnBacked t (inserted c s.log) region
-  pub closings : (shape : Shape) (s : State) (region : Region) (w : Words) (later : Log) (t : ℕ) → IsSoundState shape s → IsClosing shape.policy s.log w later → IsRunning s.log t →
-      AreOwnBacked t s.log region → AreOwnBacked t later region
+  pub others : (shape : Shape) (s x : State) (region : Region) (r : Record) (t : ℕ) (waiting : Option ℕ) → Passes s.log r → r.kind ≢ 5 → (IsChange r → r.transaction ≢ t) →
+      IsRunning s.log r.transaction → IsRunning s.log t → x.log ≡ inserted r s.log → IsSoundState shape x → AreOwnBacked t waiting s.log region → AreOwnBacked t waiting x.log region
+  pub checkpoints : (shape : Shape) (s : State) (region : Region) (c : Record) (t : ℕ) (waiting : Option ℕ) → IsSoundState shape s → IsCheckpoint c → IsRunning s.log t →
+      AreOwnBacked t waiting s.log region → AreOwnBacked t waiting (inserted c s.log) region
+  pub closings : (shape : Shape) (s : State) (region : Region) (w : Words) (later : Log) (t : ℕ) (waiting : Option ℕ) → IsSoundState shape s →
+      IsClosing shape.policy s.log w later → IsRunning s.log t → AreOwnBacked t waiting s.log region → AreOwnBacked t waiting later region
 
 -- A word that a running transaction changed is to be undone, and no other running one changed it.
 pub record ChangedWordsAreOwn : Type 0 where
   pub undone : (shape : Shape) (x : State) (t a : ℕ) → IsSoundState shape x → IsRunning x.log t → IsChanged x.log t a → Has (IsToUndo x.log a) x.log
   pub one : (shape : Shape) (x : State) (t u a : ℕ) → IsSoundState shape x → IsRunning x.log t → IsRunning x.log u → IsChanged x.log t a → IsChanged x.log u a → t ≡ u
 
--- A change that is stored backs its word, and its transaction's other words stay backed: a write's parts and each undo of an abort.
-abbrev pub ChangesAreBacked : Type 0
-ChangesAreBacked = (shape : Shape) (s x : State) (region : Region) (lane : ℕ) (r : Record) → Passes s.log r → IsChange r → IsRunning s.log r.transaction →
-    IsAboveOwn r.transaction s.log r.lsn → x.log ≡ inserted r s.log → IsSoundState shape x → AreOwnBacked r.transaction s.log region →
-    AreOwnBacked r.transaction x.log (after region lane (Store r.word r.after))
+-- A change by a running transaction is recorded, and then stored: a write's parts, and each undo of an abort.
+pub record ChangesAreBacked : Type 0 where
+  -- behind its record its word waits, whose last change it is
+  pub recorded : (shape : Shape) (s : State) (region : Region) (r : Record) → Passes s.log r → IsChange r → AreOwnBacked r.transaction None s.log region →
+      AreOwnBacked r.transaction (Some r.word) (inserted r s.log) region
+  pub last : (log : Log) (r : Record) → IsChange r → IsAboveOwn r.transaction log r.lsn → IsLatest (IsChangeBy r.transaction r.word) (inserted r log) r
+  -- it stays the last one while others go on
+  pub waits : (log later : Log) (t a : ℕ) (r : Record) → own_records t later ≡ own_records t log → IsLatest (IsChangeBy t a) log r → IsLatest (IsChangeBy t a) later r
+  -- Behind the store of its NEW no word waits.
+  pub stored : (shape : Shape) (x : State) (region : Region) (lane t a : ℕ) (r : Record) → IsSoundState shape x → IsRunning x.log t → IsLatest (IsChangeBy t a) x.log r →
+      AreOwnBacked t (Some a) x.log region → AreOwnBacked t None x.log (after region lane (Store a r.after))
 
 -- The plans of transactions store no other values.
 pub record PlansStoreChanges : Type 0 where
@@ -141,7 +148,7 @@ EmptyLogsBack = (shape : Shape) (region : Region) → ((a : ℕ) → IsHeapWord 
 abbrev pub BackedUpdatesMeet : Type 0
 BackedUpdatesMeet = (shape : Shape) (x : State) (u : Record) (region : Region) (i : Words) → shape.policy ≡ 2 → IsSoundState shape x → IsHeapWord shape u.word →
     IsRunning x.log u.transaction → MayName x.log u → u.undo_next ≡ undo_point u.transaction x.log → region.size ≡ words_of_shape shape → MayStand i region →
-    AreBacked shape x.log region → AreOwnBacked u.transaction x.log region → u.before ≡ newest (region.at u.word) → IsUpdateOf shape x u (heap_words shape i)
+    AreBacked shape x.log region → AreOwnBacked u.transaction None x.log region → u.before ≡ newest (region.at u.word) → IsUpdateOf shape x u (heap_words shape i)
 
 -- a checkpoint behind its sweep
 abbrev pub SweptWordsMeet : Type 0
@@ -153,7 +160,7 @@ abbrev pub UpdatesLeave : Type 0
 UpdatesLeave = (shape : Shape) (p : ℕ) (w : Words) (x : State) (u : Update) (chain : List ℕ) (place : Place) (number k : ℕ) (region : Region) (i : Words) →
     let r = appended place number (cell_of_update u) in
     shape.policy ≡ 2 → MayAppend shape p w x chain place r → CanUpdate shape x r → u.previous ≡ undo_point u.transaction x.log →
-    region.size ≡ words_of_shape shape → MayStand i region → AreBacked shape x.log region → AreOwnBacked u.transaction x.log region → u.before ≡ newest (region.at u.word) →
+    region.size ≡ words_of_shape shape → MayStand i region → AreBacked shape x.log region → AreOwnBacked u.transaction None x.log region → u.before ≡ newest (region.at u.word) →
     MayStandAt shape w (region_append shape p place r) k i → LeavesKept shape p x place r k i
 
 abbrev pub CheckpointsLeave : Type 0
