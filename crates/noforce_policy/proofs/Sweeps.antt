@@ -1,16 +1,17 @@
 -- What a sweep makes of the candidates of one word.
-use Rattle.std.proofs.Common.{◌≡◌, ◌≢◌, ◌⊎◌, inl, inr, ℕ, ◌+◌, Bool, IsTrue, cond, List, [], ◌∷◌, ◌++◌, refl, sym, ap, ◌∙◌, subst, arith}
+use Rattle.std.proofs.Common.{◌≡◌, ◌≢◌, ◌⊎◌, inl, inr, ℕ, ◌+◌, ◌<◌, Bool, IsTrue, cond, List, [], ◌∷◌, ◌++◌, refl, sym, ap, ◌∙◌, subst, arith}
 use Rattle.std.proofs.lemmas.Bool.Decides.{eqb_tells}
 use Rattle.persist_model.specs.declared.event.Candidate.{Candidate}
 use Rattle.persist_model.specs.declared.event.Event.{Event}
 use Rattle.persist_model.specs.declared.event.Event.TheVariants.{Store, PStore, WriteBack, Fence}
 use Rattle.persist_model.specs.Region.{Region, candidate, with_word, mark_last, fenced, after, IsCandidate, newest}
 use Rattle.persist_model.specs.Law.{after_all}
-use Rattle.persist_model.specs.Shape.{Shape, IsHeapWord}
+use Rattle.persist_model.specs.Shape.{Shape, IsHeapWord, heap}
 use Rattle.persist_model.proofs.Candidates.{newest-push, newest_same_values, map-value_of-mark_last, mark_last-push, newest-fenced, IsCandidate_same_values, IsCandidate-fenced, fenced-push}
 use Rattle.persist_model.proofs.OtherFences.{fenced-other}
+use Rattle.log_laws.specs.Recovering.{IsOnLog}
 use Rattle.noforce_policy.specs.Backed.{HasOneValue, IsNoStoreTo, AreNoStoresTo, IsWrittenBack, IsBesideSweep, AreBesideSweep, TellsDirty}
-use Rattle.noforce_policy.specs.BackedLaws.{SweepsSettle, SweptWordsSettle, SweepsTell}
+use Rattle.noforce_policy.specs.BackedLaws.{SweepsSettle, SweptWordsSettle, SweepsTell, LogEventsAreBeside}
 
 -- ---- one word of a region
 
@@ -185,4 +186,25 @@ sweeps_tell = record {
   beside = tells_beside;
   fences = tells_fenced;
   swept = λ shape dirty lane region log clean tells a is redo. elim (tells_fenced shape dirty lane region tells a is.heap_word) [ inl d ↦ absurd (clean a is.heap_word d) | inr one ↦ one ];
+  kept = λ shape region log by e away swept a is redo. stays region by a e (away a is.heap_word) (swept a is redo);
 }
+
+-- ---- events on the log
+
+high : (shape : Shape) (a b : ℕ) → IsHeapWord shape a → b < heap shape → a ≢ b
+high shape a b word lt e = let le = word.0 in omega (arith, le, lt, e)
+
+log_stores : (shape : Shape) (a : ℕ) (e : Event) → IsHeapWord shape a → IsOnLog shape e → IsNoStoreTo a e
+log_stores shape a (Store b v) word lt = high shape a b word lt
+log_stores shape a (PStore b v) word lt = high shape a b word lt
+log_stores shape a (WriteBack b) word lt = tt
+log_stores shape a Fence word on = tt
+
+log_sweeps : (shape : Shape) (lane a by : ℕ) (e : Event) → IsHeapWord shape a → IsOnLog shape e → (e ≡ Fence → by ≢ lane) → IsBesideSweep lane a by e
+log_sweeps shape lane a by (Store b v) word lt other = high shape a b word lt
+log_sweeps shape lane a by (PStore b v) word lt other = high shape a b word lt
+log_sweeps shape lane a by (WriteBack b) word lt other = λ e. absurd (high shape a b word lt e)
+log_sweeps shape lane a by Fence word on other = other refl
+
+pub log_events_are_beside : LogEventsAreBeside
+log_events_are_beside = record { stores = log_stores; sweeps = log_sweeps }

@@ -11,6 +11,7 @@ use Rattle.persist_model.specs.Order.{undo_point}
 use Rattle.persist_model.specs.State.{State, IsSoundState}
 use Rattle.log_laws.specs.Closing.{IsClosing}
 use Rattle.log_laws.specs.Moves.{MayName, IsChangeBy}
+use Rattle.log_laws.specs.Recovering.{IsOnLog}
 use Rattle.bucket_log.specs.declared.append.Place.{Place}
 use Rattle.bucket_log.specs.declared.parts.Update.{Update}
 use Rattle.bucket_log.specs.declared.parts.Giving.{Giving}
@@ -70,6 +71,14 @@ pub record SweepsTell : Type 0 where
   -- So where no word is dirty all are swept.
   pub swept : (shape : Shape) (dirty : ℕ → Bool) (lane : ℕ) (region : Region) (log : Log) → ((a : ℕ) → IsHeapWord shape a → IsTrue (dirty a) → ⊥) →
       TellsDirty shape dirty lane region → AreAllSwept shape log (after region lane Fence)
+  -- and stay so while no heap word is stored to
+  pub kept : (shape : Shape) (region : Region) (log : Log) (by : ℕ) (e : Event) → ((a : ℕ) → IsHeapWord shape a → IsNoStoreTo a e) →
+      AreAllSwept shape log region → AreAllSwept shape log (after region by e)
+
+-- Events on the log's words, as those of an append and of a closing, are no stores to heap words, and are beside a sweep but for the lane's own fences.
+pub record LogEventsAreBeside : Type 0 where
+  pub stores : (shape : Shape) (a : ℕ) (e : Event) → IsHeapWord shape a → IsOnLog shape e → IsNoStoreTo a e
+  pub sweeps : (shape : Shape) (lane a by : ℕ) (e : Event) → IsHeapWord shape a → IsOnLog shape e → (e ≡ Fence → by ≢ lane) → IsBesideSweep lane a by e
 
 -- ---- what keeps words backed
 

@@ -1,6 +1,6 @@
 //! What the plans leave to a stop, as functions that do nothing: the clause is the law.
 ghost use Rattle.noforce_policy.specs.Laws.{WritesGoOn, GivesGoOn, CommitsGoOn, AbortsGoOn, CheckpointsServe};
-ghost use Rattle.noforce_policy.specs.BackedLaws.{SweepsSettle, SweptWordsSettle, SweepsTell, EventsKeepBacked, RecordsKeepBacked, RecordsKeepOwn, ChangedWordsAreOwn, PlansStoreChanges, ChangesAreBacked, EmptyLogsBack, BackedUpdatesMeet, SweptWordsMeet, UpdatesLeave, CheckpointsLeave, ClearsLeave};
+ghost use Rattle.noforce_policy.specs.BackedLaws.{SweepsSettle, SweptWordsSettle, SweepsTell, LogEventsAreBeside, EventsKeepBacked, RecordsKeepBacked, RecordsKeepOwn, ChangedWordsAreOwn, PlansStoreChanges, ChangesAreBacked, EmptyLogsBack, BackedUpdatesMeet, SweptWordsMeet, UpdatesLeave, CheckpointsLeave, ClearsLeave};
 
 use plan_records::laws::olds_meet;
 
@@ -36,7 +36,8 @@ pub fn sweeps_settle()
     ensures { SweepsSettle }
 {}
 
-/// A word that a lane wrote back, and that nobody stored to or wrote back before that lane's next fence, has one value behind it: the newest.
+/// A word that a lane wrote back, and that nobody stored to and nobody else wrote back before that lane's next fence, has one value behind it:
+/// the newest.
 pub fn swept_words_settle()
     ensures { SweptWordsSettle }
 {}
@@ -44,6 +45,11 @@ pub fn swept_words_settle()
 /// While a test tells which words are dirty, a sweep of these and the sweeping lane's fence leave each word with one value.
 pub fn sweeps_tell()
     ensures { SweepsTell }
+{}
+
+/// Events on the log's words store to no heap word, and but for the lane's own fences they keep what it has swept so far.
+pub fn log_events_are_beside()
+    ensures { LogEventsAreBeside }
 {}
 
 /// What no event but a store to it, and which stores, keep of a word that the log backs.
