@@ -4,8 +4,9 @@ use Rattle.persist_model.specs.declared.event.Candidate.{Candidate}
 use Rattle.persist_model.specs.declared.event.Event.TheVariants.{Store, WriteBack, Fence}
 use Rattle.persist_model.specs.Region.{Region, candidate, after}
 use Rattle.persist_model.specs.Law.{after_all}
-use Rattle.persist_model.specs.Records.{Record, Log, IsAmong, HasNo, IsSkipped}
-use Rattle.persist_model.specs.Standing.{IsLatest}
+use Rattle.persist_model.specs.Records.{Record, Log, IsAmong, HasNo, IsRunning, IsSkipped}
+use Rattle.persist_model.specs.Standing.{IsToUndo, IsToDelete, IsLatest, redone}
+use Rattle.log_laws.specs.Closing.{IsApplied}
 use Rattle.noforce_policy.specs.Backed.{HasOneValue, IsUnpassed, IsBacked, IsBesideSweep}
 
 abbrev update : Record
@@ -69,6 +70,27 @@ latest = record {
   has = update_unpassed;
   last = λ s m k. (let e : s.lsn ≡ 1 = ap (λ (x : Record). x.lsn) (unpassed s m k) in omega (arith, e));
 }
+
+-- an image with 5 doesn't have the standing value 6, so a checkpoint record may not come yet
+unswept : IsApplied 2 log (λ a. 5) 170 → ⊥
+unswept applied = let e : ◌≡◌ {A = ℕ} 6 5 = applied 6 (redone not_undone not_deleted update (record {
+  among = inr (inl refl);
+  has = (refl, inl refl, refl, (end, inl refl, (refl, refl)), not_skipped);
+  last = λ s m k. latest.last s m (k.1, k.2, k.4);
+}) refl) in omega (arith, e)
+  where
+    ended : (t : ℕ) → t ≡ 7 → IsRunning log t → ⊥
+    ended t e running = running end (inl refl) (refl, sym e)
+
+    not_undone : HasNo (IsToUndo log 170) log
+    not_undone r (inl e) k = let four : r.kind ≡ 4 = ap (λ (x : Record). x.kind) e in let one : r.kind ≡ 1 = k.0 in omega (arith, four, one)
+    not_undone r (inr (inl e)) k = ended r.transaction (ap (λ (x : Record). x.transaction) e) k.2
+    not_undone r (inr (inr none)) k = none
+
+    not_deleted : HasNo (IsToDelete log 170) log
+    not_deleted r (inl e) k = let four : r.kind ≡ 4 = ap (λ (x : Record). x.kind) e in let six : r.kind ≡ 6 = k.0 in omega (arith, four, six)
+    not_deleted r (inr (inl e)) k = let one : r.kind ≡ 1 = ap (λ (x : Record). x.kind) e in let six : r.kind ≡ 6 = k.0 in omega (arith, one, six)
+    not_deleted r (inr (inr none)) k = none
 
 -- before its store it isn't
 not_backed : IsBacked log recorded 170 → ⊥
