@@ -14,7 +14,7 @@ use Rattle.atomic_list.proofs.Walks.{Each-without, HasNoRepeats-without_one}
 use Rattle.region_layout.specs.declared.layout.Layout.{Layout}
 use Rattle.region_layout.specs.declared.layout.Buckets.{Buckets}
 use Rattle.region_layout.specs.Layout.{layout_shape, IsPart}
-use Rattle.bucket_log.specs.Reads.{IsLogOfPart, IsInPart, IsLeastOutside, HasAllTo, count_to}
+use Rattle.bucket_log.specs.Reads.{IsLogOfPart, IsInPart, IsLeastOutside, HasAllTo, IsFirstPart, count_to}
 use Rattle.bucket_log.proofs.Walking.{good_chain}
 
 -- ---- a list that has the values of f below n
@@ -236,3 +236,17 @@ least_is shape part chain low high b from met to off below not_all e = (
   ])),
   below,
 )
+
+-- a chain of so many buckets hasn't all up to the one behind as many
+too_few : (shape : Shape) (part : Buckets) (chain : List ℕ) (used : ℕ) → used ≡ length chain → HasAllTo shape part chain (part.first + used) → ⊥
+too_few shape part chain used e all =
+    let more = covered_few (λ i. bucket shape (part.first + i)) (used + 1) chain
+    (λ i j q. (let k = bucket_one shape (part.first + i) (part.first + j) q in omega (arith, k))) (λ i lt. all (part.first + i) (omega arith) (omega (arith, lt))) in
+    absurd (omega (arith, more, e))
+
+-- where the chain's buckets are the first of the part, the one behind them is the least outside
+pub least_behind : (shape : Shape) (part : Buckets) (chain : List ℕ) (used b : ℕ) → used ≡ length chain → IsFirstPart shape part chain used → b ≡ bucket shape (part.first + used) →
+    IsLeastOutside shape part chain (Some b)
+least_behind shape part chain used b e first is =
+    let few = first.0 in
+    least_is shape part chain (part.first + used) (part.first + used) b (omega arith) refl (omega (arith, few)) (λ q. absurd (omega (arith, few, q))) first.1 (λ lt all. too_few shape part chain used e all) is

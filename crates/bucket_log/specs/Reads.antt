@@ -38,6 +38,10 @@ IsInPart part j = (part.first ≤ j) × (j < part.first + part.count)
 abbrev pub HasAllTo : Shape → Buckets → List ℕ → ℕ → Type 0
 HasAllTo shape part chain j = (i : ℕ) → part.first ≤ i → i ≤ j → IsAmong chain (bucket shape i)
 
+-- the first buckets of the part, so many and not all, are in the chain
+abbrev pub IsFirstPart : Shape → Buckets → List ℕ → ℕ → Type 0
+IsFirstPart shape part chain used = (used < part.count) × ((i : ℕ) → part.first ≤ i → i < part.first + used → IsAmong chain (bucket shape i))
+
 -- how many of the chain's buckets stand at this address or before it
 abbrev pub count_to : ℕ → List ℕ → ℕ
 count_to at chain = length (filter (λ b. nat_le b at) chain)

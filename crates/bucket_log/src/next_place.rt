@@ -7,10 +7,10 @@ ghost use Rattle.atomic_list.specs.Reads.{SameLog};
 ghost use Rattle.atomic_list.specs.Walk.{chain_of};
 ghost use Rattle.region_layout.specs.Layout.{layout_shape, IsPart};
 ghost use Rattle.bucket_log.specs.Places.{IsNextPlace};
-ghost use Rattle.bucket_log.specs.Reads.{IsLogOf, IsLogOfPart, IsFirstClosed, IsInPart, HasAllTo, IsLeastOutside, IsUsedIn, IsFreshIn, IsNextIn};
+ghost use Rattle.bucket_log.specs.Reads.{IsLogOf, IsLogOfPart, IsFirstClosed, IsInPart, HasAllTo, IsFirstPart, IsLeastOutside, IsUsedIn, IsFreshIn, IsNextIn};
 
 use crate::append::Place;
-use crate::chain::{count_buckets_to, last_bucket};
+use crate::chain::{chain_end, count_buckets_to, last_bucket};
 use persist_model::Look;
 use region_layout::{Buckets, Layout};
 
@@ -38,8 +38,23 @@ fn has_all_to<W: Look>(words: &W, layout: Layout, part: Buckets, j: u32) -> bool
     used == j + 1 - part.first
 }
 
+// Whether the chain's buckets are the first ones of the part, and not all of them.
+fn is_first_part<W: Look>(words: &W, layout: Layout, part: Buckets, used: u32) -> bool
+    requires part { IsLogOfPart layout part (length (W.words words.now)) (slice_index (W.words words.now)) }
+    requires used { used ≡ length (chain_of (layout_shape layout) (slice_index (W.words words.now))) }
+    ensures { IsTrue result → IsFirstPart (layout_shape layout) part (chain_of (layout_shape layout) (slice_index (W.words words.now))) used }
+{
+    if used >= part.count {
+        return false;
+    }
+    if used == 0 {
+        return true;
+    }
+    has_all_to(words, layout, part, part.first + used - 1)
+}
+
 // The least bucket of the part that isn't in the chain. It is looked for between low and high, a walk for each halving.
-fn least_outside<W: Look>(words: &W, layout: Layout, part: Buckets) -> Option<u32>
+fn search_outside<W: Look>(words: &W, layout: Layout, part: Buckets) -> Option<u32>
     requires { IsLogOfPart layout part (length (W.words words.now)) (slice_index (W.words words.now)) }
     ensures { IsLeastOutside (layout_shape layout) part (chain_of (layout_shape layout) (slice_index (W.words words.now))) result }
 {
@@ -57,6 +72,18 @@ fn least_outside<W: Look>(words: &W, layout: Layout, part: Buckets) -> Option<u3
         return None;
     }
     Some(layout.bucket(low))
+}
+
+// The least bucket of the part that isn't in the chain. It is mostly the one behind as many as the chain has, and else looked for.
+fn least_outside<W: Look>(words: &W, layout: Layout, part: Buckets) -> Option<u32>
+    requires { IsLogOfPart layout part (length (W.words words.now)) (slice_index (W.words words.now)) }
+    ensures { IsLeastOutside (layout_shape layout) part (chain_of (layout_shape layout) (slice_index (W.words words.now))) result }
+{
+    let used = chain_end(words, layout).count;
+    if is_first_part(words, layout, part, used) {
+        return Some(layout.bucket(part.first + used));
+    }
+    search_outside(words, layout, part)
 }
 
 // The first closed cell of the chain's last bucket.

@@ -5,7 +5,7 @@ use Rattle.persist_model.specs.Shape.{bucket}
 use Rattle.atomic_list.specs.Walk.{chain_of}
 use Rattle.region_layout.specs.Layout.{layout_shape}
 use Rattle.bucket_log.specs.Reads.{HasAllTo}
-use Rattle.bucket_log.proofs.next_place.least_outside.Given as goal
+use Rattle.bucket_log.proofs.next_place.search_outside.Given as goal
 
 abbrev pub invariant-loop-low : goal.invariant-loop-low
 invariant-loop-low g l = record {
