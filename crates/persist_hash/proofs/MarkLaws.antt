@@ -1,11 +1,13 @@
 -- Blocks of a heap that are claimed.
-use Rattle.std.proofs.Common.{◌≡◌, ◌≢◌, inl, inr, ⊎_elim, ℕ, ◌+◌, ◌*◌, ◌<◌, Bool, true, false, ◌||◌, ◌==◌, not, List, [], ◌∷◌, length, refl, ap, sym, ◌∙◌, arith}
-use Rattle.std.specs.List.{list_any}
+use Rattle.std.proofs.Common.{◌≡◌, ◌≢◌, ⊎_elim, ℕ, ◌+◌, ◌*◌, ◌<◌, Bool, true, false, ◌||◌, ◌==◌, not, List, [], ◌∷◌, ◌++◌, length, refl, ap, sym, ◌∙◌, arith}
+use Rattle.std.specs.Prelude.{if◌then◌else◌}
+use Rattle.std.specs.Ordering.{is_eq, nat_cmp}
 use Rattle.std.proofs.lemmas.Bool.{cases_lt}
-use Rattle.std.proofs.lemmas.Bool.Decides.{eqb_tells}
+use Rattle.std.proofs.lemmas.Bool.Decides.{nat_tests}
 use Rattle.std.proofs.lemmas.List.{get_or_past}
-use Rattle.persist_model.specs.Records.{IsAmong}
 use Rattle.lane_traits.specs.Space.{IsOwn}
+use Rattle.lane_traits.specs.Draft.{is_among}
+use Rattle.lane_traits.proofs.Among.{is_among-last}
 use Rattle.persist_hash.specs.Reading.{IsHeap, land_in, AreMarks}
 
 -- an owned block is within the heap
@@ -36,24 +38,25 @@ no_number words heap count structure b h none own = none own.0.number (number_wi
 pub marks_same : (heap : ℕ) (marks : List Bool) (test other : ℕ → Bool) → ((x : ℕ) → test x ≡ other x) → AreMarks heap marks test → AreMarks heap marks other
 marks_same heap marks test other same h = λ k lt. h k lt ∙ same (heap + 16 * k)
 
--- what a search of a list answers
-pub listed : (xs : List ℕ) (x : ℕ) → list_any (λ y. y == x) xs ≡ true → IsAmong xs x
-listed [] x h = absurd (let q = h in cc)
-listed (y ∷ ys) x h = ⊎_elim
-    (λ same. inl (sym same.1))
-    (λ other. inr (listed ys x (sym (ap (λ t. t || list_any (λ z. z == x) ys) other.0) ∙ h)))
-    (eqb_tells y x)
+-- with one more key in the set
+key_at : (key k : ℕ) → is_eq (nat_cmp key k) ≡ (k == key)
+key_at key k = grind (arith, nat_tests)
 
-pub not_listed : (xs : List ℕ) (x : ℕ) → list_any (λ y. y == x) xs ≡ false → IsAmong xs x → ⊥
-not_listed [] x h k = k
-not_listed (y ∷ ys) x h (inl e) = ⊎_elim
-    (λ same. let q : true ≡ false = sym (ap (λ t. t || list_any (λ z. z == x) ys) same.0) ∙ h in cc)
-    (λ other. other.1 (sym e))
-    (eqb_tells y x)
-not_listed (y ∷ ys) x h (inr k) = ⊎_elim
-    (λ same. let q : true ≡ false = sym (ap (λ t. t || list_any (λ z. z == x) ys) same.0) ∙ h in cc)
-    (λ other. not_listed ys x (sym (ap (λ t. t || list_any (λ z. z == x) ys) other.0) ∙ h) k)
-    (eqb_tells y x)
+or_before : (s t : Bool) → (if s then true else t) ≡ (t || s)
+or_before true true = refl
+or_before true false = refl
+or_before false true = refl
+or_before false false = refl
+
+pub keys_more : (before after : ℕ → Bool) (listed : List ℕ) (key : ℕ) → ((k : ℕ) → after k ≡ (if is_eq (nat_cmp key k) then true else before k)) → ((k : ℕ) → before k ≡ is_among listed k)
+    → (k : ℕ) → after k ≡ is_among (listed ++ key ∷ []) k
+keys_more before after listed key put are k =
+    put k ∙ ap (λ s. if s then true else before k) (key_at key k) ∙ or_before (k == key) (before k) ∙ ap (λ t. t || (k == key)) (are k)
+    ∙ sym (is_among-last listed key k)
+
+pub one_more : (before after : ℕ) (is_new : Bool) → after ≡ before + (if is_new then 1 else 0) → is_new ≡ true → after ≡ before + 1
+one_more before after true e on = e
+one_more before after false e on = let q : false ≡ true = on in cc
 
 pub not_true : (t : Bool) → not t ≡ true → t ≡ false
 not_true true e = let q : false ≡ true = e in cc

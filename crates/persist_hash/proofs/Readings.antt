@@ -50,7 +50,7 @@ equal_of x y e = ⊎_elim (λ same. same.1) (λ other. absurd (not_both (x == y)
 apart_of : (x y : ℕ) → (x == y) ≡ false → x ≢ y
 apart_of x y e = ⊎_elim (λ same. absurd (not_both (x == y) same.0 e)) (λ other. other.1) (eqb_tells x y)
 
-absent_is : (xs : List ℕ) (b : ℕ) → is_among xs b ≡ false → IsAmong xs b → ⊥
+pub absent_is : (xs : List ℕ) (b : ℕ) → is_among xs b ≡ false → IsAmong xs b → ⊥
 absent_is xs b off h = not_both (is_among xs b) (of_among xs b h) off
 
 -- ---- directory blocks
@@ -195,10 +195,6 @@ marks_more w root c node front x =
     swap true false u = refl
     swap false true u = refl
     swap false false u = refl
-
-pub length-keys : (ns : List Node) → length (keys ns) ≡ length ns
-length-keys [] = refl
-length-keys (n ∷ ns) = let again = length-keys ns in omega (arith, again)
 
 -- there are fewer nodes in front than words
 pub few_in_front : (land : Land) (w : Words) (root c node : ℕ) (front : List Node) → HasFront land w root c front node → length front ≤ MAX_WORDS

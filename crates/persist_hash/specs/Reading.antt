@@ -1,5 +1,7 @@
 -- What is known of words while they are read as a hash.
 use Rattle.std.specs.Prelude.{◌≡◌, ◌≢◌, ℕ, ◌+◌, ◌*◌, ◌<◌, ◌≤◌, Bool, false, ◌||◌, List, [], ◌∷◌, length, slice_index, slice_index_or, if◌then◌else◌, ◌==◌}
+use Rattle.std.specs.BTreeSet.{BTreeSet, contains, btree_set_len}
+use Rattle.std.specs.Ordering.{nat_cmp}
 use Rattle.persist_model.specs.Region.{Words}
 use Rattle.persist_model.specs.Records.{IsAmong}
 use Rattle.persist_model.specs.Chain.{HasNoRepeats}
@@ -98,8 +100,13 @@ pub record HasFront (land : Land) (w : Words) (root c : ℕ) (front : List Node)
   pub keys_once : HasNoRepeats (keys front)
   pub filled : EachNode (λ m. 1 ≤ m.value) front
 
-pub record IsReading (land : Land) (w : Words) (heap root c node : ℕ) (marks : List Bool) (keys_read : List ℕ) : Type 0 where
+-- the set has these keys, and no others
+abbrev pub AreKeys : BTreeSet ℕ → List ℕ → Type 0
+AreKeys set listed = (k : ℕ) → contains nat_cmp set k ≡ is_among listed k
+
+pub record IsReading (land : Land) (w : Words) (heap root c node : ℕ) (marks : List Bool) (keys_read : BTreeSet ℕ) : Type 0 where
   pub front : List Node
   pub has : HasFront land w root c front node
-  pub keys_are : keys_read ≡ keys front
+  pub keys_are : AreKeys keys_read (keys front)
+  pub count_is : btree_set_len keys_read ≡ length front
   pub marks_are : AreMarks heap marks (in_front w root c front)

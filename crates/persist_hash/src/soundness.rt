@@ -1,5 +1,4 @@
 ghost use Rattle.std.specs.Prelude.{◌≡◌, ◌≢◌, ℕ, ◌+◌, ◌*◌, ◌<◌, ◌≤◌, Bool, false, true, IsTrue, IfOk, OnOk, Err, length, slice_index, slice_index_or};
-ghost use Rattle.persist_model.specs.Records.{IsAmong};
 ghost use Rattle.persist_model.specs.Shape.{words_of_shape, heap, block};
 ghost use Rattle.lane_traits.specs.Space.{IsOwn};
 ghost use Rattle.region_layout.specs.Layout.{layout_shape};
@@ -13,6 +12,7 @@ use crate::search::chain_of;
 use persist_model::{Look, NoMemory};
 use region_layout::Layout;
 use std::alloc::{AllocError, Global};
+use std::collections::BTreeSet;
 
 /// Why the words of a structure aren't known to be a map.
 #[derive(Clone, Copy, Debug, PartialEq, Eq)]
@@ -52,12 +52,12 @@ fn read_directories<L: Look>(words: &L, blocks: &Blocks, root: u32, marks: &mut 
     true
 }
 
-// Whether a node may stand in a chain behind nodes with these keys.
-fn fits(key: u64, value: u64, chain: u32, keys: &[u64]) -> bool
-    ensures good { IsTrue result → (chain_number key ≡ chain) × (1 ≤ value) × (IsAmong keys.now key → ⊥) }
-    ensures bad { result ≡ false → chain_number key ≡ chain → 1 ≤ value → IsAmong keys.now key }
+// Whether a node may stand in a chain, where the flag says that its key is new there.
+fn fits(key: u64, value: u64, chain: u32, is_new: bool) -> bool
+    ensures good { IsTrue result → (chain_number key ≡ chain) × (1 ≤ value) × IsTrue is_new }
+    ensures bad { result ≡ false → chain_number key ≡ chain → 1 ≤ value → is_new ≡ false }
 {
-    chain_of(key) == chain && value != 0 && !keys.contains(&key)
+    chain_of(key) == chain && value != 0 && is_new
 }
 
 // The link to the first node of a chain.
@@ -94,7 +94,7 @@ fn read_chain<L: Look>(
     ensures broken { IfOk result (λ sound. sound ≡ false
         → IsNoHash (land_in (L.words words.now) blocks.now.heap blocks.now.structure) (slice_index (L.words words.now)) root) }
 {
-    let mut keys: Vec<u64> = Vec::new(alloc);
+    let mut keys: BTreeSet<u64> = BTreeSet::new(alloc);
     let mut node = first_of(words, blocks, root, chain);
     while node != 0 {
         if !claim(words, blocks, marks, node) {
@@ -102,10 +102,10 @@ fn read_chain<L: Look>(
         }
         let at = node as u32;
         let key = words.word(at + 1);
-        if !fits(key, words.word(at + 2), chain, &keys) {
+        let is_new = keys.insert(key)?;
+        if !fits(key, words.word(at + 2), chain, is_new) {
             return Ok(false);
         }
-        keys.push(key)?;
         node = words.word(at + 3);
     }
     Ok(true)

@@ -1,17 +1,21 @@
-use Rattle.std.proofs.Common.{◌≡◌, ◌+◌, ◌≤◌, ℕ, List, [], ◌∷◌, ◌++◌, length, slice_index, sym, ◌∙◌, ap, subst, arith}
+use Rattle.std.proofs.Common.{◌+◌, ◌≤◌, ℕ, [], ◌∷◌, ◌++◌, slice_index, sym, ◌∙◌, ap, subst, refl, arith, length-append}
+use Rattle.std.specs.BTreeSet.{contains, btree_set_len}
+use Rattle.std.specs.Ordering.{nat_cmp}
 use Rattle.persist_model.specs.Records.{IsAmong}
 use Rattle.region_layout.specs.HashMap.{keys, chain_number}
-use Rattle.persist_hash.specs.Reading.{land_in, with_block, in_chains, in_front}
+use Rattle.persist_hash.specs.Reading.{land_in, with_block, in_chains, in_front, AreKeys}
+use Rattle.lane_traits.proofs.Among.{among_of}
 use Rattle.persist_hash.proofs.ChainLaws.{keys-append}
-use Rattle.persist_hash.proofs.MarkLaws.{marks_same}
-use Rattle.persist_hash.proofs.Readings.{front_first, front_more, node_read, marks_more, few_in_front, no_hash_by_node, no_hash_by_fields, chains_more, marks_of_chain, length-keys}
+use Rattle.persist_hash.proofs.MarkLaws.{marks_same, keys_more, one_more, not_true, not_false}
+use Rattle.persist_hash.proofs.Readings.{front_first, front_more, node_read, marks_more, few_in_front, no_hash_by_node, no_hash_by_fields, chains_more, marks_of_chain, absent_is}
 use Rattle.persist_hash.proofs.soundness.read_chain.Goals as goal
 
 pub loop-node-init : goal.loop-node-init
 loop-node-init g c = record {
   front = [];
   has = front_first (land_in (g.L.Look.words c.args.words.now) c.args.blocks.now.heap c.args.blocks.now.structure) (slice_index (g.L.Look.words c.args.words.now)) c.args.root c.args.chain c.first_of-node.result c.first_of-node.ensures;
-  keys_are = c.new-keys.ensures.items;
+  keys_are = λ k. rw c.new-keys.ensures.empty refl;
+  count_is = c.new-keys.ensures.len;
   marks_are = c.requires.marks;
 }
 
@@ -26,9 +30,10 @@ returns-then-not-fits-clause-broken g c = λ e.
     let reading = c.loop-node.invariant in
     let node = c.loop-node.node in
     no_hash_by_fields (land_in (g.L.Look.words c.args.words.now) c.args.blocks.now.heap c.args.blocks.now.structure) (slice_index (g.L.Look.words c.args.words.now)) c.args.root c.args.chain node reading.front c.requires.chain reading.has c.loop-node-test.true
-    (λ chain value. subst (λ (xs : List ℕ). IsAmong xs ((slice_index (g.L.Look.words c.args.words.now)) (node + 1))) (c.deref.ensures.value ∙ reading.keys_are)
-    (subst (IsAmong c.deref.result.now) c.word-key.ensures
-    (c.fits.ensures.bad c.if-not-fits.true (ap chain_number c.word-key.ensures ∙ chain) (subst (λ v. 1 ≤ v) (sym c.word.ensures) value))))
+    (λ chain value. subst (IsAmong (keys reading.front)) c.word-key.ensures
+    (among_of (keys reading.front) c.word-key.result
+    (sym (reading.keys_are c.word-key.result) ∙ not_false (contains nat_cmp c.loop-node.keys c.word-key.result)
+    (sym c.in_ok-is_new.ensures.added ∙ c.fits.ensures.bad c.if-not-fits.true (ap chain_number c.word-key.ensures ∙ chain) (subst (λ v. 1 ≤ v) (sym c.word.ensures) value)))))
 
 pub loop-node-preserved : goal.loop-node-preserved
 loop-node-preserved g c =
@@ -43,10 +48,14 @@ loop-node-preserved g c =
       front = front ++ node_read w node ∷ [];
       has = front_more (land_in (g.L.Look.words c.args.words.now) c.args.blocks.now.heap c.args.blocks.now.structure) w c.args.root c.args.chain node c.word-node.result front reading.has (c.claim.ensures.own c.if-not-claim.false) claimed.0
           (sym (ap chain_number c.word-key.ensures) ∙ good.0) (subst (λ v. 1 ≤ v) c.word.ensures good.1)
-          (λ k. good.2 (subst (λ (xs : List ℕ). IsAmong xs c.word-key.result) (sym (c.deref.ensures.value ∙ reading.keys_are)) (subst (IsAmong (keys front)) (sym c.word-key.ensures) k)))
+          (λ k. absent_is (keys front) c.word-key.result
+          (sym (reading.keys_are c.word-key.result) ∙ not_true (contains nat_cmp c.loop-node.keys c.word-key.result) (sym c.in_ok-is_new.ensures.added ∙ good.2))
+          (subst (IsAmong (keys front)) (sym c.word-key.ensures) k))
           c.word-node.ensures;
-      keys_are = c.in_ok-push.ensures.items ∙ ap (λ (xs : List ℕ). xs ++ c.word-key.result ∷ []) reading.keys_are
-          ∙ ap (λ k. keys front ++ k ∷ []) c.word-key.ensures ∙ sym (keys-append front (node_read w node ∷ []));
+      keys_are = subst (AreKeys c.insert.new.self) (ap (λ k. keys front ++ k ∷ []) c.word-key.ensures ∙ sym (keys-append front (node_read w node ∷ [])))
+          (keys_more (contains nat_cmp c.loop-node.keys) (contains nat_cmp c.insert.new.self) (keys front) c.word-key.result c.in_ok-is_new.ensures.updates.0 reading.keys_are);
+      count_is = one_more (btree_set_len c.loop-node.keys) (btree_set_len c.insert.new.self) c.in_ok-is_new.is_new c.in_ok-is_new.ensures.len good.2
+          ∙ ap (λ n. n + 1) reading.count_is ∙ sym (length-append front (node_read w node ∷ []));
       marks_are = marks_same c.args.blocks.now.heap c.claim.new.marks (with_block node test) (in_front w c.args.root c.args.chain (front ++ node_read w node ∷ []))
           (marks_more w c.args.root c.args.chain node front) claimed.1;
     }
@@ -55,11 +64,9 @@ pub loop-node-smaller : goal.loop-node-smaller
 loop-node-smaller g c =
     let reading = c.loop-node.invariant in
     let few = few_in_front (land_in (g.L.Look.words c.args.words.now) c.args.blocks.now.heap c.args.blocks.now.structure) (slice_index (g.L.Look.words c.args.words.now)) c.args.root c.args.chain c.loop-node.node reading.front reading.has in
-    let long = ap length reading.keys_are in
-    let same = length-keys reading.front in
-    let more = c.in_ok-push.ensures.len in
-    let e : length c.push.new.self.items ≡ length c.loop-node.keys.items + 1 = omega (arith, more) in
-    omega (arith, few, long, same, e)
+    let long = reading.count_is in
+    let more = one_more (btree_set_len c.loop-node.keys) (btree_set_len c.insert.new.self) c.in_ok-is_new.is_new c.in_ok-is_new.ensures.len (c.fits.ensures.good c.if-not-fits.false).2 in
+    omega (arith, few, long, more)
 
 pub returns-clause-read : goal.returns-clause-read
 returns-clause-read g c = λ e.
