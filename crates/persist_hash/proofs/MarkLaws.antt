@@ -1,4 +1,4 @@
--- Blocks of a heap that are claimed.
+-- Blocks of a heap that are claimed, and keys of a chain that were read.
 use Rattle.std.proofs.Common.{◌≡◌, ◌≢◌, ⊎_elim, ℕ, ◌+◌, ◌*◌, ◌<◌, Bool, true, false, ◌||◌, ◌==◌, not, List, [], ◌∷◌, ◌++◌, length, refl, ap, sym, ◌∙◌, arith}
 use Rattle.std.specs.Prelude.{if◌then◌else◌}
 use Rattle.std.specs.Ordering.{is_eq, nat_cmp}
@@ -54,10 +54,12 @@ keys_more before after listed key put are k =
     put k ∙ ap (λ s. if s then true else before k) (key_at key k) ∙ or_before (k == key) (before k) ∙ ap (λ t. t || (k == key)) (are k)
     ∙ sym (is_among-last listed key k)
 
+-- how many they are then
 pub one_more : (before after : ℕ) (is_new : Bool) → after ≡ before + (if is_new then 1 else 0) → is_new ≡ true → after ≡ before + 1
 one_more before after true e on = e
 one_more before after false e on = let q : false ≡ true = on in cc
 
+-- what a test that is turned tells
 pub not_true : (t : Bool) → not t ≡ true → t ≡ false
 not_true true e = let q : false ≡ true = e in cc
 not_true false e = refl

@@ -2,9 +2,9 @@ use Rattle.std.proofs.Common.{◌+◌, ◌≤◌, [], ◌∷◌, ◌++◌, slice
 use Rattle.std.specs.BTreeSet.{contains, btree_set_len}
 use Rattle.std.specs.Ordering.{nat_cmp}
 use Rattle.persist_model.specs.Records.{IsAmong}
+use Rattle.lane_traits.proofs.Among.{among_of}
 use Rattle.region_layout.specs.HashMap.{keys, chain_number}
 use Rattle.persist_hash.specs.Reading.{land_in, with_block, in_chains, in_front, AreKeys}
-use Rattle.lane_traits.proofs.Among.{among_of}
 use Rattle.persist_hash.proofs.ChainLaws.{keys-append}
 use Rattle.persist_hash.proofs.MarkLaws.{marks_same, keys_more, one_more, not_true, not_false}
 use Rattle.persist_hash.proofs.Readings.{front_first, front_more, node_read, marks_more, few_in_front, no_hash_by_node, no_hash_by_fields, chains_more, marks_of_chain, absent_is}
