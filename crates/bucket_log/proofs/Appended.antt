@@ -23,7 +23,7 @@ use Rattle.log_laws.specs.Appending.{IsAppend}
 use Rattle.log_laws.specs.MoveRoom.{TakesCell}
 use Rattle.log_laws.proofs.Views.{IsStoreOn, AreStoresOn, AreStoresOn-out, AreAway-stores, view_reaches, view_behind}
 use Rattle.atomic_list.specs.Plans.{insertion}
-use Rattle.atomic_list.specs.Rules.{IsList, at_rest}
+use Rattle.atomic_list.specs.Rules.{IsAtRest, IsList, at_rest}
 use Rattle.atomic_list.proofs.Cases.{chain_is_buckets}
 use Rattle.atomic_list.proofs.CasesToRules.{rules_of_list}
 use Rattle.atomic_list.proofs.RulesToCases.{list_of_rules}
@@ -34,13 +34,13 @@ use Rattle.bucket_log.specs.declared.append.Place.{Place}
 use Rattle.bucket_log.specs.Words.{IsLogWord, IsPartWord, SameRecords, AddsRecord, KeepsLog, AddsToLog}
 use Rattle.bucket_log.specs.Plans.{closing, body, insertion_of, append_plan}
 use Rattle.bucket_log.specs.Places.{IsPlaceBy}
-use Rattle.bucket_log.specs.Appends.{CanAppend, NextPlacesTake, KeepsOrAdds, region_append, EachAppendingImage, AppendEnds, EachImageOfAppends, AppendsEnd}
+use Rattle.bucket_log.specs.Appends.{CanAppend, NextPlacesTake, KeepsOrAdds, region_append, chain_behind, EachAppendingImage, AppendEnds, EachImageOfAppends, AppendsEnd, AppendsLeaveChains}
 use Rattle.bucket_log.specs.States.{less_room, AppendsAreStates, AppendsTakeCell, Gains, with_log, LeadsTo, AppendsGain}
 use Rattle.bucket_log.proofs.Partitions.{few_parts, log_word_out, log_word_own, part_word_below, part_of_cell}
 use Rattle.bucket_log.proofs.RecordSets.{same_cell}
 use Rattle.bucket_log.proofs.Rooms.{room_same}
 use Rattle.bucket_log.proofs.PartStates.{less_here, less_elsewhere, part_kept, part_gained}
-use Rattle.bucket_log.proofs.Appending.{Each-among, among_last, append_images, append_end, append_stores}
+use Rattle.bucket_log.proofs.Appending.{Each-among, among_last, append_images, append_end, append_rests, append_stores}
 
 -- ---- the events
 
@@ -115,13 +115,21 @@ module _ (shape : Shape) (ok : IsAllowed shape) (p : ℕ) (inside : p < shape.pa
   pub view_images : (A : ℕ → Type 0) (k : ℕ) → ((a : ℕ) → IsPartWord shape p a → A a) → Reaches A (progress_at z (map (out_event p) plan) k) v → KeepsOrAdds shape p (view p z) xs r (view p v)
   view_images A k has h = append_images shape p (view p z) (view p v) xs place r k inside can (view_of_append A k has h)
 
-  pub view_end : (A : ℕ → Type 0) → ((a : ℕ) → IsPartWord shape p a → A a) → Reaches A (progress_at z (map (out_event p) plan) (length (map (out_event p) plan))) v →
-      AddsToLog shape p (view p z) xs r (view p v)
-  view_end A has h =
+  -- where all events of the region are made, all of the view are
+  view_of_whole : (A : ℕ → Type 0) → ((a : ℕ) → IsPartWord shape p a → A a) → Reaches A (progress_at z (map (out_event p) plan) (length (map (out_event p) plan))) v →
+      Reaches (IsLogWord shape p) (advance_all (start (view p z)) plan) (view p v)
+  view_of_whole A has h =
       let size : length (map (out_event p) plan) ≡ length plan = length-map plan (out_event p) in
       let all : take (length (map (out_event p) plan)) plan ≡ plan = take_all (length (map (out_event p) plan)) plan (omega (arith, size)) in
-      append_end shape p (view p z) (view p v) xs place r inside can
-      (subst (λ es. Reaches (IsLogWord shape p) (advance_all (start (view p z)) es) (view p v)) all (view_of_append A (length (map (out_event p) plan)) has h))
+      subst (λ es. Reaches (IsLogWord shape p) (advance_all (start (view p z)) es) (view p v)) all (view_of_append A (length (map (out_event p) plan)) has h)
+
+  pub view_end : (A : ℕ → Type 0) → ((a : ℕ) → IsPartWord shape p a → A a) → Reaches A (progress_at z (map (out_event p) plan) (length (map (out_event p) plan))) v →
+      AddsToLog shape p (view p z) xs r (view p v)
+  view_end A has h = append_end shape p (view p z) (view p v) xs place r inside can (view_of_whole A has h)
+
+  pub view_rests : (A : ℕ → Type 0) → ((a : ℕ) → IsPartWord shape p a → A a) → Reaches A (progress_at z (map (out_event p) plan) (length (map (out_event p) plan))) v →
+      IsAtRest shape p (view p v) (chain_behind place xs)
+  view_rests A has h = append_rests shape p (view p z) (view p v) xs place r inside can (view_of_whole A has h)
 
   -- words of others aren't stored to
   pub others_same : (A : ℕ → Type 0) (k a : ℕ) → A a → (IsPartWord shape p a → ⊥) → Reaches A (progress_at z (map (out_event p) plan) k) v → v a ≡ z a
@@ -345,6 +353,9 @@ appends_end shape p lane z xs place r before region ok inside can settled run =
       λ a m v c. elim ((tracks a m).values v c) [ inl e ↦ e | inr w ↦ absurd (subst (λ ws. Wrote ws a v) leaves.nothing_pending w) ],
       leaves.adds,
     )
+
+pub appends_leave_chains : AppendsLeaveChains
+appends_leave_chains shape p z v xs place r ok inside can h = view_rests shape ok p inside z v xs place r can (IsPartWord shape p) (λ a m. m) h
 
 pub appends_are_states : AppendsAreStates
 appends_are_states shape p z s xs place r ok inside has can above = append_is_append shape ok p inside z s has xs place r can above

@@ -23,7 +23,7 @@ use Rattle.bucket_log.specs.declared.append.Place.{Place}
 use Rattle.bucket_log.specs.Words.{IsLogWord, KeepsLog, AddsToLog}
 use Rattle.bucket_log.specs.Plans.{closing, body, opening, insertion_of, place_address, append_plan}
 use Rattle.bucket_log.specs.Places.{IsFreshPlace, IsUsedPlace, IsPlaceBy}
-use Rattle.bucket_log.specs.Appends.{CanAppend, KeepsOrAdds, appending}
+use Rattle.bucket_log.specs.Appends.{CanAppend, KeepsOrAdds, chain_behind, appending}
 use Rattle.bucket_log.proofs.ListFacts.{insertion_stores, chain_few}
 use Rattle.bucket_log.proofs.Addresses.{bucket_above, list_word_is_no_cell, list_word_is_log_word, cell_word_is_log_word, cells_apart}
 use Rattle.bucket_log.proofs.RecordSets.{same_cell, IsKept, SameRecords-from, AddsRecord-from, gate_of}
@@ -159,6 +159,9 @@ module _ (shape : Shape) (p : ℕ) (w v : Words) (xs : List ℕ) (place : Place)
   used_image k h = elim (closed_or_record (IsLogWord shape p) (start w) r v
       (cell_words shape p place.bucket place.cell r node_is below at) (record { durable = was_shut; none = λ u x. x }) k h)
       [ inl shut ↦ inl (used_kept k h shut) | inr new ↦ inr (used_added k h new) ]
+
+  used_rests : Reaches (IsLogWord shape p) (advance_all (start w) (body r ++ opening r)) v → IsAtRest shape p v xs
+  used_rests h = used_list 10 h
 
   used_end : Reaches (IsLogWord shape p) (advance_all (start w) (body r ++ opening r)) v → AddsToLog shape p w xs r v
   used_end h = used_added 10 h (record_at_end (IsLogWord shape p) (start w) r v
@@ -432,13 +435,21 @@ module _ (shape : Shape) (p : ℕ) (w v : Words) (xs : List ℕ) (place : Place)
         (subst (λ es. Reaches Log (advance_all (start w) es) v) j.1 h))
   ]
 
-  -- at the end the record is there
+  -- the cell's events come behind those of the insertion
+  once_all_put : Reaches Log (advance_all (start w) ((shut ++ put) ++ cell_part)) v → Reaches Log (advance_all all_put cell_part) v
+  once_all_put h = subst (λ q. Reaches Log q v)
+      (advance_all-append (start w) (shut ++ put) cell_part ∙ ap (λ q. advance_all q cell_part) (advance_all-append (start w) shut put)) h
+
+  -- at the end the bucket is behind the chain
+  fresh_rests : Reaches Log (advance_all (start w) ((shut ++ put) ++ cell_part)) v → IsAtRest shape p v (xs ++ node ∷ [])
+  fresh_rests h = put_list 10 (once_all_put h)
+
+  -- and the record is there
   fresh_end : Reaches Log (advance_all (start w) ((shut ++ put) ++ cell_part)) v → AddsToLog shape p w xs r v
   fresh_end h =
       let all : take (length ((shut ++ put) ++ cell_part)) ((shut ++ put) ++ cell_part) ≡ (shut ++ put) ++ cell_part = take_all (length ((shut ++ put) ++ cell_part)) ((shut ++ put) ++ cell_part) (omega arith) in
       let whole = subst (λ es. Reaches Log (advance_all (start w) es) v) (sym all) h in
-      let s = subst (λ q. Reaches Log q v)
-      (advance_all-append (start w) (shut ++ put) cell_part ∙ ap (λ q. advance_all q cell_part) (advance_all-append (start w) shut put)) h in
+      let s = once_all_put h in
       added (length ((shut ++ put) ++ cell_part)) 10 whole s
       (record_at_end Log all_put r v (cell_words shape p node place.cell r is.bucket below at)
       (subst (λ n. IsFixed all_put n 0) (sym at) (all_put_gate place.cell below)) s)
@@ -475,6 +486,17 @@ end_by shape p w v xs place r false inside rest is below at gate h = used_end sh
 pub append_end : (shape : Shape) (p : ℕ) (w v : Words) (xs : List ℕ) (place : Place) (r : Record) → p < shape.partitions → CanAppend shape p w xs place r →
     Reaches (IsLogWord shape p) (advance_all (start w) (append_plan shape.cells place r)) v → AddsToLog shape p w xs r v
 append_end shape p w v xs place r inside can h = end_by shape p w v xs place r place.fresh inside can.at_rest can.is_place can.below can.at can.gate h
+
+rests_by : (shape : Shape) (p : ℕ) (w v : Words) (xs : List ℕ) (place : Place) (r : Record) (fresh : Bool) → p < shape.partitions → IsAtRest shape p w xs →
+    IsPlaceBy shape p w xs place fresh → place.cell < shape.cells → r.at ≡ place_address place → r.lsn ≢ 0 →
+    Reaches (IsLogWord shape p) (advance_all (start w) (plan_by shape.cells place r fresh)) v → IsAtRest shape p v (if fresh then xs ++ place.bucket ∷ [] else xs)
+rests_by shape p w v xs place r true inside rest is below at gate h = fresh_rests shape p w v xs place r inside rest is below at gate h
+rests_by shape p w v xs place r false inside rest is below at gate h = used_rests shape p w v xs place r rest is below at gate h
+
+-- at the end the list is at rest
+pub append_rests : (shape : Shape) (p : ℕ) (w v : Words) (xs : List ℕ) (place : Place) (r : Record) → p < shape.partitions → CanAppend shape p w xs place r →
+    Reaches (IsLogWord shape p) (advance_all (start w) (append_plan shape.cells place r)) v → IsAtRest shape p v (chain_behind place xs)
+append_rests shape p w v xs place r inside can h = rests_by shape p w v xs place r place.fresh inside can.at_rest can.is_place can.below can.at can.gate h
 
 stores_by : (shape : Shape) (p : ℕ) (w : Words) (xs : List ℕ) (place : Place) (r : Record) (fresh : Bool) → p < shape.partitions → IsAtRest shape p w xs →
     IsPlaceBy shape p w xs place fresh → place.cell < shape.cells → r.at ≡ place_address place → r.lsn ≢ 0 →

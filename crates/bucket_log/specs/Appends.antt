@@ -1,5 +1,5 @@
 -- An append, from its conditions to what each image of each prefix is. w are the words of the partition's view.
-use Rattle.std.specs.Prelude.{◌≡◌, ◌≢◌, ◌⊎◌, ℕ, ◌<◌, List, [], map, length}
+use Rattle.std.specs.Prelude.{◌≡◌, ◌≢◌, ◌⊎◌, ℕ, ◌<◌, if◌then◌else◌, List, [], ◌∷◌, ◌++◌, map, length}
 use Rattle.persist_model.specs.declared.event.Event.{Event}
 use Rattle.persist_model.specs.Region.{Words, Region, MayStand, AreInside}
 use Rattle.persist_model.specs.Progress.{Progress, start, advance_all, Reaches, AreSettledAt}
@@ -34,6 +34,10 @@ KeepsOrAdds shape p w chain r v = KeepsLog shape p w chain v ⊎ AddsToLog shape
 -- the events of the append on the region
 abbrev pub region_append : Shape → ℕ → Place → Record → List Event
 region_append shape p place r = map (out_event p) (append_plan shape.cells place r)
+
+-- the chain behind an append: a fresh bucket is put behind it
+abbrev pub chain_behind : Place → List ℕ → List ℕ
+chain_behind place chain = if place.fresh then chain ++ place.bucket ∷ [] else chain
 
 -- the progress of the view's words after the first k events of the append
 abbrev pub appending : Shape → Words → Place → Record → ℕ → Progress
@@ -72,3 +76,10 @@ AppendsEnd = (shape : Shape) (p lane : ℕ) (z : Words) (chain : List ℕ) (plac
     AreSettledAt (IsPartWord shape p) z before → Run (IsPartWord shape p) lane (region_append shape p place r) before (length (region_append shape p place r)) region →
     AreSettledAt (IsPartWord shape p) (advance_all (start z) (region_append shape p place r)).durable region
     × AddsToLog shape p (view p z) chain r (view p (advance_all (start z) (region_append shape p place r)).durable)
+
+-- Once all events of an append are made, the list is at rest with the chain behind the append, in all words that may be reached.
+abbrev pub AppendsLeaveChains : Type 0
+AppendsLeaveChains = (shape : Shape) (p : ℕ) (z v : Words) (chain : List ℕ) (place : Place) (r : Record) →
+    IsAllowed shape → p < shape.partitions → CanAppend shape p (view p z) chain place r →
+    Reaches (IsPartWord shape p) (progress_at z (region_append shape p place r) (length (region_append shape p place r))) v →
+    IsAtRest shape p (view p v) (chain_behind place chain)

@@ -1,6 +1,6 @@
 //! What the layers above use of the log, as functions that do nothing: the clause is the law.
 ghost use Rattle.bucket_log.specs.Plans.{AppendsHaveEvents};
-ghost use Rattle.bucket_log.specs.Appends.{NextPlacesTake, EachAppendingImage, AppendEnds, EachImageOfAppends, AppendsEnd};
+ghost use Rattle.bucket_log.specs.Appends.{NextPlacesTake, EachAppendingImage, AppendEnds, EachImageOfAppends, AppendsEnd, AppendsLeaveChains};
 ghost use Rattle.bucket_log.specs.States.{AppendsAreStates, AppendsTakeCell, AppendsGain};
 ghost use Rattle.bucket_log.specs.Scans.{ViewsHaveLogs, LogsAreStates};
 
@@ -32,6 +32,11 @@ pub fn each_image_of_appends()
 /// A run of a whole append leaves settled log words with the new record.
 pub fn appends_end()
     ensures { AppendsEnd }
+{}
+
+/// A whole append leaves the partition's list at rest, and a fresh bucket behind its chain.
+pub fn appends_leave_chains()
+    ensures { AppendsLeaveChains }
 {}
 
 /// An append takes the state of a region to the one with the record, at its gate's store.
