@@ -10,7 +10,7 @@ mod room_count;
 mod scanning;
 
 pub use append::{Place, append_event};
-pub use next_place::place;
+pub use next_place::{place, place_with};
 pub use parts::{Closing, Giving, Part, Undoing, Update};
 pub use room_count::room;
 pub use scanning::{Placed, scan, sort_placed};

@@ -1,7 +1,8 @@
 // Where the next record goes.
-ghost use Rattle.std.specs.Prelude.{◌≡◌, ◌↔◌, IsTrue, ◌<◌, ◌≤◌, ◌*◌, ◌+◌, ◌^◌, ℕ, IfSome, length, slice_index};
+ghost use Rattle.std.specs.Prelude.{◌≡◌, ◌↔◌, IsTrue, ◌<◌, ◌≤◌, ◌*◌, ◌+◌, ◌^◌, ℕ, IfSome, List, length, slice_index};
 ghost use Rattle.persist_model.specs.Chain.{last_or};
 ghost use Rattle.persist_model.specs.Region.{Words};
+ghost use Rattle.persist_model.specs.Shape.{Shape};
 ghost use Rattle.persist_model.specs.Sound.{room_of};
 ghost use Rattle.atomic_list.specs.Reads.{SameLog};
 ghost use Rattle.atomic_list.specs.Walk.{chain_of};
@@ -105,11 +106,10 @@ fn used_place<W: Look>(words: &W, layout: Layout, tail: u32) -> Option<Place>
 }
 
 // The first cell of the least bucket of the part that isn't in the chain.
-fn fresh_place<W: Look>(words: &W, layout: Layout, part: Buckets, tail: u32) -> Option<Place>
-    requires { IsLogOfPart layout part (length (W.words words.now)) (slice_index (W.words words.now)) }
-    ensures { IsFreshIn (layout_shape layout) part (chain_of (layout_shape layout) (slice_index (W.words words.now))) tail result }
+fn fresh_place(least: Option<u32>, tail: u32) -> Option<Place>
+    ensures { (shape : Shape) (part : Buckets) (chain : List ℕ) → IsLeastOutside shape part chain least → IsFreshIn shape part chain tail result }
 {
-    let bucket = least_outside(words, layout, part)?;
+    let bucket = least?;
     Some(Place {
         bucket,
         cell: 0,
@@ -125,7 +125,24 @@ fn read_place<W: Look>(words: &W, layout: Layout, part: Buckets) -> Option<Place
     let tail = last_bucket(words, layout);
     match used_place(words, layout, tail) {
         Some(place) => Some(place),
-        None => fresh_place(words, layout, part, tail),
+        None => fresh_place(least_outside(words, layout, part), tail),
+    }
+}
+
+fn read_place_with<W: Look>(
+    words: &W,
+    layout: Layout,
+    part: Buckets,
+    least: Option<u32>,
+) -> Option<Place>
+    requires log { IsLogOfPart layout part (length (W.words words.now)) (slice_index (W.words words.now)) }
+    requires least { IsLeastOutside (layout_shape layout) part (chain_of (layout_shape layout) (slice_index (W.words words.now))) least }
+    ensures { IsNextIn (layout_shape layout) part (slice_index (W.words words.now)) (chain_of (layout_shape layout) (slice_index (W.words words.now))) result }
+{
+    let tail = last_bucket(words, layout);
+    match used_place(words, layout, tail) {
+        Some(used) => Some(used),
+        None => fresh_place(least, tail),
     }
 }
 
@@ -139,4 +156,21 @@ pub fn place<W: Look>(words: &W, layout: Layout, part: Buckets) -> Option<Place>
         → IfSome result (λ place. IsNextPlace (layout_shape layout) p w (chain_of (layout_shape layout) w) place) }
 {
     read_place(words, layout, part)
+}
+
+/// The next place of a partition, as `place` gives it, where the least bucket of the part that isn't in the chain is known already.
+pub fn place_with<W: Look>(
+    words: &W,
+    layout: Layout,
+    part: Buckets,
+    least: Option<u32>,
+) -> Option<Place>
+    requires log { IsLogOfPart layout part (length (W.words words.now)) (slice_index (W.words words.now)) }
+    requires least { IsLeastOutside (layout_shape layout) part (chain_of (layout_shape layout) (slice_index (W.words words.now))) least }
+    ensures none { (w : Words) (p : ℕ) → SameLog (slice_index (W.words words.now)) w → IsPart (layout_shape layout) p part
+        → (result ≡ None) ↔ (room_of (layout_shape layout) w p (chain_of (layout_shape layout) w) ≡ 0) }
+    ensures next { (w : Words) (p : ℕ) → SameLog (slice_index (W.words words.now)) w → IsPart (layout_shape layout) p part
+        → IfSome result (λ place. IsNextPlace (layout_shape layout) p w (chain_of (layout_shape layout) w) place) }
+{
+    read_place_with(words, layout, part, least)
 }

@@ -11,4 +11,4 @@ returns-in-Some g c = inl (subst (λ t. IsUsedIn (slice_index (g.W.Look.words c.
 
 pub returns-in-None : goal.returns-in-None
 returns-in-None g c = next_in (layout_shape c.args.layout) c.args.part (slice_index (g.W.Look.words c.args.words.now)) (chain_of (layout_shape c.args.layout) (slice_index (g.W.Look.words c.args.words.now))) c.last_bucket-tail.result c.last_bucket-tail.ensures
-    c.fresh_place.result c.in-None.ensures c.fresh_place.ensures
+    c.fresh_place.result c.in-None.ensures (c.fresh_place.ensures (layout_shape c.args.layout) c.args.part (chain_of (layout_shape c.args.layout) (slice_index (g.W.Look.words c.args.words.now))) c.least_outside.ensures)
