@@ -20,7 +20,7 @@ whole g c start h = passes_on c.args.target start (reverse (map record_of_placed
     (c.loop-left.invariant.so_far start h)
 
 pub turn-requires-clause-passes : goal.turn-requires-clause-passes
-turn-requires-clause-passes g c = (c.requires.0, reverse (map record_of_placed (take (c.loop-left.left - 1) c.args.records.now)), whole g c c.requires.0 c.requires.1)
+turn-requires-clause-passes g c = (c.requires.passes.0, reverse (map record_of_placed (take (c.loop-left.left - 1) c.args.records.now)), whole g c c.requires.passes.0 c.requires.passes.1)
 
 pub returns-in-Stopped-clause-stopped : goal.returns-in-Stopped-clause-stopped
 returns-in-Stopped-clause-stopped g c = λ same start h.
@@ -38,6 +38,7 @@ loop-left-preserved g c =
     let begins = newest_of c.args.records.now (c.loop-left.left - 1) c.loop-left.left no_placed (omega (arith, bound, some)) (omega (arith, some)) in
     record {
       bound = omega (arith, bound, some, counter);
+      knows = c.in-Made.ensures.table refl;
       so_far = λ start h. c.in-Made.ensures.made refl start (reverse (map record_of_placed (take (c.loop-left.left - 1) c.args.records.now)))
           (passes_on c.args.target start (reverse (map record_of_placed (take c.loop-left.left c.args.records.now))) _ c.loop-left.counter c.loop-left.next c.loop-left.gates _ begins (c.loop-left.invariant.so_far start h));
     }

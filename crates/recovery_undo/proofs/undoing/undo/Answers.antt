@@ -8,12 +8,12 @@ use Rattle.recovery_undo.proofs.undoing.undo.Goals as goal
 
 pub bounds-records-0 : goal.bounds-records-0
 bounds-records-0 g c =
-    let at = c.requires in
+    let at = c.requires.can in
     some_record c.args.layout c.args.transaction c.args.next.now c.args.records.now c.args.gates.now at.0 at.1 (seen (g.D.Device.cells c.args.device.now) (g.D.Device.counts c.args.device.now) (g.D.Device.spare c.args.device.now)) at.2
 
-pub undo_target-requires : goal.undo_target-requires
-undo_target-requires g c =
-    let at = c.requires in (
+pub undo_target-requires-clause-begins : goal.undo_target-requires-clause-begins
+undo_target-requires-clause-begins g c =
+    let at = c.requires.can in (
       (start_of c.args.layout c.args.transaction c.args.records.now c.args.gates.now at.0 at.1 (seen (g.D.Device.cells c.args.device.now) (g.D.Device.counts c.args.device.now) (g.D.Device.spare c.args.device.now))),
       (begins c.args.layout c.args.transaction c.args.next.now c.args.records.now c.args.gates.now at.0 at.1 (seen (g.D.Device.cells c.args.device.now) (g.D.Device.counts c.args.device.now) (g.D.Device.spare c.args.device.now)) at.2
           c.partition_of.result _ no_placed c.partition_of.ensures.is),
@@ -47,4 +47,4 @@ pub returns-clause-spare : goal.returns-clause-spare
 returns-clause-spare g c = λ first y h. (spent g c first y h).spare
 
 pub returns-clause-header : goal.returns-clause-header
-returns-clause-header g c = let at = c.requires in (spent g c at.0 at.1 at.2).header
+returns-clause-header g c = let at = c.requires.can in (spent g c at.0 at.1 at.2).header
