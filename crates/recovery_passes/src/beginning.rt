@@ -4,6 +4,8 @@ ghost use Rattle.persist_model.specs.State.{State, IsSoundState};
 ghost use Rattle.log_laws.specs.Parts.{EachKeeps};
 ghost use Rattle.region_layout.specs.Layout.{layout_shape};
 ghost use Rattle.recovery_run.specs.Edges.{HasCounted, KeepsWords, IsHeaderWord};
+ghost use Rattle.log_partition.specs.Used.{FitsBuckets};
+ghost use Rattle.recovery_undo.specs.Appending.{KnowsRegion};
 ghost use Rattle.recovery_passes.specs.Passing.{Begins, Undoes, begin_events};
 ghost use Rattle.recovery_passes.specs.Stages.{AreQuiet, IsIdle};
 
@@ -11,11 +13,12 @@ use crate::lists::repair_all;
 use crate::redo::redo_all;
 use crate::undoing::undo_all;
 use lane_traits::{Device, Done};
+use log_partition::UsedBuckets;
 use recovery_analysis::{Change, Transaction};
 use recovery_run::Gates;
 use region_layout::Layout;
 
-/// Repairs the lists, stores these values again and undoes these transactions.
+/// Repairs the lists, stores these values again and undoes these transactions. The table is read once the lists are repaired.
 pub fn bring_back<D: Device>(
     device: &mut D,
     layout: Layout,
@@ -23,9 +26,11 @@ pub fn bring_back<D: Device>(
     running: &[Transaction],
     next: &mut u64,
     gates: &mut Gates,
+    table: &mut UsedBuckets,
 ) -> Done
-    requires { (first : State) × (total : ℕ) × Begins layout first total redo.now running.now next.old gates.old (D.cells device.old)
+    requires can { (first : State) × (total : ℕ) × Begins layout first total redo.now running.now next.old gates.old (D.cells device.old)
         × IsSoundState (layout_shape layout) first × (begin_events layout first.log redo.now running.now ≤ D.spare device.old) }
+    requires table { FitsBuckets (layout_shape layout) table.old }
     ensures made { result ≡ Done.Made → (first : State) (total : ℕ) → Begins layout first total redo.now running.now next.old gates.old (D.cells device.old)
         → IsSoundState (layout_shape layout) first → begin_events layout first.log redo.now running.now ≤ D.spare device.old
         → Undoes layout first total [] next.new gates.new (D.cells device.new) }
@@ -42,6 +47,7 @@ pub fn bring_back<D: Device>(
     ensures idle { AreQuiet (layout_shape layout) (D.cells device.old) → redo.now ≡ [] → running.now ≡ []
         → IsIdle result (D.cells device.old) (D.cells device.new) (D.counts device.old) (D.counts device.new) }
     ensures idle_gates { running.now ≡ [] → gates.new ≡ gates.old }
+    ensures table { result ≡ Done.Made → KnowsRegion layout table.new (D.cells device.new) }
 {
     match repair_all(device, layout) {
         Done::Stopped => return Done::Stopped,
@@ -51,5 +57,6 @@ pub fn bring_back<D: Device>(
         Done::Stopped => return Done::Stopped,
         Done::Made => {}
     }
-    undo_all(device, layout, running, next, gates)
+    table.read(device, layout);
+    undo_all(device, layout, running, next, gates, table)
 }

@@ -4,11 +4,13 @@ ghost use Rattle.persist_model.specs.State.{State, IsSoundState};
 ghost use Rattle.log_laws.specs.Parts.{EachKeeps};
 ghost use Rattle.region_layout.specs.Layout.{layout_shape};
 ghost use Rattle.recovery_run.specs.Edges.{HasCounted, KeepsWords, IsHeaderWord};
+ghost use Rattle.recovery_undo.specs.Appending.{KnowsRegion};
 ghost use Rattle.recovery_passes.specs.Passing.{gates_len, Undoes, IsReady, IsWanted, IsCleared, clear_events, HasNoGates, IsClosedLog};
 ghost use Rattle.recovery_passes.specs.Stages.{AreShort, IsIdle};
 
 use crate::lists::drop_all;
 use lane_traits::{Device, Done};
+use log_partition::UsedBuckets;
 use recovery_run::{Gates, close_everything};
 use recovery_undo::append_checkpoint;
 use region_layout::Layout;
@@ -55,10 +57,12 @@ fn checkpoint_if<D: Device>(
     wanted: bool,
     next: &mut u64,
     gates: &mut Gates,
+    table: &mut UsedBuckets,
 ) -> Done
     requires can { (first : State) × (total : ℕ) × Undoes layout first total [] next.old gates.old (D.cells device.old)
         × IsSoundState (layout_shape layout) first × IsWanted layout first wanted }
     requires spare { (if wanted then layout.cells + 21 else 0) ≤ D.spare device.old }
+    requires table { KnowsRegion layout table.old (D.cells device.old) }
     ensures made { result ≡ Done.Made → (first : State) (total : ℕ) → Undoes layout first total [] next.old gates.old (D.cells device.old)
         → IsSoundState (layout_shape layout) first → IsWanted layout first wanted → IsReady layout first gates.new (D.cells device.new) }
     ensures count { result ≡ Done.Made → gates_len gates.new ≤ gates_len gates.old + (if wanted then 1 else 0) }
@@ -71,7 +75,7 @@ fn checkpoint_if<D: Device>(
     ensures idle_gates { wanted ≡ false → gates.new ≡ gates.old }
 {
     if wanted {
-        append_checkpoint(device, layout, next, gates)
+        append_checkpoint(device, layout, next, gates, table)
     } else {
         Done::Made
     }
@@ -84,11 +88,13 @@ pub fn clear<D: Device>(
     wanted: bool,
     next: u64,
     gates: Gates,
+    table: &mut UsedBuckets,
 ) -> Done
     requires can { (first : State) × (total : ℕ) × Undoes layout first total [] next gates (D.cells device.old)
         × IsSoundState (layout_shape layout) first × IsWanted layout first wanted }
     requires spare { clear_events layout wanted (gates_len gates) ≤ D.spare device.old }
     requires few { gates_len gates + 4 < 2 ^ 64 }
+    requires table { KnowsRegion layout table.old (D.cells device.old) }
     ensures made { result ≡ Done.Made → (first : State) (total : ℕ) → Undoes layout first total [] next gates (D.cells device.old)
         → IsSoundState (layout_shape layout) first → IsWanted layout first wanted → IsCleared layout first (D.cells device.new) }
     ensures stopped { result ≡ Done.Stopped → (first : State) (total : ℕ) → Undoes layout first total [] next gates (D.cells device.old)
@@ -100,7 +106,7 @@ pub fn clear<D: Device>(
 {
     let mut number = next;
     let mut all = gates;
-    match checkpoint_if(device, layout, wanted, &mut number, &mut all) {
+    match checkpoint_if(device, layout, wanted, &mut number, &mut all, table) {
         Done::Stopped => return Done::Stopped,
         Done::Made => {}
     }

@@ -4,6 +4,7 @@ ghost use Rattle.persist_model.specs.State.{State};
 ghost use Rattle.log_laws.specs.Parts.{EachKeeps};
 ghost use Rattle.region_layout.specs.Layout.{layout_shape};
 ghost use Rattle.recovery_run.specs.Edges.{HasCounted, KeepsWords, IsHeaderWord};
+ghost use Rattle.log_partition.specs.Used.{FitsBuckets};
 ghost use Rattle.recovery_passes.specs.Passing.{IsCleared};
 ghost use Rattle.recovery_passes.specs.Plans.{IsPlanned};
 ghost use Rattle.recovery_passes.specs.Stages.{AreQuiet, AreShort, IsIdle};
@@ -11,12 +12,13 @@ ghost use Rattle.recovery_passes.specs.Stages.{AreQuiet, AreShort, IsIdle};
 use crate::beginning::bring_back;
 use crate::clearing::clear;
 use lane_traits::{Device, Done};
+use log_partition::UsedBuckets;
 use recovery_analysis::{Change, Transaction};
 use recovery_run::Gates;
 use region_layout::Layout;
 
 /// Makes all events of a recovery, by what was read before: the values to be stored again, the transactions to be undone,
-/// whether a checkpoint record is wanted, the next number, and the gates of all records.
+/// whether a checkpoint record is wanted, the next number, the gates of all records, and memory for the table of used buckets.
 pub fn make_events<D: Device>(
     device: &mut D,
     layout: Layout,
@@ -25,8 +27,10 @@ pub fn make_events<D: Device>(
     checkpoint: bool,
     next: u64,
     gates: Gates,
+    table: UsedBuckets,
 ) -> Done
-    requires { (first : State) × (most : ℕ) × IsPlanned layout first redo.now running.now checkpoint next gates most (D.cells device.old) × (most ≤ D.spare device.old) × (most < 2 ^ 64) }
+    requires can { (first : State) × (most : ℕ) × IsPlanned layout first redo.now running.now checkpoint next gates most (D.cells device.old) × (most ≤ D.spare device.old) × (most < 2 ^ 64) }
+    requires table { FitsBuckets (layout_shape layout) table }
     ensures made { result ≡ Done.Made → (first : State) (most : ℕ) → IsPlanned layout first redo.now running.now checkpoint next gates most (D.cells device.old) → most ≤ D.spare device.old
         → IsCleared layout first (D.cells device.new) }
     ensures stopped { result ≡ Done.Stopped → (first : State) (most : ℕ) → IsPlanned layout first redo.now running.now checkpoint next gates most (D.cells device.old) → most ≤ D.spare device.old
@@ -40,9 +44,18 @@ pub fn make_events<D: Device>(
 {
     let mut number = next;
     let mut all = gates;
-    match bring_back(device, layout, redo, running, &mut number, &mut all) {
+    let mut known = table;
+    match bring_back(
+        device,
+        layout,
+        redo,
+        running,
+        &mut number,
+        &mut all,
+        &mut known,
+    ) {
         Done::Stopped => return Done::Stopped,
         Done::Made => {}
     }
-    clear(device, layout, checkpoint, number, all)
+    clear(device, layout, checkpoint, number, all, &mut known)
 }

@@ -1,11 +1,16 @@
-use Rattle.std.proofs.Common.{◌≡◌, ◌≤◌, ◌+◌, ℕ, [], length, refl, sym, ap, ◌∙◌, subst, arith}
+use Rattle.std.proofs.Common.{◌≡◌, ◌≤◌, ◌+◌, ℕ, List, [], length, refl, sym, ap, ◌∙◌, subst, arith}
 use Rattle.lane_traits.specs.declared.device.Done.TheVariants.{Made, Stopped}
+use Rattle.std.specs.Prelude.{slice_index}
 use Rattle.persist_model.specs.Region.{Region}
 use Rattle.persist_model.specs.Records.{IsAmong}
 use Rattle.persist_model.specs.State.{State}
 use Rattle.log_laws.specs.Recovering.{with_heap}
 use Rattle.region_layout.specs.Layout.{layout_shape}
+use Rattle.log_partition.specs.Merging.{AreLogsOf}
+use Rattle.log_partition.specs.Used.{KnowsChains, chains_in}
 use Rattle.recovery_run.specs.Edges.{HasCounted, IsHeaderWord}
+use Rattle.recovery_run.proofs.Reaching.{settled_reached}
+use Rattle.recovery_undo.proofs.Places.{logs_of}
 use Rattle.recovery_analysis.specs.Changes.{stored}
 use Rattle.recovery_passes.specs.Passing.{begin_events, undo_all_events}
 use Rattle.recovery_passes.proofs.Counting.{counted_more, counted_then, keeps_then}
@@ -17,7 +22,7 @@ returns-in-Stopped-clause-stopped g c = λ stopped first total h sound enough. c
 
 pub redo_all-requires-clause-can : goal.redo_all-requires-clause-can
 redo_all-requires-clause-can g c =
-    let r = c.requires in
+    let r = c.requires.can in
     (layout_shape c.args.layout, r.0, r.0, c.in-Made.ensures.made refl r.0 r.0 r.2.settled, may_store c.args.layout r.0 r.1 c.args.redo.now c.args.running.now c.args.next.now c.args.gates.now (g.D.Device.cells c.args.device.now) r.2)
 
 pub returns-in-Stopped-redo_all-clause-stopped : goal.returns-in-Stopped-redo_all-clause-stopped
@@ -33,13 +38,28 @@ returns-in-Stopped-redo_all-clause-counted g c = λ first total h sound enough.
 
 pub returns-in-Stopped-redo_all-clause-header : goal.returns-in-Stopped-redo_all-clause-header
 returns-in-Stopped-redo_all-clause-header g c = λ a v is one.
-    let r = c.requires in
+    let r = c.requires.can in
     c.in-Stopped-redo_all.ensures.aside a v (stores_above c.args.layout r.0 r.1 c.args.redo.now c.args.running.now c.args.next.now c.args.gates.now (g.D.Device.cells c.args.device.now) r.2 a is.below)
     (c.in-Made.ensures.header a v is one)
 
-pub undo_all-requires : goal.undo_all-requires
-undo_all-requires g c =
-    let r = c.requires in
+pub read-requires-clause-logs : goal.read-requires-clause-logs
+read-requires-clause-logs g c =
+    let r = c.requires.can in
+    let shape = layout_shape c.args.layout in
+    let settled = c.in-Made.ensures.made refl r.0 r.0 r.2.settled in
+    let there = c.in-Made-redo_all.ensures.made refl shape r.0 r.0 settled
+    (may_store c.args.layout r.0 r.1 c.args.redo.now c.args.running.now c.args.next.now c.args.gates.now (g.D.Device.cells c.args.device.now) r.2) in
+    let y = with_heap r.0 (stored c.args.redo.now r.0.words) in
+    subst (λ (xs : List ℕ). AreLogsOf c.args.layout (length xs) (slice_index xs)) (sym (g.met.D.Device.reads c.redo_all.new.device))
+    (logs_of c.args.layout r.0 y (g.D.Device.cells c.redo_all.new.device) (settled_reached shape r.0 y (g.D.Device.cells c.redo_all.new.device) there))
+
+pub undo_all-requires-clause-table : goal.undo_all-requires-clause-table
+undo_all-requires-clause-table g c =
+    subst (λ (xs : List ℕ). KnowsChains (layout_shape c.args.layout) c.read.new.self (chains_in (layout_shape c.args.layout) (slice_index xs))) (g.met.D.Device.reads c.redo_all.new.device) c.read.ensures
+
+pub undo_all-requires-clause-can : goal.undo_all-requires-clause-can
+undo_all-requires-clause-can g c =
+    let r = c.requires.can in
     let few = c.args.layout.partitions_within in
     let settled = c.in-Made.ensures.made refl r.0 r.0 r.2.settled in
     let there = c.in-Made-redo_all.ensures.made refl (layout_shape c.args.layout) r.0 r.0 settled
@@ -105,7 +125,7 @@ returns-clause-spare_left g c = λ first total h sound enough.
 
 pub returns-clause-header : goal.returns-clause-header
 returns-clause-header g c = λ a v is one.
-    let r = c.requires in
+    let r = c.requires.can in
     c.undo_all.ensures.header a v is
     (c.in-Made-redo_all.ensures.aside a v (stores_above c.args.layout r.0 r.1 c.args.redo.now c.args.running.now c.args.next.now c.args.gates.now (g.D.Device.cells c.args.device.now) r.2 a is.below)
     (c.in-Made.ensures.header a v is one))

@@ -10,12 +10,12 @@ use Rattle.recovery_passes.proofs.Counting.{counted_more, counted_then, keeps_th
 use Rattle.recovery_passes.proofs.Bounds.{planned_total, plan_begins, plan_fits, total_is, none_redone, none_running, none_wanted, no_gates}
 use Rattle.recovery_passes.proofs.making.make_events.Goals as goal
 
-pub bring_back-requires : goal.bring_back-requires
-bring_back-requires g c =
-    let first = c.requires.0 in
-    let most = c.requires.1 in
-    let h = c.requires.2 in
-    let enough = c.requires.3 in
+pub bring_back-requires-clause-can : goal.bring_back-requires-clause-can
+bring_back-requires-clause-can g c =
+    let first = c.requires.can.0 in
+    let most = c.requires.can.1 in
+    let h = c.requires.can.2 in
+    let enough = c.requires.can.3 in
     let fits = plan_fits c.args.layout first c.args.redo.now c.args.running.now c.args.checkpoint c.args.next c.args.gates most (g.D.Device.cells c.args.device.now) h in
     let begins = plan_begins c.args.layout first c.args.redo.now c.args.running.now c.args.checkpoint c.args.next c.args.gates most (g.D.Device.cells c.args.device.now) h in
     let total = planned_total c.args.layout first c.args.redo.now c.args.running.now c.args.checkpoint c.args.next c.args.gates most (g.D.Device.cells c.args.device.now) h in
@@ -47,10 +47,10 @@ returns-in-Stopped-clause-idle g c = λ first most h empty quiet short.
 
 pub clear-requires-clause-can : goal.clear-requires-clause-can
 clear-requires-clause-can g c =
-    let first = c.requires.0 in
-    let most = c.requires.1 in
-    let h = c.requires.2 in
-    let enough = c.requires.3 in
+    let first = c.requires.can.0 in
+    let most = c.requires.can.1 in
+    let h = c.requires.can.2 in
+    let enough = c.requires.can.3 in
     let fits = plan_fits c.args.layout first c.args.redo.now c.args.running.now c.args.checkpoint c.args.next c.args.gates most (g.D.Device.cells c.args.device.now) h in
     let begins = plan_begins c.args.layout first c.args.redo.now c.args.running.now c.args.checkpoint c.args.next c.args.gates most (g.D.Device.cells c.args.device.now) h in
     let total = planned_total c.args.layout first c.args.redo.now c.args.running.now c.args.checkpoint c.args.next c.args.gates most (g.D.Device.cells c.args.device.now) h in
@@ -61,10 +61,10 @@ clear-requires-clause-can g c =
 
 pub clear-requires-clause-spare : goal.clear-requires-clause-spare
 clear-requires-clause-spare g c =
-    let first = c.requires.0 in
-    let most = c.requires.1 in
-    let h = c.requires.2 in
-    let enough = c.requires.3 in
+    let first = c.requires.can.0 in
+    let most = c.requires.can.1 in
+    let h = c.requires.can.2 in
+    let enough = c.requires.can.3 in
     let fits = plan_fits c.args.layout first c.args.redo.now c.args.running.now c.args.checkpoint c.args.next c.args.gates most (g.D.Device.cells c.args.device.now) h in
     let begins = plan_begins c.args.layout first c.args.redo.now c.args.running.now c.args.checkpoint c.args.next c.args.gates most (g.D.Device.cells c.args.device.now) h in
     let total = planned_total c.args.layout first c.args.redo.now c.args.running.now c.args.checkpoint c.args.next c.args.gates most (g.D.Device.cells c.args.device.now) h in
@@ -75,17 +75,17 @@ clear-requires-clause-spare g c =
 
 pub clear-requires-clause-few : goal.clear-requires-clause-few
 clear-requires-clause-few g c =
-    let first = c.requires.0 in
-    let most = c.requires.1 in
-    let h = c.requires.2 in
-    let enough = c.requires.3 in
+    let first = c.requires.can.0 in
+    let most = c.requires.can.1 in
+    let h = c.requires.can.2 in
+    let enough = c.requires.can.3 in
     let fits = plan_fits c.args.layout first c.args.redo.now c.args.running.now c.args.checkpoint c.args.next c.args.gates most (g.D.Device.cells c.args.device.now) h in
     let begins = plan_begins c.args.layout first c.args.redo.now c.args.running.now c.args.checkpoint c.args.next c.args.gates most (g.D.Device.cells c.args.device.now) h in
     let total = planned_total c.args.layout first c.args.redo.now c.args.running.now c.args.checkpoint c.args.next c.args.gates most (g.D.Device.cells c.args.device.now) h in
     let undoes = c.in-Made.ensures.made refl first total begins h.sound (omega (arith, fits, enough)) in
     let len = total_is c.args.layout first total c.bring_back.new.next c.bring_back.new.gates (g.D.Device.cells c.bring_back.new.device) undoes in
     let left = c.in-Made.ensures.spare_left first total begins h.sound (omega (arith, fits, enough)) in
-    let small = c.requires.4 in
+    let small = c.requires.can.4 in
     omega (arith, fits, small, len)
 
 pub returns-clause-made : goal.returns-clause-made

@@ -9,17 +9,17 @@ use Rattle.recovery_passes.proofs.Counting.{counted_none, counted_more, keeps_th
 use Rattle.recovery_passes.proofs.Undone.{here, gone_can, gone_stopped, gone_spare, gone_next, item_first, drop_none}
 use Rattle.recovery_passes.proofs.undoing.undo_all.Goals as goal
 
-pub undo-requires : goal.undo-requires
-undo-requires g c =
-    let first = c.requires.0 in
-    let total = c.requires.1 in
+pub undo-requires-clause-can : goal.undo-requires-clause-can
+undo-requires-clause-can g c =
+    let first = c.requires.can.0 in
+    let total = c.requires.can.1 in
     let i = c.loop-transaction.transaction-index in
     let t = c.transaction-item.result in
     let is = item_first c.args.running.now i t c.loop-transaction-test.true c.transaction-item.is in
-    let gone = c.loop-transaction.invariant.each first total c.requires.2 c.requires.3 c.requires.4 in
+    let gone = c.loop-transaction.invariant.each first total c.requires.can.2 c.requires.can.3 c.requires.can.4 in
     let can = gone_can c.args.layout first total c.args.running.now (drop i c.args.running.now) t (drop (i + 1) c.args.running.now) c.loop-transaction.next c.loop-transaction.gates
     (g.D.Device.cells c.loop-transaction.device) (g.D.Device.counts c.args.device.now) (g.D.Device.counts c.loop-transaction.device) (g.D.Device.spare c.args.device.now)
-    (g.D.Device.spare c.loop-transaction.device) c.as_slice.result.now c.as_slice.ensures gone is c.requires.3 c.requires.4 in
+    (g.D.Device.spare c.loop-transaction.device) c.as_slice.result.now c.as_slice.ensures gone is c.requires.can.3 c.requires.can.4 in
     (first, _, can)
 
 pub returns-in-Stopped-clause-stopped : goal.returns-in-Stopped-clause-stopped
@@ -84,6 +84,7 @@ loop-transaction-preserved g c =
           c.loop-transaction.invariant.header c.in-Made.ensures.header;
       idle = λ none. (let n = ap length none in absurd (omega (arith, lt, n)));
       idle_gates = λ none. (let n = ap length none in absurd (omega (arith, lt, n)));
+      knows = c.in-Made.ensures.table refl;
     }
 
 pub returns-clause-counted : goal.returns-clause-counted

@@ -3,6 +3,7 @@ use Rattle.lane_traits.specs.declared.device.Done.TheVariants.{Made}
 use Rattle.persist_model.specs.State.{State, IsSoundState}
 use Rattle.region_layout.specs.Layout.{layout_shape}
 use Rattle.recovery_run.specs.Edges.{HasCounted, KeepsWords, IsHeaderWord}
+use Rattle.recovery_undo.specs.Appending.{KnowsRegion}
 use Rattle.recovery_passes.specs.Passing.{Undoes, undo_all_events}
 use Rattle.recovery_passes.specs.Going.{HasGoneOn}
 use Rattle.recovery_passes.specs.Stages.{IsIdle}
@@ -17,4 +18,5 @@ invariant-loop-transaction g l = record {
   header : KeepsWords (IsHeaderWord (layout_shape l.layout)) (g.D.Device.cells l.initial.device) (g.D.Device.cells l.device);
   idle : l.running ≡ [] → IsIdle Made (g.D.Device.cells l.initial.device) (g.D.Device.cells l.device) (g.D.Device.counts l.initial.device) (g.D.Device.counts l.device);
   idle_gates : l.running ≡ [] → l.gates ≡ l.initial.gates;
+  knows : KnowsRegion l.layout l.table (g.D.Device.cells l.device);
 }
