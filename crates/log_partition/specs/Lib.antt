@@ -1,2 +1,4 @@
 pub mod Views
 pub mod Merging
+pub mod Marks
+pub mod Used
