@@ -1,3 +1,4 @@
 pub mod Views
 pub mod Merged
 pub mod Marking
+pub mod Known
