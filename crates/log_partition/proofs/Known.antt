@@ -1,13 +1,13 @@
 -- What the table knows of the chains of all partitions.
-use Rattle.std.proofs.Common.{◌≡◌, ◌≢◌, ◌↔◌, ◌⊎◌, inl, inr, ℕ, ◌+◌, ◌<◌, ◌≤◌, ◌==◌, cond, Bool, true, false, List, [], ◌∷◌, ◌++◌, length, get_or, Option, Some, None, slice_set, refl, ap, sym, ◌∙◌, arith, subst}
+use Rattle.std.proofs.Common.{◌≡◌, ◌≢◌, ◌↔◌, inl, inr, ℕ, ◌+◌, ◌<◌, ◌≤◌, Bool, true, false, List, [], ◌∷◌, ◌++◌, length, get_or, Some, None, slice_set, ap, sym, ◌∙◌, arith, subst}
 use Rattle.std.specs.Prelude.{slice_index}
 use Rattle.std.proofs.lemmas.Bool.{cases_lt}
 use Rattle.std.proofs.lemmas.Bool.Decides.{eqb_tells}
 use Rattle.std.proofs.lemmas.List.{length-set, get_or-set_same, get_or-set_other}
 use Rattle.persist_model.specs.Region.{Words}
 use Rattle.persist_model.specs.Records.{IsAmong}
-use Rattle.persist_model.specs.Shape.{Shape, bucket, first_bucket, count_buckets, IsBucketOf}
-use Rattle.persist_model.specs.Chain.{view, AreBuckets, ListRules}
+use Rattle.persist_model.specs.Shape.{Shape, bucket, first_bucket, IsBucketOf}
+use Rattle.persist_model.specs.Chain.{view, AreBuckets}
 use Rattle.log_laws.proofs.SameLists.{chain_buckets}
 use Rattle.atomic_list.specs.Walk.{chain_of}
 use Rattle.atomic_list.proofs.RulesToCases.{list_of_rules}
@@ -23,7 +23,7 @@ use Rattle.bucket_log.proofs.Scans.{among_left, among_right, among_append}
 use Rattle.log_partition.specs.declared.used.UsedBuckets.{UsedBuckets}
 use Rattle.log_partition.specs.Marks.{HasMark, AddsMarks, IsFirstFree}
 use Rattle.log_partition.specs.Merging.{AreLogsOf}
-use Rattle.log_partition.specs.Used.{IsMarked, from_of, FitsBuckets, KnowsChains, chains_in, with_bucket}
+use Rattle.log_partition.specs.Used.{IsMarked, from_of, KnowsChains, chains_in, with_bucket}
 use Rattle.log_partition.specs.Views.{viewed}
 use Rattle.log_partition.proofs.Marking.{number_inside, number_below, one_partition, mark_same, mark_other}
 use Rattle.log_partition.proofs.Views.{viewed-is}

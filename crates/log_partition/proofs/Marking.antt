@@ -1,10 +1,10 @@
 -- Marks of the buckets of chains.
-use Rattle.std.proofs.Common.{◌≡◌, ◌≢◌, ◌↔◌, ◌⊎◌, inl, inr, ℕ, ◌+◌, ◌<◌, ◌≤◌, ◌==◌, ◌||◌, IsTrue, Bool, true, false, List, [], ◌∷◌, ◌++◌, length, get_or, slice_set, refl, ap, sym, ◌∙◌, arith, subst}
+use Rattle.std.proofs.Common.{◌≡◌, ◌≢◌, ◌↔◌, ◌⊎◌, inl, inr, ℕ, ◌<◌, ◌≤◌, ◌==◌, ◌||◌, IsTrue, Bool, true, false, List, [], ◌∷◌, ◌++◌, length, get_or, slice_set, refl, ap, sym, ◌∙◌, arith, subst}
 use Rattle.std.proofs.lemmas.Bool.Decides.{nat_tests, eqb_tells}
 use Rattle.std.proofs.lemmas.List.{length-set, get_or-set_same, get_or-set_other}
 use Rattle.persist_model.specs.Region.{Words}
 use Rattle.persist_model.specs.Records.{IsAmong}
-use Rattle.persist_model.specs.Shape.{Shape, bucket, first_bucket, count_buckets, IsBucketOf}
+use Rattle.persist_model.specs.Shape.{Shape, bucket, IsBucketOf}
 use Rattle.atomic_list.specs.Reads.{IsInChain}
 use Rattle.atomic_list.specs.Walk.{chain_of}
 use Rattle.atomic_list.proofs.Parts.{parts_fit}
@@ -19,7 +19,7 @@ use Rattle.bucket_log.proofs.Appending.{Each-among}
 use Rattle.bucket_log.proofs.Counting.{bucket_one}
 use Rattle.bucket_log.proofs.Walking.{next_among, good_chain}
 use Rattle.bucket_log.proofs.Scans.{among_left, among_right, among_append}
-use Rattle.log_partition.specs.Marks.{HasMark, HasPlace, AddsMarks, IsFirstFree}
+use Rattle.log_partition.specs.Marks.{HasMark, HasPlace, AddsMarks}
 
 -- ---- numbers of buckets
 
@@ -94,7 +94,6 @@ marks_go_on shape front before now later next j lt is change so_far = subst (Add
   ];
 })
   where
-
     inside : j < length now
     inside = let long = so_far.long in omega (arith, lt, long)
 
@@ -112,9 +111,12 @@ marks_go_on shape front before now later next j lt is change so_far = subst (Add
       ]),
       (λ s. mark_other now i j ne ∙ (so_far.each i).1 (elim s [
         | inl k ↦ inl k
-        | inr k ↦ inr (k.0, elim (among_append front (next ∷ []) (bucket shape i) k.1) [
-          | inl m ↦ m
-          | inr m ↦ elim m [ inl e ↦ absurd (ne (bucket_one shape i j (e ∙ is))) | inr z ↦ absurd z ]
-        ])
+        | inr k ↦ inr (
+          k.0,
+          elim (among_append front (next ∷ []) (bucket shape i) k.1) [
+            | inl m ↦ m
+            | inr m ↦ elim m [ inl e ↦ absurd (ne (bucket_one shape i j (e ∙ is))) | inr z ↦ absurd z ]
+          ],
+        )
       ])),
     )

@@ -19,7 +19,7 @@ pub loop-preserved : goal.loop-preserved
 loop-preserved g c =
     let good = good_chain c.args.layout (length (g.W.Look.words c.args.words.now)) (slice_index (g.W.Look.words c.args.words.now)) c.requires.log in
     let place = chain_place c.args.layout (length (g.W.Look.words c.args.words.now)) (slice_index (g.W.Look.words c.args.words.now)) c.requires.log c.after-next.result
-        c.args.marks.now.items c.args.marks.now.items c.requires.marks refl c.after-next.ensures.in_chain c.if-next-eq0.false in
+    c.args.marks.now.items c.args.marks.now.items c.requires.marks refl c.after-next.ensures.in_chain c.if-next-eq0.false in
     walk_goes_to (layout_shape c.args.layout) c.requires.log.has_list.part (λ front. AddsMarks (layout_shape c.args.layout) front c.args.marks.now.items c.loop.marks.items)
     (λ front. AddsMarks (layout_shape c.args.layout) front c.args.marks.now.items c.mark.new.marks.items)
     (chain_of (layout_shape c.args.layout) (slice_index (g.W.Look.words c.args.words.now))) c.loop.last c.loop.counter c.after-next.result good c.loop.invariant
