@@ -1,11 +1,12 @@
 -- Which buckets are in the chain of their partition, as a table.
-use Rattle.std.specs.Prelude.{◌≡◌, ◌↔◌, ℕ, ◌<◌, ◌≤◌, ◌==◌, if◌then◌else◌, true, false, List, [], ◌∷◌, ◌++◌, length, slice_index, slice_index_or}
+use Rattle.std.specs.Prelude.{◌≡◌, ◌↔◌, ℕ, ◌<◌, ◌≤◌, ◌==◌, if◌then◌else◌, List, [], ◌∷◌, ◌++◌, length, slice_index}
 use Rattle.persist_model.specs.Region.{Words}
 use Rattle.persist_model.specs.Records.{IsAmong}
 use Rattle.persist_model.specs.Shape.{Shape, bucket, first_bucket}
 use Rattle.persist_model.specs.Chain.{view}
 use Rattle.atomic_list.specs.Walk.{chain_of}
 use Rattle.region_layout.specs.Apart.{IsInPartition}
+use Rattle.log_partition.specs.Marks.{HasMark}
 use Rattle.log_partition.specs.declared.used.UsedBuckets.{UsedBuckets}
 
 -- the chain of each partition, as it is read in these words
@@ -14,7 +15,7 @@ chains_in shape w p = chain_of shape (view p w)
 
 -- bucket j is marked
 abbrev pub IsMarked : UsedBuckets → ℕ → Type 0
-IsMarked table j = slice_index_or table.used.items j false ≡ true
+IsMarked table j = HasMark table.used.items j
 
 -- the number from which the buckets of partition p are looked at
 abbrev pub from_of : UsedBuckets → ℕ → ℕ

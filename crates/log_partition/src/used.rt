@@ -81,7 +81,7 @@ fn first_free(marks: &Vec<bool>, from: u32, to: u32) -> u32
 }
 
 impl UsedBuckets {
-    /// Memory for the buckets of a region. It says nothing of a chain before it is read.
+    /// Memory for a mark of each bucket of a region; the only error is want of memory. The table says nothing of a chain before it is read.
     pub fn with_memory(alloc: Global, layout: Layout) -> Result<UsedBuckets, NoMemory>
         ensures { IfOk result (λ table. FitsBuckets (layout_shape layout) table) }
     {
@@ -90,7 +90,7 @@ impl UsedBuckets {
         Ok(UsedBuckets { used, from })
     }
 
-    /// Reads the chains of all partitions. It takes no memory.
+    /// Reads the chains of all partitions, whatever the table said before. It takes no memory.
     pub fn read<W: Look>(&mut self, words: &W, layout: Layout)
         requires logs { AreLogsOf layout (length (W.words words.now)) (slice_index (W.words words.now)) }
         requires fits { FitsBuckets (layout_shape layout) self.old }
@@ -104,8 +104,8 @@ impl UsedBuckets {
         }
     }
 
-    /// The least bucket of a partition that isn't in its chain. It goes on from where it stopped last, so that all calls together take
-    /// time by the buckets.
+    /// The address of the least bucket of a partition that isn't in its chain, or none where all are. It goes on from where it stopped
+    /// last, so that all calls together take time by the buckets.
     pub fn least(&mut self, layout: Layout, p: u32) -> Option<u32>
         requires part { p < layout.partitions }
         requires fits { FitsBuckets (layout_shape layout) self.old }
@@ -123,7 +123,7 @@ impl UsedBuckets {
         Some(layout.bucket(number))
     }
 
-    /// Takes a bucket that is put behind the chain of its partition.
+    /// Takes a bucket, by its address, that is put behind the chain of its partition.
     pub fn add(&mut self, layout: Layout, p: u32, bucket: u32)
         requires part { p < layout.partitions }
         requires bucket { IsBucketOf (layout_shape layout) p bucket }
