@@ -1,7 +1,6 @@
 -- What the table knows of the chains of all partitions.
-use Rattle.std.proofs.Common.{◌≡◌, ◌≢◌, ◌↔◌, inl, inr, ℕ, ◌+◌, ◌<◌, ◌≤◌, Bool, true, false, List, [], ◌∷◌, ◌++◌, length, get_or, Some, None, slice_set, ap, sym, ◌∙◌, arith, subst}
+use Rattle.std.proofs.Common.{◌≡◌, ◌≢◌, ◌↔◌, inl, inr, ℕ, ◌+◌, ◌<◌, Bool, true, false, List, [], ◌∷◌, ◌++◌, length, get_or, slice_set, ap, sym, ◌∙◌, arith, subst}
 use Rattle.std.specs.Prelude.{slice_index}
-use Rattle.std.proofs.lemmas.Bool.{cases_lt}
 use Rattle.std.proofs.lemmas.Bool.Decides.{eqb_tells}
 use Rattle.std.proofs.lemmas.List.{length-set, get_or-set_same, get_or-set_other}
 use Rattle.persist_model.specs.Region.{Words}
@@ -13,15 +12,13 @@ use Rattle.atomic_list.specs.Walk.{chain_of}
 use Rattle.atomic_list.proofs.RulesToCases.{list_of_rules}
 use Rattle.atomic_list.proofs.Walks.{chain_of_list}
 use Rattle.region_layout.specs.declared.layout.Layout.{Layout}
-use Rattle.region_layout.specs.declared.layout.Buckets.{Buckets}
-use Rattle.region_layout.specs.Layout.{layout_shape, IsPart}
+use Rattle.region_layout.specs.Layout.{layout_shape}
 use Rattle.region_layout.specs.Apart.{IsInPartition}
-use Rattle.bucket_log.specs.Reads.{IsInPart, IsLeastOutside}
 use Rattle.bucket_log.proofs.Appending.{Each-among}
 use Rattle.bucket_log.proofs.Counting.{bucket_one}
 use Rattle.bucket_log.proofs.Scans.{among_left, among_right, among_append}
 use Rattle.log_partition.specs.declared.used.UsedBuckets.{UsedBuckets}
-use Rattle.log_partition.specs.Marks.{HasMark, AddsMarks, IsFirstFree}
+use Rattle.log_partition.specs.Marks.{HasMark, AddsMarks}
 use Rattle.log_partition.specs.Merging.{AreLogsOf}
 use Rattle.log_partition.specs.Used.{IsMarked, from_of, KnowsChains, chains_in, with_bucket}
 use Rattle.log_partition.specs.Views.{viewed}
@@ -167,74 +164,3 @@ knows_more layout p b table later chains lt own change same knows = record {
           (λ m. old.0 (sym (there j apart) ∙ m)),
           (λ m. there j apart ∙ old.1 m),
         )
-
--- ---- the least bucket outside
-
-module _ (layout : Layout) (p number : ℕ) (table : UsedBuckets) (part : Buckets) (lt : p < layout.partitions) (is : IsPart (layout_shape layout) p part)
-    (free : IsFirstFree table.used.items (from_of table p) (part.first + part.count) number) (chains : ℕ → List ℕ) (knows : KnowsChains (layout_shape layout) table chains) where
-  abbrev shape : Shape
-  shape = layout_shape layout
-
-  in_part : (j : ℕ) → IsInPart part j → IsInPartition shape p j
-  in_part j h = let first = is.0 in let count = is.1 in let low = h.0 in let high = h.1 in (omega (arith, low, first), omega (arith, high, first, count))
-
-  -- all before the number that is found are marked
-  all_before : (j : ℕ) → IsInPart part j → j < number → IsMarked table j
-  all_before j h below = elim (cases_lt j (from_of table p)) [
-    | inl before ↦ knows.passed p j lt (in_part j h) before
-    | inr from ↦ free.passed j from below
-  ]
-
-  from_first : first_bucket shape p ≤ number
-  from_first = elim (cases_lt number (part.first + part.count)) [
-    | inl below ↦ (let low = knows.begins p lt in let from = (free.free below).0 in omega (arith, low, from))
-    | inr over ↦ (let first = is.0 in omega (arith, over, first))
-  ]
-
-  -- the table goes on from there
-  pub goes_on_knowing : (later : UsedBuckets) → later.used.items ≡ table.used.items → later.from.items ≡ slice_set table.from.items p number → KnowsChains shape later chains
-  goes_on_knowing later same change = record {
-    fits = record {
-      marks = ap length same ∙ knows.fits.marks;
-      numbers = ap length change ∙ length-set table.from.items p number ∙ knows.fits.numbers;
-    };
-    marks = λ q j below inside. subst (λ ms. HasMark ms j ↔ IsAmong (chains q) (bucket shape j)) (sym same) (knows.marks q j below inside);
-    begins = λ q below. elim (eqb_tells q p) [
-      | inl e ↦ (let first = from_first in let n = moved q e.1 in let f = ap (first_bucket shape) e.1 in omega (arith, first, n, f))
-      | inr e ↦ (let low = knows.begins q below in let n = stays q e.1 in omega (arith, low, n))
-    ];
-    passed = λ q j below inside before. subst (λ ms. HasMark ms j) (sym same) (elim (eqb_tells q p) [
-      | inl e ↦ (let n = moved q e.1 in let own = subst (λ m. IsInPartition shape m j) e.1 inside in all_before j (to_part j own) (omega (arith, n, before)))
-      | inr e ↦ (let n = stays q e.1 in knows.passed q j below inside (omega (arith, n, before)))
-    ]);
-  }
-    where
-      moved : (q : ℕ) → q ≡ p → from_of later q ≡ number
-      moved q e = ap (λ ns. slice_index ns q) change ∙ ap (slice_index (slice_set table.from.items p number)) e
-          ∙ get_or-set_same table.from.items p number 0 (let size = knows.fits.numbers in omega (arith, size, lt))
-
-      stays : (q : ℕ) → q ≢ p → from_of later q ≡ from_of table q
-      stays q ne = ap (λ ns. slice_index ns q) change ∙ get_or-set_other table.from.items p q number 0 ne
-
-      to_part : (j : ℕ) → IsInPartition shape p j → IsInPart part j
-      to_part j h = let first = is.0 in let count = is.1 in let low = h.0 in let high = h.1 in (omega (arith, low, first), omega (arith, high, first, count))
-
-  pub none_outside : number ≡ part.first + part.count → IsLeastOutside shape part (chains p) None
-  none_outside e j h = (knows.marks p j lt (in_part j h)).0 (all_before j h (let high = h.1 in omega (arith, e, high)))
-
-  pub some_outside : number ≢ part.first + part.count → (b : ℕ) → b ≡ bucket shape number → IsLeastOutside shape part (chains p) (Some b)
-  some_outside off b at =
-      let within = free.within in
-      let below : number < part.first + part.count = omega (arith, within, off) in
-      let first : part.first ≤ number = (let from = from_first in let k = is.0 in omega (arith, from, k)) in
-      let own : IsInPart part number = (first, below) in (
-        number,
-        own,
-        at,
-        (λ m. not_marked (get_or table.used.items number false) (free.free below).1 ((knows.marks p number lt (in_part number own)).1 (subst (IsAmong (chains p)) at m))),
-        (λ i from before. (knows.marks p i lt (in_part i (from, omega (arith, before, below)))).0 (all_before i (from, omega (arith, before, below)) before)),
-      )
-    where
-      not_marked : (b : Bool) → b ≡ false → b ≡ true → ⊥
-      not_marked true off on = cc
-      not_marked false off on = cc
