@@ -4,6 +4,8 @@ pub mod Passing
 pub mod Places
 pub mod Planned
 pub mod Taking
+pub mod Chains
+pub mod ChainsBehind
 pub mod Going
 pub mod Stepping
 pub mod Beginning

@@ -22,11 +22,12 @@ use Rattle.region_layout.specs.Layout.{layout_shape, IsAllowed, IsPart}
 use Rattle.region_layout.proofs.Headers.{shapes_are_read}
 use Rattle.bucket_log.specs.declared.append.Place.{Place}
 use Rattle.bucket_log.specs.Places.{IsPlaceBy, IsNextPlace}
-use Rattle.bucket_log.specs.Reads.{IsLogOfPart}
+use Rattle.bucket_log.specs.Reads.{IsLogOfPart, IsLeastOutside}
 use Rattle.bucket_log.proofs.Addresses.{bucket_above, list_word_is_log_word}
 use Rattle.bucket_log.proofs.Appending.{Each-among}
 use Rattle.bucket_log.proofs.Appended.{inside_log, view_room, next_places_take}
 use Rattle.bucket_log.proofs.Partitions.{few_parts, bucket_word_below, log_word_out, part_word_below, registers_below}
+use Rattle.log_partition.specs.Used.{chains_in}
 use Rattle.log_partition.specs.Views.{viewed}
 use Rattle.log_partition.specs.Merging.{AreLogsOf}
 use Rattle.log_partition.proofs.Views.{viewed-is, length-viewed, view_shape, out_below}
@@ -63,12 +64,16 @@ module _ (layout : Layout) (first y : State) (region : Region) (h : HasReached (
       let out = part_word_below shape p (out_address p a) allowed lt (log_word_out shape p a (list_word_is_log_word shape p a m)) in
       view-out p w a ∙ sym (inside_log shape w (out_address p a) out) ∙ sym (view-out p logged a)
 
+  -- the list of a partition in the words that are read
+  pub list_here : (p : ℕ) → p < layout.partitions → IsList (layout_shape layout) p (view p (newest_at region)) (has.chains p)
+  list_here p lt = lists_agree shape p (view p logged) (view p w) (has.chains p) (λ a m. seen_same p a lt m) (list_in p lt)
+
   -- the words that are read are those of logs
   pub logs_of : AreLogsOf layout (length (newest_words region)) (newest_at region)
   logs_of = record {
     shape = subst (λ n. IsShape n w) (sym (length-map-range_with_len (λ a. newest (region.at a)) 0 region.size)) h.header.header;
     has_layout = h.header.shape_is;
-    lists = λ p lt. (has.chains p, rules_of_list shape p (view p w) (has.chains p) (lists_agree shape p (view p logged) (view p w) (has.chains p) (λ a m. seen_same p a lt m) (list_in p lt)));
+    lists = λ p lt. (has.chains p, rules_of_list shape p (view p w) (has.chains p) (list_here p lt));
   }
 
   -- a quiet partition's list is at rest
@@ -117,6 +122,11 @@ module _ (layout : Layout) (first y : State) (region : Region) (h : HasReached (
         (subst (λ n. IsLogOfPart layout part n (slice_index (viewed p (newest_words region)))) (sym (length-viewed p (newest_words region)))
         (subst (IsLogOfPart layout part (length (newest_words region))) (sym (viewed-is p (newest_words region))) seen_log))
 
+    -- what is outside the chain is outside that of the view
+    pub least_seen : (least : Option ℕ) → IsLeastOutside (layout_shape layout) part (chains_in (layout_shape layout) (newest_at region) p) least →
+        IsLeastOutside (layout_shape layout) part (chain_of (layout_shape layout) (slice_index row)) least
+    least_seen least outside = subst (λ (z : Words). IsLeastOutside shape part (chain_of shape z) least) (sym (ap slice_index is ∙ viewed-is p (newest_words region))) outside
+
     here_is : chain_of shape (view p logged) ≡ has.chains p
     here_is = (chain_of_list shape p (view p logged) (has.chains p) lt (list_in p lt)).0
 
@@ -143,5 +153,8 @@ module _ (layout : Layout) (first y : State) (region : Region) (h : HasReached (
     bucket_by true is = is.bucket
     bucket_by false is = Each-among (IsBucketOf shape p) (has.chains p) place.bucket (chain_buckets p lt) is.bucket
 
+    pub place_in_part : IsBucketOf (layout_shape layout) p place.bucket
+    place_in_part = bucket_by place.fresh next.is_place
+
     pub place_below : place.bucket < words_of_shape shape
-    place_below = let below = bucket_word_below shape p place.bucket allowed lt (place.bucket, bucket_by place.fresh next.is_place, omega arith, omega arith) in omega (arith, below)
+    place_below = let below = bucket_word_below shape p place.bucket allowed lt (place.bucket, place_in_part, omega arith, omega arith) in omega (arith, below)

@@ -77,7 +77,7 @@ module _ (layout : Layout) (p : ℕ) (cell : Cell) (first y : State) (region : R
   few : p < 3
   few = few_parts shape p ok can.inside
 
-  appends : CanAppend shape p (view p (log_words shape w)) (takes can.quiet).chain place r
+  pub appends : CanAppend (layout_shape layout) p (view p (log_words (layout_shape layout) (newest_at region))) (takes can.quiet).chain place (record_of (place_address place) cell)
   appends = (takes can.quiet).takes r refl can.gate
 
   pub is_append : IsAppend (layout_shape layout) (newest_at region) y (record_of (place_address place) cell) (less_room p y.room)

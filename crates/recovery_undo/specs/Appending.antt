@@ -1,8 +1,8 @@
 -- A record that recovery appends to a partition.
-use Rattle.std.specs.Prelude.{◌≡◌, ◌≢◌, ℕ, ◌<◌, ◌≤◌, List}
+use Rattle.std.specs.Prelude.{◌≡◌, ◌≢◌, ℕ, ◌<◌, ◌≤◌, List, if◌then◌else◌}
 use Rattle.persist_model.specs.Region.{Words, Region}
 use Rattle.persist_model.specs.Records.{Record, IsAmong}
-use Rattle.persist_model.specs.Shape.{Shape, log_words, part_of}
+use Rattle.persist_model.specs.Shape.{Shape, heap, log_words, part_of}
 use Rattle.persist_model.specs.Chain.{view}
 use Rattle.persist_model.specs.State.{State}
 use Rattle.log_laws.specs.Appending.{MayCome}
@@ -17,6 +17,8 @@ use Rattle.bucket_log.specs.declared.append.Place.{Place}
 use Rattle.bucket_log.specs.Appends.{CanAppend}
 use Rattle.bucket_log.specs.Plans.{place_address}
 use Rattle.bucket_log.specs.States.{less_room}
+use Rattle.log_partition.specs.declared.used.UsedBuckets.{UsedBuckets}
+use Rattle.log_partition.specs.Used.{KnowsChains, chains_in, with_bucket}
 use Rattle.recovery_run.specs.Reached.{newest_at, HasReached, IsQuiet}
 use Rattle.recovery_undo.specs.declared.appending.Appended.{Appended}
 use Rattle.recovery_undo.specs.declared.appending.Appended.TheVariants.{At, Stopped as Halted}
@@ -59,3 +61,15 @@ StepsTo layout p cell y = (at : ℕ) → part_of (layout_shape layout) at ≡ p 
 pub record IsPlaceFor (shape : Shape) (p : ℕ) (w : Words) (place : Place) : Type 0 where
   pub chain : List ℕ
   pub takes : (r : Record) → r.at ≡ place_address place → r.lsn ≢ 0 → CanAppend shape p (view p (log_words shape w)) chain place r
+
+-- the table has the chains that stand in the region's newest words
+abbrev pub KnowsRegion : Layout → UsedBuckets → Region → Type 0
+KnowsRegion layout table region = KnowsChains (layout_shape layout) table (chains_in (layout_shape layout) (newest_at region))
+
+-- the chains behind an append to partition p
+abbrev pub chains_behind : ℕ → Place → (ℕ → List ℕ) → ℕ → List ℕ
+chains_behind p place chains = if place.fresh then with_bucket p place.bucket chains else chains
+
+-- all words below the heap are read as before
+abbrev pub KeepsLogWords : Shape → Region → Region → Type 0
+KeepsLogWords shape before later = (a : ℕ) → a < heap shape → newest_at later a ≡ newest_at before a

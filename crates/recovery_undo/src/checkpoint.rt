@@ -4,24 +4,29 @@ ghost use Rattle.persist_model.specs.State.{State};
 ghost use Rattle.log_laws.specs.Parts.{EachKeeps};
 ghost use Rattle.region_layout.specs.Layout.{layout_shape};
 ghost use Rattle.recovery_run.specs.Edges.{HasCounted, KeepsWords, IsHeaderWord};
+ghost use Rattle.recovery_undo.specs.Appending.{KnowsRegion};
 ghost use Rattle.recovery_undo.specs.Checkpoint.{CanCheckpoint, IsCheckpointed};
 
 use crate::appending::{Appended, append_record};
 use crate::target::plain_cell;
 use lane_traits::{Device, Done};
+use log_partition::UsedBuckets;
 use recovery_run::{Gates, put};
 use region_layout::Layout;
 
 /// Appends a checkpoint record to the first partition, once nothing runs and each word has its standing value: from then on
-/// nothing is to be redone. `next` is raised, and the gate is put into `gates`, in memory that is there.
+/// nothing is to be redone. `next` is raised, and the gate is put into `gates`, in memory that is there. The table has the
+/// chains of all partitions, before and behind it. After a stop nothing is said of the table.
 pub fn append_checkpoint<D: Device>(
     device: &mut D,
     layout: Layout,
     next: &mut u64,
     gates: &mut Gates,
+    table: &mut UsedBuckets,
 ) -> Done
     requires can { (first y : State) × CanCheckpoint layout next.old gates.old first y (D.cells device.old) }
     requires spare { layout.cells + 21 ≤ D.spare device.old }
+    requires table { KnowsRegion layout table.old (D.cells device.old) }
     ensures made { result ≡ Done.Made → (first y : State) → CanCheckpoint layout next.old gates.old first y (D.cells device.old)
         → IsCheckpointed layout gates.old first y next.new gates.new (D.cells device.new) }
     ensures stopped { result ≡ Done.Stopped → (first y : State) → CanCheckpoint layout next.old gates.old first y (D.cells device.old)
@@ -29,9 +34,10 @@ pub fn append_checkpoint<D: Device>(
     ensures counted { HasCounted (layout.cells + 21) result (D.counts device.old) (D.counts device.new) }
     ensures spare { D.spare device.old ≤ D.spare device.new + (layout.cells + 21) }
     ensures header { KeepsWords (IsHeaderWord (layout_shape layout)) (D.cells device.old) (D.cells device.new) }
+    ensures table { result ≡ Done.Made → KnowsRegion layout table.new (D.cells device.new) }
 {
     let cell = plain_cell(0, *next, 5, 0);
-    match append_record(device, layout, 0, &cell) {
+    match append_record(device, layout, 0, &cell, table) {
         Appended::Stopped => Done::Stopped,
         Appended::At(at) => {
             put(&mut gates.checkpoints, at);

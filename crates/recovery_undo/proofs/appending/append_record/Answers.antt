@@ -1,9 +1,12 @@
 use Rattle.std.proofs.Common.{refl}
 use Rattle.bucket_log.specs.Plans.{place_address}
 use Rattle.bucket_log.specs.States.{less_room}
+use Rattle.recovery_undo.proofs.ChainsBehind.{knows_appended}
 use Rattle.recovery_undo.proofs.Taking.{is_append, cell_taken, in_part, off_header, within, keeps_header, stays_quiet}
 use Rattle.region_layout.specs.Cell.{record_of}
 use Rattle.region_layout.specs.Layout.{layout_shape}
+use Rattle.log_partition.specs.Used.{chains_in}
+use Rattle.recovery_run.specs.Reached.{newest_at}
 use Rattle.recovery_undo.proofs.appending.append_record.Goals as goal
 
 pub append-requires-clause-within : goal.append-requires-clause-within
@@ -49,6 +52,14 @@ returns-in-Made-clause-header g c =
     let at = c.requires.can in
     keeps_header c.args.layout c.args.p c.args.cell.now at.0 at.1 (g.D.Device.cells c.args.device.now) at.2 c.next_place-next.result c.next_place-next.ensures.takes
     (g.D.Device.cells c.append.new.device) c.append.ensures.aside
+
+pub returns-in-Made-clause-table : goal.returns-in-Made-clause-table
+returns-in-Made-clause-table g c =
+    let at = c.requires.can in
+    let region = g.D.Device.cells c.args.device.now in
+    knows_appended c.args.layout c.args.p c.args.cell.now at.0 at.1 region at.2 c.next_place-next.result c.next_place-next.ensures.takes
+    c.add_bucket.new.table (g.D.Device.cells c.append.new.device) (c.in-Made.ensures.cells refl)
+    (c.add_bucket.ensures (chains_in (layout_shape c.args.layout) (newest_at region)) c.next_place-next.ensures.table)
 
 pub returns-in-Stopped-clause-stopped : goal.returns-in-Stopped-clause-stopped
 returns-in-Stopped-clause-stopped g c = λ same first y sound can may.

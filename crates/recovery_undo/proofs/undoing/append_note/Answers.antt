@@ -4,22 +4,22 @@ use Rattle.recovery_undo.proofs.undoing.append_note.Goals as goal
 
 pub append_record-requires-clause-can : goal.append_record-requires-clause-can
 append_record-requires-clause-can g c =
-    let at = c.requires in
+    let at = c.requires.can in
     (at.0.first, at.1, note_take c.args.target at.0 at.1 at.2 c.args.next.now c.args.gates.now _ at.3 c.args.cell.now at.4)
 
 pub append_record-requires-clause-spare : goal.append_record-requires-clause-spare
 append_record-requires-clause-spare g c =
-    let at = c.requires in
+    let at = c.requires.can in
     note_spare c.args.target at.0 at.1 at.2 c.args.next.now c.args.gates.now _ at.3 c.args.cell.now at.4
 
 pub put-requires : goal.put-requires
 put-requires g c =
-    let at = c.requires in
+    let at = c.requires.can in
     note_fits c.args.target at.0 at.1 at.2 c.args.next.now c.args.gates.now _ at.3 c.args.cell.now at.4
 
 pub overflow_add-next : goal.overflow_add-next
 overflow_add-next g c =
-    let at = c.requires in
+    let at = c.requires.can in
     let lt = note_next c.args.target at.0 at.1 at.2 c.args.next.now c.args.gates.now _ at.3 c.args.cell.now at.4 in
     omega (arith, lt)
 

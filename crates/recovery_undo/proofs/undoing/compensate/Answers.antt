@@ -3,8 +3,8 @@ use Rattle.bucket_log.specs.Scans.{record_of_placed}
 use Rattle.recovery_undo.proofs.Stepping.{can_compensate, compensate_goes}
 use Rattle.recovery_undo.proofs.undoing.compensate.Goals as goal
 
-pub append_note-requires : goal.append_note-requires
-append_note-requires g c =
+pub append_note-requires-clause-can : goal.append_note-requires-clause-can
+append_note-requires-clause-can g c =
     let at = c.requires.passes in (
       at.0,
       at.2.state,

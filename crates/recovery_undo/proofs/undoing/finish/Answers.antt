@@ -1,6 +1,7 @@
-use Rattle.std.proofs.Common.{refl, arith}
+use Rattle.std.proofs.Common.{refl, sym, ◌∙◌, arith}
 use Rattle.region_layout.specs.Layout.{layout_shape}
 use Rattle.recovery_undo.specs.Passing.{seen}
+use Rattle.recovery_undo.proofs.Chains.{log_words_kept, knows_kept}
 use Rattle.recovery_undo.proofs.Ending.{fence_halts, fenced_quiet, end_take, end_steps, end_spare, end_fits, end_next, end_halts, finishes}
 use Rattle.recovery_undo.proofs.undoing.finish.Goals as goal
 
@@ -13,7 +14,7 @@ returns-in-Stopped-clause-stopped g c = λ same start counter h.
 
 pub append_record-requires-clause-can : goal.append_record-requires-clause-can
 append_record-requires-clause-can g c =
-    let at = c.requires in (
+    let at = c.requires.passes in (
       at.0.first,
       at.2.state,
       end_take c.args.target at.0 at.1 c.args.next.now c.args.gates.now _ at.2 (seen (g.D.Device.cells c.fence.new.device) (g.D.Device.counts c.fence.new.device) (g.D.Device.spare c.fence.new.device))
@@ -23,21 +24,31 @@ append_record-requires-clause-can g c =
 
 pub append_record-requires-clause-spare : goal.append_record-requires-clause-spare
 append_record-requires-clause-spare g c =
-    let at = c.requires in
+    let at = c.requires.passes in
     end_spare c.args.target at.0 at.1 c.args.next.now c.args.gates.now _ at.2 (seen (g.D.Device.cells c.fence.new.device) (g.D.Device.counts c.fence.new.device) (g.D.Device.spare c.fence.new.device))
     (c.in-Made.ensures.made refl (layout_shape c.args.target.layout) at.0.first at.2.state at.2.gone.reached) c.in-Made.ensures.counted c.in-Made.ensures.spare_left c.in-Made.ensures.aside
     (g.met.D.Device.full c.fence.new.device) c.plain_cell-cell.result c.plain_cell-cell.ensures
 
+pub append_record-requires-clause-table : goal.append_record-requires-clause-table
+append_record-requires-clause-table g c =
+    let at = c.requires.passes in
+    let before = g.D.Device.cells c.args.device.now in
+    let later = g.D.Device.cells c.fence.new.device in
+    let settled = c.in-Made.ensures.made refl (layout_shape c.args.target.layout) at.0.first at.2.state at.2.gone.reached in
+    knows_kept c.args.target.layout at.0.first at.2.state before at.2.gone.reached c.args.table.now later
+    (log_words_kept c.args.target.layout at.0.first at.2.state before at.2.gone.reached (λ b. Unit {0}) later (λ a lt. tt) c.in-Made.ensures.aside
+    (settled.come.size ∙ sym at.2.gone.reached.come.size) (g.met.D.Device.full c.fence.new.device)) c.requires.table
+
 pub put-requires : goal.put-requires
 put-requires g c =
-    let at = c.requires in
+    let at = c.requires.passes in
     end_fits c.args.target at.0 at.1 c.args.next.now c.args.gates.now _ at.2 (seen (g.D.Device.cells c.fence.new.device) (g.D.Device.counts c.fence.new.device) (g.D.Device.spare c.fence.new.device))
     (c.in-Made.ensures.made refl (layout_shape c.args.target.layout) at.0.first at.2.state at.2.gone.reached) c.in-Made.ensures.counted c.in-Made.ensures.spare_left c.in-Made.ensures.aside
     (g.met.D.Device.full c.fence.new.device) c.plain_cell-cell.result c.plain_cell-cell.ensures
 
 pub overflow_add-next : goal.overflow_add-next
 overflow_add-next g c =
-    let at = c.requires in
+    let at = c.requires.passes in
     let lt = end_next c.args.target at.0 at.1 c.args.next.now c.args.gates.now _ at.2 (seen (g.D.Device.cells c.fence.new.device) (g.D.Device.counts c.fence.new.device) (g.D.Device.spare c.fence.new.device))
     (c.in-Made.ensures.made refl (layout_shape c.args.target.layout) at.0.first at.2.state at.2.gone.reached) c.in-Made.ensures.counted c.in-Made.ensures.spare_left c.in-Made.ensures.aside
     (g.met.D.Device.full c.fence.new.device) c.plain_cell-cell.result c.plain_cell-cell.ensures in

@@ -4,6 +4,7 @@ use Rattle.lane_traits.specs.declared.device.Done.TheVariants.{Made, Stopped}
 use Rattle.region_layout.specs.Layout.{layout_shape}
 use Rattle.bucket_log.specs.Scans.{record_of_placed}
 use Rattle.recovery_undo.specs.Passing.{seen}
+use Rattle.recovery_undo.proofs.Chains.{log_words_kept}
 use Rattle.recovery_undo.proofs.Going.{counted_as, quiet_kept, at_most_three}
 use Rattle.recovery_undo.proofs.Stepping.{heap_word, word_inside, covered, spare_one, old_goes, old_halts}
 use Rattle.recovery_undo.proofs.undoing.store_old.Goals as goal
@@ -49,3 +50,15 @@ returns-clause-stopped g c = λ stopped start left counter next gates h.
     old_halts c.args.target start u left next gates _ counter h c.requires.update (seen (g.D.Device.cells c.store.new.device) (g.D.Device.counts c.store.new.device) (g.D.Device.spare c.store.new.device))
     (c.store.ensures.stopped stopped shape start.first h.state h.gone.sound h.gone.reached)
     (record { counted = counted_as 1 c.store.result Stopped (g.D.Device.counts c.args.device.now) (g.D.Device.counts c.store.new.device) stopped c.store.ensures.counted; spare = c.store.ensures.spare_left; header = λ a v is one. c.store.ensures.aside a v (off a is.below) one })
+
+pub returns-clause-log_words : goal.returns-clause-log_words
+returns-clause-log_words g c = λ made.
+    let at = c.requires.passes in
+    let start = at.0 in
+    let h = at.5 in
+    let shape = layout_shape c.args.target.layout in
+    let u = record_of_placed c.args.update.now in
+    let word = heap_word c.args.target start u at.1 at.3 at.4 _ at.2 h c.requires.update in
+    let reached = c.store.ensures.made made shape start.first h.state h.gone.reached word.0 (covered c.args.target start u at.1 at.3 at.4 _ at.2 h c.requires.update) in
+    log_words_kept c.args.target.layout start.first h.state (g.D.Device.cells c.args.device.now) h.gone.reached (λ b. b ≡ c.args.update.now.cell.address → ⊥) (g.D.Device.cells c.store.new.device)
+    (λ a lt e. (let le = word.0 in omega (arith, lt, e, le))) c.store.ensures.aside (reached.come.size ∙ sym h.gone.reached.come.size) (g.met.D.Device.full c.store.new.device)

@@ -1,5 +1,6 @@
 use Rattle.std.proofs.Common.{◌≡◌, ◌+◌, ◌-◌, ◌∷◌, refl, sym, arith}
 use Rattle.bucket_log.specs.Scans.{record_of_placed}
+use Rattle.recovery_undo.proofs.Chains.{knows_kept}
 use Rattle.recovery_undo.proofs.Stepping.{passes_at}
 use Rattle.recovery_undo.proofs.undoing.undo_update.Goals as goal
 
@@ -57,3 +58,17 @@ returns-in-Made-clause-stopped g c = λ stopped start left h.
     let none : c.args.counter.now ≡ 0 = omega arith in
     c.store_old-in-Made.ensures.stopped stopped start left 0 c.compensate.new.next c.compensate.new.gates
     (c.in-Made.ensures.made refl start left (passes_at c.args.target start (record_of_placed c.args.update.now ∷ left) c.args.counter.now 0 c.args.next.now c.args.gates.now _ none h))
+
+pub returns-then-counter-gt0-clause-table : goal.returns-then-counter-gt0-clause-table
+returns-then-counter-gt0-clause-table g c = λ made.
+    let at = c.requires.passes in
+    knows_kept c.args.target.layout at.0.first at.2.state (g.D.Device.cells c.args.device.now) at.2.gone.reached c.args.table.now (g.D.Device.cells c.store_old.new.device)
+    (c.store_old.ensures.log_words made) c.requires.table
+
+pub returns-in-Made-clause-table : goal.returns-in-Made-clause-table
+returns-in-Made-clause-table g c = λ made.
+    let at = c.requires.passes in
+    let none : c.args.counter.now ≡ 0 = omega arith in
+    let h = c.in-Made.ensures.made refl at.0 at.1 (passes_at c.args.target at.0 (record_of_placed c.args.update.now ∷ at.1) c.args.counter.now 0 c.args.next.now c.args.gates.now _ none at.2) in
+    knows_kept c.args.target.layout at.0.first h.state (g.D.Device.cells c.compensate.new.device) h.gone.reached c.compensate.new.table (g.D.Device.cells c.store_old-in-Made.new.device)
+    (c.store_old-in-Made.ensures.log_words made) (c.in-Made.ensures.table refl)
