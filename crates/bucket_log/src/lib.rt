@@ -1,6 +1,7 @@
 //! The log of records in the buckets of the list: where the next record goes, the plan of its append, and what is read back.
 #![tactic(auto)]
 
+mod address;
 mod append;
 mod chain;
 pub mod laws;
@@ -9,6 +10,7 @@ mod parts;
 mod room_count;
 mod scanning;
 
+pub use address::part_of;
 pub use append::{Place, append_event};
 pub use next_place::{place, place_with};
 pub use parts::{Closing, Giving, Part, Undoing, Update};

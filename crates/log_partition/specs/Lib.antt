@@ -1,2 +1,5 @@
 pub mod Views
 pub mod Merging
+pub mod Marks
+pub mod Used
+pub mod Images

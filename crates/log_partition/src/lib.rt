@@ -4,10 +4,12 @@
 mod events;
 mod gathering;
 pub mod laws;
+mod used;
 mod view;
 
 pub use events::{out, out_address};
 pub use gathering::merge;
+pub use used::UsedBuckets;
 pub use view::PartView;
 
 #[cfg(test)]

@@ -1,5 +1,15 @@
-use crate::out;
-use persist_model::Event;
+ghost use Rattle.std.specs.Prelude.{◌≡◌, ◌<◌, ◌^◌, ℕ, List, IfOk, length};
+ghost use Rattle.persist_model.specs.Shape.{IsBucketOf};
+ghost use Rattle.region_layout.specs.Layout.{layout_shape};
+ghost use Rattle.log_partition.specs.Images.{small, word_in, words_in, two_chains};
+ghost use Rattle.log_partition.specs.Used.{KnowsChains};
+
+use crate::{UsedBuckets, out};
+use persist_model::{Event, Look};
+use region_layout::{Layout, Policy};
+use std::alloc::Global;
+use std::process::Abort;
+use std::test::Fail;
 
 #[test]
 fn list_words_are_those_of_the_partition(rt: HostRuntime) {
@@ -9,4 +19,142 @@ fn list_words_are_those_of_the_partition(rt: HostRuntime) {
     assert!(rt; matches!(out(2, Event::WriteBack(12)), Event::WriteBack(30)));
     assert!(rt; matches!(out(2, Event::PStore(13, 5)), Event::PStore(13, 5)));
     assert!(rt; matches!(out(2, Event::Fence), Event::Fence));
+}
+
+// A row of words in memory.
+#[derive(Drop)]
+struct Row {
+    words: Vec<u64>,
+    ghost small: { length words.items < 2 ^ 32 },
+}
+
+impl Look for Row {
+    ghost words = { λ row. row.words.items };
+
+    fn size(&self) -> u32 {
+        self.words.len() as u32
+    }
+
+    fn word(&self, a: u32) -> u64 {
+        self.words[a as usize]
+    }
+}
+
+fn small_layout() -> Layout
+    ensures { layout_shape result ≡ small }
+{
+    Layout {
+        policy: Policy::Force,
+        cells: 1,
+        buckets: 8,
+        blocks: 16,
+        structures: 1,
+        format: 2,
+        partitions: 2,
+    }
+}
+
+fn word_of(pairs: &[(u32, u64)], a: u32) -> u64
+    ensures { result ≡ word_in pairs.now a }
+{
+    for pair in pairs {
+        if a == pair.0 {
+            return pair.1;
+        }
+    }
+    0
+}
+
+// So many words, as the pairs say.
+fn words_of(alloc: Global, pairs: &[(u32, u64)], size: u32) -> Result<Vec<u64>, Fail>
+    ensures { IfOk result (λ words. words.items ≡ words_in pairs.now size) }
+{
+    let mut words = Vec::new(alloc);
+    for a in 0..size {
+        let word = word_of(pairs, a);
+        words.push(word)?;
+    }
+    Ok(words)
+}
+
+// The words of a region with a chain of two buckets and one of one.
+fn small_row(alloc: Global) -> Result<Row, Fail>
+    ensures { IfOk result (λ row. row.words.items ≡ words_in two_chains 416) }
+{
+    let pairs = [
+        (0, 5933297088048660482),
+        (1, 1),
+        (2, 1),
+        (3, 8),
+        (4, 16),
+        (5, 1),
+        (6, 2),
+        (13, 1),
+        (8, 64),
+        (9, 32),
+        (64, 32),
+        (33, 64),
+        (21, 96),
+        (22, 96),
+    ];
+    let words = words_of(alloc, &pairs, 416)?;
+    Ok(Row { words })
+}
+
+fn expect_least(
+    rt: &impl Abort,
+    table: &mut UsedBuckets,
+    layout: Layout,
+    p: u32,
+    expected: Option<u32>,
+)
+    requires part { p < layout.partitions }
+    requires knows { (chains : ℕ → List ℕ) × KnowsChains (layout_shape layout) table.old chains }
+    ensures { (chains : ℕ → List ℕ) × KnowsChains (layout_shape layout) table.new chains }
+{
+    let least = table.least(layout, p);
+    assert_eq!(rt; least, expected);
+}
+
+fn put_behind(table: &mut UsedBuckets, layout: Layout, p: u32, bucket: u32)
+    requires part { p < layout.partitions }
+    requires bucket { IsBucketOf (layout_shape layout) p bucket }
+    requires knows { (chains : ℕ → List ℕ) × KnowsChains (layout_shape layout) table.old chains }
+    ensures { (chains : ℕ → List ℕ) × KnowsChains (layout_shape layout) table.new chains }
+{
+    table.add(layout, p, bucket);
+}
+
+#[test]
+fn the_least_bucket_outside_a_chain_is_known(rt: HostRuntime) -> Result<(), Fail> {
+    let alloc = rt.alloc();
+    let layout = small_layout();
+    let row = small_row(alloc)?;
+    let mut table = UsedBuckets::with_memory(alloc, layout)?;
+    table.read(&row, layout);
+    expect_least(&rt, &mut table, layout, 0, Some(48));
+    expect_least(&rt, &mut table, layout, 1, Some(112));
+    put_behind(&mut table, layout, 0, 48);
+    expect_least(&rt, &mut table, layout, 0, Some(80));
+    put_behind(&mut table, layout, 0, 80);
+    expect_least(&rt, &mut table, layout, 0, None);
+    expect_least(&rt, &mut table, layout, 1, Some(112));
+    put_behind(&mut table, layout, 1, 144);
+    put_behind(&mut table, layout, 1, 112);
+    expect_least(&rt, &mut table, layout, 1, Some(128));
+    Ok(())
+}
+
+#[test]
+fn a_table_is_read_again(rt: HostRuntime) -> Result<(), Fail> {
+    let alloc = rt.alloc();
+    let layout = small_layout();
+    let row = small_row(alloc)?;
+    let mut table = UsedBuckets::with_memory(alloc, layout)?;
+    table.read(&row, layout);
+    put_behind(&mut table, layout, 0, 48);
+    expect_least(&rt, &mut table, layout, 0, Some(80));
+    table.read(&row, layout);
+    expect_least(&rt, &mut table, layout, 0, Some(48));
+    Ok(())
 }

@@ -2,13 +2,11 @@
 //! number. The tables are ordered maps, which are slow for no choice of keys.
 #![tactic(auto)]
 
-mod parts;
 mod past;
 mod seen;
 mod summaries;
 mod transactions;
 
-pub use parts::part_of;
 pub use past::Past;
 pub use seen::Seen;
 pub use summaries::{Summaries, Summary};

@@ -11,9 +11,8 @@ ghost use Rattle.region_layout.specs.Layout.{layout_shape};
 ghost use Rattle.log_tables.specs.Tables.{IsSummary, AreSummaries, no_summary, is_end_below, after_put, summary_of};
 ghost use Rattle.log_tables.specs.Seen.{has_other};
 
-use crate::parts::part_of;
 use crate::seen::Seen;
-use bucket_log::Placed;
+use bucket_log::{Placed, part_of};
 use persist_model::NoMemory;
 use persist_model::format::{CHECKPOINT, COMMITTED, COMPENSATION, END, ROLLBACK, UPDATE};
 use region_layout::Layout;

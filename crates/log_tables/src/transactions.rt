@@ -7,9 +7,8 @@ ghost use Rattle.region_layout.specs.Layout.{layout_shape};
 ghost use Rattle.log_tables.specs.Rows.{log_of_rows};
 ghost use Rattle.log_tables.specs.Homes.{AreTransactions};
 
-use crate::parts::part_of;
 use crate::summaries::Summaries;
-use bucket_log::Placed;
+use bucket_log::{Placed, part_of};
 use persist_model::NoMemory;
 use persist_model::format::CHECKPOINT;
 use region_layout::Layout;

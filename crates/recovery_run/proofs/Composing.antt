@@ -29,7 +29,7 @@ durable_take zero plan h = tt
 durable_take (suc k) [] h = tt
 durable_take (suc k) (e ∷ plan) h = (h.0, durable_take k plan h.1)
 
-tracks_plan : (A : ℕ → Type 0) (lane : ℕ) (p : Progress) (region : Region) (plan : List Event) → AreDurable plan → Tracks A lane p region →
+pub tracks_plan : (A : ℕ → Type 0) (lane : ℕ) (p : Progress) (region : Region) (plan : List Event) → AreDurable plan → Tracks A lane p region →
     Tracks A lane (advance_all p plan) (after_plan lane region plan)
 tracks_plan A lane p region [] durable h = h
 tracks_plan A lane p region (e ∷ plan) durable h = tracks_plan A lane (advance p e) (after region lane e) plan durable.1 (Tracks-event A lane p region e durable.0 h)

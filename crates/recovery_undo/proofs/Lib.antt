@@ -4,8 +4,8 @@ pub mod Passing
 pub mod Places
 pub mod Planned
 pub mod Taking
-pub mod LawStub
 pub mod Chains
+pub mod ChainsBehind
 pub mod Going
 pub mod Stepping
 pub mod Beginning

@@ -1,11 +1,12 @@
--- The tests' region holds a sound state with one running transaction, and what its undo needs and leaves.
-use Rattle.std.proofs.Common.{◌≡◌, ◌⊎◌, inl, inr, ℕ, zero, suc, ◌<◌, ◌≤◌, ◌==◌, if◌then◌else◌, List, [], ◌∷◌, ◌++◌, length, map, reverse, refl, sym, ap, ◌∙◌, subst, arith}
+-- The tests' regions hold a sound state with one running transaction, and what its undo needs and leaves.
+use Rattle.std.proofs.Common.{◌≡◌, ◌⊎◌, inl, inr, ℕ, zero, suc, true, ◌<◌, ◌≤◌, ◌==◌, if◌then◌else◌, List, [], ◌∷◌, ◌++◌, length, map, reverse, refl, sym, ap, ◌∙◌, subst, arith}
+use Rattle.std.specs.Prelude.{slice_index}
 use Rattle.std.specs.Vec.{vec_len, vec_capacity}
 use Rattle.std.proofs.lemmas.List.FromFn.{length-map-range_with_len, get_or-map-range_with_len}
-use Rattle.persist_model.specs.Region.{Words, Region, loaded}
+use Rattle.persist_model.specs.Region.{Words, Region, loaded, newest_words}
 use Rattle.persist_model.specs.Records.{Record, Log, IsAmong, Has, IsOf, IsEnd, IsCheckpoint, IsRunning, IsLoser, IsSkipped}
 use Rattle.persist_model.specs.Standing.{IsToUndo, Stands, undone, deleted, redone, kept}
-use Rattle.persist_model.specs.Shape.{Shape, SECOND_MAGIC, shape_of, IsShape, log_words, words_of_shape}
+use Rattle.persist_model.specs.Shape.{Shape, FIRST_MAGIC, SECOND_MAGIC, shape_of, IsShape, IsCellCount, IsBucketCount, log_words, heap_words, words_of_shape}
 use Rattle.persist_model.specs.ImageRecords.{AreRecords}
 use Rattle.persist_model.specs.State.{State, HasOpen, IsSoundState}
 use Rattle.persist_model.specs.Sound.{HasState, IsListOf, room_of}
@@ -14,25 +15,24 @@ use Rattle.log_laws.proofs.Deciding.{from_yes, decide_both, decide_has, decide_r
 use Rattle.log_laws.proofs.LogFaults.{LogHolds, log_some, sound_of_holds, decide_of}
 use Rattle.log_laws.proofs.RecordSorting.{log_of}
 use Rattle.log_laws.proofs.Soundness.{shape_some, parts_some, chains_in, state_gates}
-use Rattle.log_laws.proofs.Verdicts.{ListsAreSound, LogIs, from_holds, state_at, has_state_at}
+use Rattle.log_laws.proofs.Verdicts.{ListsAreSound, LogIs, from_holds, holds, state_at, has_state_at}
 use Rattle.persist_model.specs.Faults.{IsLogFault}
 use Rattle.region_layout.specs.declared.layout.Layout.{Layout}
 use Rattle.region_layout.specs.Layout.{layout_shape, policy_number}
 use Rattle.bucket_log.specs.declared.scanning.Placed.{Placed}
 use Rattle.bucket_log.specs.Scans.{record_of_placed}
 use Rattle.bucket_log.proofs.PartStates.{log_words_same}
+use Rattle.log_partition.specs.Merging.{AreLogsOf}
 use Rattle.recovery_run.specs.declared.gates.Gates.{Gates}
 use Rattle.recovery_run.specs.Groups.{ListsAll}
 use Rattle.recovery_run.specs.Reached.{newest_at, HasSettled, IsQuiet}
 use Rattle.recovery_run.proofs.ClosingPart.{same_heap}
-use Rattle.recovery_run.proofs.Reaching.{read_newest, settled_begins}
+use Rattle.recovery_run.proofs.Reaching.{read_newest, settled_begins, settled_reached}
 use Rattle.recovery_undo.specs.Appending.{AreQuiet}
 use Rattle.recovery_undo.specs.Checkpoint.{CanCheckpoint}
-use Rattle.recovery_undo.specs.Images.{small, Pair, word_in, words_in, running, running_log, record_with, HasRunningGates}
+use Rattle.recovery_undo.specs.Images.{small, narrow, Pair, word_in, words_in, running, running_narrow, running_log, record_with, HasRunningGates, IsTested}
 use Rattle.recovery_undo.specs.Undoing.{CanUndo, IsUndone}
-
-abbrev w : Words
-w = word_in running
+use Rattle.recovery_undo.proofs.Places.{logs_of}
 
 -- ---- the words
 
@@ -40,34 +40,116 @@ pub words_long : (pairs : List Pair) (n : ℕ) → length (words_in pairs n) ≡
 unfolding words_in
 words_long pairs n = length-map-range_with_len (word_in pairs) 0 n
 
-read_word : (a : ℕ) → a < 832 → newest_at (loaded (words_in running 832)) a ≡ w a
+read_word : (pairs : List Pair) (a : ℕ) → a < 832 → newest_at (loaded (words_in pairs 832)) a ≡ word_in pairs a
 unfolding words_in
-read_word a lt =
-    let size : length (words_in running 832) ≡ 832 = words_long running 832 in
-    read_newest (loaded (words_in running 832)) a (omega (arith, lt, size)) ∙ get_or-map-range_with_len w 0 832 a a 0 lt (omega arith)
+read_word pairs a lt =
+    let size : length (words_in pairs 832) ≡ 832 = words_long pairs 832 in
+    read_newest (loaded (words_in pairs 832)) a (omega (arith, lt, size)) ∙ get_or-map-range_with_len (word_in pairs) 0 832 a a 0 lt (omega arith)
 
--- ---- the state
+-- ---- the two regions
 
-lists_sound : ListsAreSound small w
+-- These words have this shape, in format 1, a sound list and the log of the transaction.
+record HasLog (s : Shape) (pairs : List Pair) : Type 0 where
+  magic : word_in pairs 0 ≡ FIRST_MAGIC
+  policy : word_in pairs 1 ≡ 2
+  cells : IsCellCount (word_in pairs 2)
+  buckets : IsBucketCount (word_in pairs 3)
+  blocks : word_in pairs 4 ≡ 16
+  structures : word_in pairs 5 ≡ 1
+  shape_is : shape_of (word_in pairs) ≡ s
+  long : words_of_shape s ≡ 832
+  few : s.cells ≤ 16
+  one : s.partitions ≡ 1
+  no_force : s.policy ≡ 2
+  quiet : (word_in pairs 10 ≡ 0) × (word_in pairs 12 ≡ 0)
+  lists : ListsAreSound s (word_in pairs)
+  log : LogIs s (word_in pairs) running_log
+  sound : IsSoundState s (state_at s (word_in pairs) running_log)
+
+log_is_sound : (s : Shape) (pairs : List Pair) → ListsAreSound s (word_in pairs) → LogIs s (word_in pairs) running_log →
+    holds (LogHolds s (state_at s (word_in pairs) running_log)) (IsLogFault s (state_at s (word_in pairs) running_log)) (log_some s (state_at s (word_in pairs) running_log)) ≡ true →
+    IsSoundState s (state_at s (word_in pairs) running_log)
+log_is_sound s pairs lists log is =
+    let state : State = state_at s (word_in pairs) running_log in
+    let has : HasState s (word_in pairs) state = has_state_at s (word_in pairs) running_log lists log in
+    sound_of_holds s state has.records.newest_first (state_gates s (word_in pairs) state has) (from_holds (LogHolds s state) (IsLogFault s state) (log_some s state) is)
+
+small_lists : ListsAreSound small (word_in running)
 unfolding shape_some parts_some log_of log_some chains_in
-lists_sound = refl
+small_lists = refl
 
-log_is : LogIs small w running_log
+small_log : LogIs small (word_in running) running_log
 unfolding shape_some parts_some log_of log_some chains_in
-log_is = refl
+small_log = refl
 
-abbrev pub small_state : State
-small_state = state_at small w running_log
-
-has_small : HasState small w small_state
-has_small = has_state_at small w running_log lists_sound log_is
-
-pub small_sound : IsSoundState small small_state
+small_sound : IsSoundState small (state_at small (word_in running) running_log)
 unfolding shape_some parts_some log_of log_some chains_in
-small_sound = sound_of_holds small small_state has_small.records.newest_first (state_gates small w small_state has_small)
-    (from_holds (LogHolds small small_state) (IsLogFault small small_state) (log_some small small_state) refl)
+small_sound = log_is_sound small running small_lists small_log refl
 
--- ---- the region
+narrow_lists : ListsAreSound narrow (word_in running_narrow)
+unfolding shape_some parts_some log_of log_some chains_in
+narrow_lists = refl
+
+narrow_log : LogIs narrow (word_in running_narrow) running_log
+unfolding shape_some parts_some log_of log_some chains_in
+narrow_log = refl
+
+narrow_sound : IsSoundState narrow (state_at narrow (word_in running_narrow) running_log)
+unfolding shape_some parts_some log_of log_some chains_in
+narrow_sound = log_is_sound narrow running_narrow narrow_lists narrow_log refl
+
+small_has : HasLog small running
+small_has = record {
+  magic = refl;
+  policy = refl;
+  cells = inr refl;
+  buckets = (omega arith, omega arith);
+  blocks = refl;
+  structures = refl;
+  shape_is = refl;
+  long = refl;
+  few = omega arith;
+  one = refl;
+  no_force = refl;
+  quiet = (refl, refl);
+  lists = small_lists;
+  log = small_log;
+  sound = small_sound;
+}
+
+narrow_has : HasLog narrow running_narrow
+narrow_has = record {
+  magic = refl;
+  policy = refl;
+  cells = inl refl;
+  buckets = (omega arith, omega arith);
+  blocks = refl;
+  structures = refl;
+  shape_is = refl;
+  long = refl;
+  few = omega arith;
+  one = refl;
+  no_force = refl;
+  quiet = (refl, refl);
+  lists = narrow_lists;
+  log = narrow_log;
+  sound = narrow_sound;
+}
+
+-- ---- what they are to recovery
+
+abbrev pub running_state : Words → (ℕ → ℕ) → State
+running_state words room = record { log = running_log; words = words; room = room }
+
+-- recovery begins at a state with the log of the transaction
+pub record HasRunning (s : Shape) (region : Region) : Type 0 where
+  pub words : Words
+  pub room : ℕ → ℕ
+  pub settled : HasSettled s (running_state words room) (running_state words room) region
+  pub sound : IsSoundState s (running_state words room)
+  pub quiet : AreQuiet s region
+  pub few : s.cells ≤ 16
+  pub no_force : s.policy ≡ 2
 
 state_of_same : (shape : Shape) (u v : Words) (s : State) → ((a : ℕ) → a < words_of_shape shape → v a ≡ u a) → HasState shape u s → HasState shape v s
 state_of_same shape u v s same h =
@@ -80,48 +162,76 @@ state_of_same shape u v s same h =
       room = λ q lt. h.room q lt ∙ ap (λ (x : Words). room_of shape x q (h.chains q)) (sym logs);
     }
 
-abbrev region : Region
-region = loaded (words_in running 832)
+module _ (s : Shape) (pairs : List Pair) (h : HasLog s pairs) where
+  abbrev region : Region
+  region = loaded (words_in pairs 832)
 
-shape_is : shape_of (newest_at region) ≡ small
-shape_is = λ i. record {
-  policy = read_word 1 (omega arith) i;
-  cells = read_word 2 (omega arith) i;
-  buckets = read_word 3 (omega arith) i;
-  blocks = read_word 4 (omega arith) i;
-  structures = read_word 5 (omega arith) i;
-  format = if read_word 0 (omega arith) i == SECOND_MAGIC then 2 else 1;
-  partitions = if read_word 0 (omega arith) i == SECOND_MAGIC then read_word 6 (omega arith) i else 1;
-}
+  abbrev w : Words
+  w = word_in pairs
 
-is_shape : IsShape (length (words_in running 832)) (newest_at region)
-is_shape =
-    let magic : newest_at region 0 ≡ 5933297088048660481 = read_word 0 (omega arith) in
-    let buckets : newest_at region 3 ≡ 4 = read_word 3 (omega arith) in
-    let blocks : newest_at region 4 ≡ 16 = read_word 4 (omega arith) in
-    let structures : newest_at region 5 ≡ 1 = read_word 5 (omega arith) in
-    let size = words_long running 832 in
-    record {
-      enough = omega (arith, size);
-      magic = inl magic;
-      policy = inr (read_word 1 (omega arith));
-      cells = inr (read_word 2 (omega arith));
-      buckets = (omega (arith, buckets), omega (arith, buckets));
-      blocks = (omega (arith, blocks), omega (arith, blocks));
-      structures = (omega (arith, structures), omega (arith, structures));
-      partitions = λ second. absurd (omega (arith, magic, second));
-      kinds = λ second. absurd (omega (arith, magic, second));
-      long = size ∙ ap words_of_shape (sym shape_is);
-    }
+  shape_is : shape_of (newest_at region) ≡ s
+  shape_is = (λ i. record {
+    policy = read_word pairs 1 (omega arith) i;
+    cells = read_word pairs 2 (omega arith) i;
+    buckets = read_word pairs 3 (omega arith) i;
+    blocks = read_word pairs 4 (omega arith) i;
+    structures = read_word pairs 5 (omega arith) i;
+    format = if read_word pairs 0 (omega arith) i == SECOND_MAGIC then 2 else 1;
+    partitions = if read_word pairs 0 (omega arith) i == SECOND_MAGIC then read_word pairs 6 (omega arith) i else 1;
+  }) ∙ h.shape_is
 
-pub small_settled : HasSettled small small_state small_state region
-small_settled = settled_begins small small_state region (λ a lt. refl) (record { header = is_shape; shape_is = shape_is })
-    (state_of_same small w (newest_at region) small_state (λ a lt. read_word a lt) has_small)
+  is_shape : IsShape (length (words_in pairs 832)) (newest_at region)
+  is_shape =
+      let magic : newest_at region 0 ≡ 5933297088048660481 = read_word pairs 0 (omega arith) ∙ h.magic in
+      let blocks : newest_at region 4 ≡ 16 = read_word pairs 4 (omega arith) ∙ h.blocks in
+      let structures : newest_at region 5 ≡ 1 = read_word pairs 5 (omega arith) ∙ h.structures in
+      let size = words_long pairs 832 in
+      record {
+        enough = omega (arith, size);
+        magic = inl magic;
+        policy = inr (read_word pairs 1 (omega arith) ∙ h.policy);
+        cells = subst IsCellCount (sym (read_word pairs 2 (omega arith))) h.cells;
+        buckets = subst IsBucketCount (sym (read_word pairs 3 (omega arith))) h.buckets;
+        blocks = (omega (arith, blocks), omega (arith, blocks));
+        structures = (omega (arith, structures), omega (arith, structures));
+        partitions = λ second. absurd (omega (arith, magic, second));
+        kinds = λ second. absurd (omega (arith, magic, second));
+        long = size ∙ sym h.long ∙ ap words_of_shape (sym shape_is);
+      }
 
--- TO_APPEND and TO_REMOVE are 0
-small_quiet : (p : ℕ) → p < 1 → IsQuiet p (newest_at region)
-small_quiet zero lt = (read_word 10 (omega arith), read_word 12 (omega arith))
-small_quiet (suc p) lt = absurd (omega (arith, lt))
+  settled : HasSettled s (state_at s w running_log) (state_at s w running_log) region
+  settled = settled_begins s (state_at s w running_log) region (λ a lt. refl) (record { header = is_shape; shape_is = shape_is })
+      (state_of_same s w (newest_at region) (state_at s w running_log) (λ a lt. read_word pairs a (subst (λ n. a < n) h.long lt)) (has_state_at s w running_log h.lists h.log))
+
+  -- TO_APPEND and TO_REMOVE are 0
+  quiet : (p : ℕ) → p < s.partitions → IsQuiet p (newest_at region)
+  quiet zero lt = (read_word pairs 10 (omega arith) ∙ h.quiet.0, read_word pairs 12 (omega arith) ∙ h.quiet.1)
+  quiet (suc p) lt = let one = h.one in absurd (omega (arith, lt, one))
+
+  has_running : HasRunning s (loaded (words_in pairs 832))
+  has_running = record {
+    words = heap_words s w;
+    room = (state_at s w running_log).room;
+    settled = settled;
+    sound = h.sound;
+    quiet = quiet;
+    few = h.few;
+    no_force = h.no_force;
+  }
+
+pub tested : (s : Shape) (region : Region) → IsTested s region → HasRunning s region
+tested s region which = elim which [
+  | inl k ↦ subst (λ (z : Shape). HasRunning z region) (sym k.0) (subst (λ (r : Region). HasRunning small r) (sym k.1) (has_running small running small_has))
+  | inr k ↦ subst (λ (z : Shape). HasRunning z region) (sym k.0) (subst (λ (r : Region). HasRunning narrow r) (sym k.1) (has_running narrow running_narrow narrow_has))
+]
+
+-- the words that are read are those of logs
+pub tested_logs : (layout : Layout) (region : Region) (row : List ℕ) → row ≡ newest_words region → IsTested (layout_shape layout) region → AreLogsOf layout (length row) (slice_index row)
+tested_logs layout region row is which =
+    let h = tested (layout_shape layout) region which in
+    let state : State = running_state h.words h.room in
+    subst (λ (xs : List ℕ). AreLogsOf layout (length xs) (slice_index xs)) (sym is)
+    (logs_of layout state state region (settled_reached (layout_shape layout) state state region h.settled))
 
 -- ---- the transaction
 
@@ -155,23 +265,23 @@ applied_by policy log words a v none (kept none_undone none_deleted none_redone 
 no_end : (t : ℕ) → IsRunning running_log t
 no_end t r m k = (each_of_one r m).1 k.0
 
-small_applied : (policy : ℕ) → AreApplied policy running_log small_state.words
-small_applied policy a = elim (decide_has (IsToUndo running_log a) running_log (decide_to_undo running_log a)) [
+small_applied : (policy : ℕ) (words : Words) → AreApplied policy running_log words
+small_applied policy words a = elim (decide_has (IsToUndo running_log a) running_log (decide_to_undo running_log a)) [
   | inl some ↦ inl some
-  | inr none ↦ inr (λ v stands. elim (applied_by policy running_log small_state.words a v no_end stands) [ inl some ↦ absurd (none some) | inr e ↦ e ])
+  | inr none ↦ inr (λ v stands. elim (applied_by policy running_log words a v no_end stands) [ inl some ↦ absurd (none some) | inr e ↦ e ])
 ]
 
 -- ---- the gates
 
-gate_of : (a : ℕ) → IsAmong (40 ∷ 48 ∷ 56 ∷ 64 ∷ []) a → Has (λ r. (r.at ≡ a) × (IsEnd r → ⊥) × (IsCheckpoint r → ⊥)) running_log
+gate_of : (a : ℕ) → IsAmong (40 ∷ 56 ∷ 88 ∷ 104 ∷ []) a → Has (λ r. (r.at ≡ a) × (IsEnd r → ⊥) × (IsCheckpoint r → ⊥)) running_log
 gate_of a m = elim m [
   | inl e ↦ (record_with 40 1 1 577 5 7 0, inr (inr (inr (inl refl))), (sym e, λ k. omega (arith, k), λ k. omega (arith, k)))
   | inr m ↦ elim m [
-    | inl e ↦ (record_with 48 2 1 578 0 9 1, inr (inr (inl refl)), (sym e, λ k. omega (arith, k), λ k. omega (arith, k)))
+    | inl e ↦ (record_with 56 2 1 578 0 9 1, inr (inr (inl refl)), (sym e, λ k. omega (arith, k), λ k. omega (arith, k)))
     | inr m ↦ elim m [
-      | inl e ↦ (record_with 56 3 2 578 9 0 1, inr (inl refl), (sym e, λ k. omega (arith, k), λ k. omega (arith, k)))
+      | inl e ↦ (record_with 88 3 2 578 9 0 1, inr (inl refl), (sym e, λ k. omega (arith, k), λ k. omega (arith, k)))
       | inr m ↦ elim m [
-        | inl e ↦ (record_with 64 4 6 592 1 0 0, inl refl, (sym e, λ k. omega (arith, k), λ k. omega (arith, k)))
+        | inl e ↦ (record_with 104 4 6 592 1 0 0, inl refl, (sym e, λ k. omega (arith, k), λ k. omega (arith, k)))
         | inr m ↦ absurd m
       ]
     ]
@@ -181,13 +291,13 @@ gate_of a m = elim m [
 at_of : {r s : Record} → r ≡ s → r.at ≡ s.at
 at_of e = ap (λ (x : Record). x.at) e
 
-among_gates : (r : Record) → IsAmong running_log r → IsAmong (40 ∷ 48 ∷ 56 ∷ 64 ∷ []) r.at
+among_gates : (r : Record) → IsAmong running_log r → IsAmong (40 ∷ 56 ∷ 88 ∷ 104 ∷ []) r.at
 among_gates r m = elim m [
   | inl e ↦ inr (inr (inr (inl (at_of e))))
   | inr m ↦ elim m [ inl e ↦ inr (inr (inl (at_of e))) | inr m ↦ elim m [ inl e ↦ inr (inl (at_of e)) | inr m ↦ elim m [ inl e ↦ inl (at_of e) | inr m ↦ absurd m ] ] ]
 ]
 
-lists_of : (gates ends checkpoints : List ℕ) → gates ≡ 40 ∷ 48 ∷ 56 ∷ 64 ∷ [] → ends ≡ [] → checkpoints ≡ [] → ListsAll running_log gates ends checkpoints
+lists_of : (gates ends checkpoints : List ℕ) → gates ≡ 40 ∷ 56 ∷ 88 ∷ 104 ∷ [] → ends ≡ [] → checkpoints ≡ [] → ListsAll running_log gates ends checkpoints
 lists_of gates ends checkpoints g e c = record {
   groups = record {
     of_gates = λ a m. gate_of a (subst (λ (xs : List ℕ). IsAmong xs a) g m);
@@ -199,34 +309,35 @@ lists_of gates ends checkpoints g e c = record {
 
 -- ---- its undo
 
-pub four_records : (first second third fourth : Placed) → record_of_placed first ≡ record_with 40 1 1 577 5 7 0 → record_of_placed second ≡ record_with 48 2 1 578 0 9 1
-    → record_of_placed third ≡ record_with 56 3 2 578 9 0 1 → record_of_placed fourth ≡ record_with 64 4 6 592 1 0 0
+pub four_records : (first second third fourth : Placed) → record_of_placed first ≡ record_with 40 1 1 577 5 7 0 → record_of_placed second ≡ record_with 56 2 1 578 0 9 1
+    → record_of_placed third ≡ record_with 88 3 2 578 9 0 1 → record_of_placed fourth ≡ record_with 104 4 6 592 1 0 0
     → reverse (map record_of_placed (first ∷ second ∷ third ∷ fourth ∷ [])) ≡ running_log
 four_records first second third fourth e1 e2 e3 e4 = λ i. e4 i ∷ e3 i ∷ e2 i ∷ e1 i ∷ []
 
--- of a layout of this shape and a device with these words
-pub can_undo : (layout : Layout) (cells : Region) (spare next : ℕ) (records : List Placed) (gates : Gates) → layout_shape layout ≡ small → cells ≡ region → 153 ≤ spare → next ≡ 5 →
-    length records ≡ 4 → reverse (map record_of_placed records) ≡ running_log → HasRunningGates gates → CanUndo layout 1 records next gates small_state small_state cells spare
-can_undo layout cells spare next records gates is loads room five four records_are h =
-    let sixteen : layout.cells ≡ 16 = ap (λ (s : Shape). s.cells) is in
-    let gates_len = ap length h.gates_are in
-    let ends_len = ap length h.ends_are in
-    let gates_memory = h.gates_memory in
-    let ends_memory = h.ends_memory in
+-- of a device with these words
+pub can_undo : (layout : Layout) (cells : Region) (spare next : ℕ) (records : List Placed) (gates : Gates) → (h : HasRunning (layout_shape layout) cells) → 153 ≤ spare → next ≡ 5 →
+    length records ≡ 4 → reverse (map record_of_placed records) ≡ running_log → HasRunningGates gates →
+    CanUndo layout 1 records next gates (running_state h.words h.room) (running_state h.words h.room) cells spare
+can_undo layout cells spare next records gates h room five four records_are g =
+    let few : layout.cells ≤ 16 = h.few in
+    let gates_len = ap length g.gates_are in
+    let ends_len = ap length g.ends_are in
+    let gates_memory = g.gates_memory in
+    let ends_memory = g.ends_memory in
     let gates_ok = gates.gates.ok.0 in
     let ends_ok = gates.ends.ok.0 in
     record {
-      settled = subst (λ (s : Shape). HasSettled s small_state small_state cells) (sym is) (subst (λ (r : Region). HasSettled small small_state small_state r) (sym loads) small_settled);
-      sound = subst (λ (s : Shape). IsSoundState s small_state) (sym is) small_sound;
-      quiet = subst (λ (s : Shape). AreQuiet s cells) (sym is) (subst (λ (r : Region). AreQuiet small r) (sym loads) small_quiet);
+      settled = h.settled;
+      sound = h.sound;
+      quiet = h.quiet;
       loser = small_loser;
       records_are = records_are;
       next_is = five;
-      applied = small_applied (policy_number layout.policy);
-      lists = lists_of gates.gates.items gates.ends.items gates.checkpoints.items h.gates_are h.ends_are h.checkpoints_are;
+      applied = small_applied (policy_number layout.policy) h.words;
+      lists = lists_of gates.gates.items gates.ends.items gates.checkpoints.items g.gates_are g.ends_are g.checkpoints_are;
       gates_fit = omega (arith, gates_len, gates_memory, gates_ok);
       ends_fit = omega (arith, ends_len, ends_memory, ends_ok);
-      spare_fits = omega (arith, sixteen, four, room);
+      spare_fits = omega (arith, few, four, room);
     }
 
 -- ---- a checkpoint behind it
@@ -241,8 +352,8 @@ among_left [] ys r m = elim m [ ]
 among_left (x ∷ xs) ys r (inl e) = inl e
 among_left (x ∷ xs) ys r (inr m) = inr (among_left xs ys r m)
 
-module _ (layout : Layout) (before gates : Gates) (next : ℕ) (cells : Region) (is : layout_shape layout ≡ small) (g : HasRunningGates before)
-    (h : IsUndone layout 1 before small_state small_state next gates cells) where
+module _ (layout : Layout) (before gates : Gates) (next : ℕ) (first cells : Region) (runs : HasRunning (layout_shape layout) first) (g : HasRunningGates before)
+    (h : IsUndone layout 1 before (running_state runs.words runs.room) (running_state runs.words runs.room) next gates cells) where
   of_one : (r : Record) → IsAmong h.state.log r → IsOf 1 r
   of_one r m = elim (among_either h.news running_log r (subst (λ (l : Log). IsAmong l r) h.log m)) [ inl new ↦ h.mine r new | inr old ↦ (each_of_one r old).0 ]
 
@@ -257,7 +368,7 @@ module _ (layout : Layout) (before gates : Gates) (next : ℕ) (cells : Region) 
   over : (t : ℕ) → IsLoser h.state.log t → ⊥
   over t k = let was = h.losers t k in let some = was.0.0 in was.1 (sym some.2.0 ∙ ((each_of_one some.0 some.1).0).0)
 
-  pub can_checkpoint : CanCheckpoint layout next gates small_state h.state cells
+  pub can_checkpoint : CanCheckpoint layout next gates (running_state runs.words runs.room) h.state cells
   can_checkpoint =
       let same = ap (λ v. vec_len v) h.grown.checkpoints in
       let memory = ap (λ v. vec_capacity v) h.grown.checkpoints in
@@ -266,9 +377,9 @@ module _ (layout : Layout) (before gates : Gates) (next : ℕ) (cells : Region) 
       let room = g.checkpoints_memory in
       record {
         settled = h.settled;
-        sound = subst (λ (s : Shape). IsSoundState s small_state) (sym is) small_sound;
+        sound = runs.sound;
         quiet = h.quiet;
-        no_force = ap (λ (s : Shape). s.policy) is;
+        no_force = runs.no_force;
         opened = opened;
         over = over;
         applied = h.applied;

@@ -91,8 +91,8 @@ fn add_bucket(table: &mut UsedBuckets, layout: Layout, p: u32, place: Place)
 /// Appends a record to a partition: the cell's gate is its number. What was pending for the heap is settled behind it.
 ///
 /// The partition's recovery words ask for no repair, before and behind it. A compensation or a rollback record may come
-/// whatever is pending for the heap, an end or a checkpoint record where nothing is. The table has the chains, before and
-/// behind it.
+/// whatever is pending for the heap, an end or a checkpoint record where nothing is. The table has the chains of
+/// all partitions, before and behind it. After a stop nothing is said of the table.
 pub fn append_record<D: Device>(
     device: &mut D,
     layout: Layout,

@@ -15,8 +15,8 @@ use recovery_run::{Gates, put};
 use region_layout::Layout;
 
 /// Appends a checkpoint record to the first partition, once nothing runs and each word has its standing value: from then on
-/// nothing is to be redone. `next` is raised, and the gate is put into `gates`, in memory that is there. The table has the chains, before and
-/// behind it.
+/// nothing is to be redone. `next` is raised, and the gate is put into `gates`, in memory that is there. The table has the
+/// chains of all partitions, before and behind it. After a stop nothing is said of the table.
 pub fn append_checkpoint<D: Device>(
     device: &mut D,
     layout: Layout,

@@ -1,7 +1,5 @@
 // The transaction that is undone, and the cells of the records that its undo appends.
 ghost use Rattle.std.specs.Prelude.{◌≡◌, ◌<◌, ℕ};
-ghost use Rattle.persist_model.specs.Shape.{part_of};
-ghost use Rattle.region_layout.specs.Layout.{layout_shape};
 ghost use Rattle.region_layout.specs.Cell.{record_of};
 ghost use Rattle.recovery_undo.specs.Records.{compensation_of, plain_record};
 
@@ -14,17 +12,6 @@ pub(crate) struct Target {
     pub transaction: u64,
     pub partition: u32,
     pub ghost inside: { partition < layout.partitions },
-}
-
-// The partition of the bucket that has the word at this address.
-pub(crate) fn partition_of(layout: Layout, at: u32) -> u32
-    ensures is { result ≡ part_of (layout_shape layout) at }
-    ensures inside { result < layout.partitions }
-{
-    let bucket_size = 8 + 8 * layout.cells;
-    let each = layout.buckets / layout.partitions;
-    let part = at.saturating_sub(32) / bucket_size / each;
-    part.min(layout.partitions - 1)
 }
 
 // The cell of a record that names no word.

@@ -1,15 +1,17 @@
-//! One transaction on a small region, which is undone to its end or up to a stop.
+//! One transaction on small regions, which is undone to its end or up to a stop.
 ghost use Rattle.std.specs.Prelude.{◌≡◌, ◌≤◌, ◌+◌, ℕ, IfOk, [], ◌∷◌};
 ghost use Rattle.persist_model.specs.Region.{loaded};
 ghost use Rattle.persist_model.specs.State.{State};
 ghost use Rattle.region_layout.specs.Layout.{layout_shape};
 ghost use Rattle.bucket_log.specs.Scans.{record_of_placed};
+ghost use Rattle.recovery_undo.specs.Appending.{KnowsRegion};
 ghost use Rattle.recovery_undo.specs.Checkpoint.{CanCheckpoint};
-ghost use Rattle.recovery_undo.specs.Images.{small, word_in, words_in, running, record_with, HasRunningGates};
+ghost use Rattle.recovery_undo.specs.Images.{small, narrow, word_in, words_in, running, running_narrow, record_with, HasRunningGates, IsTested};
 
 use crate::{append_checkpoint, undo};
 use bucket_log::Placed;
 use lane_traits::{Device, Done};
+use log_partition::UsedBuckets;
 use persist_model::Look;
 use persist_model::format::{COMPENSATION, DELETION, UPDATE};
 use recovery_run::{Gates, put};
@@ -26,6 +28,21 @@ fn small_layout() -> Layout
         policy: Policy::NoForce,
         cells: 16,
         buckets: 4,
+        blocks: 16,
+        structures: 1,
+        format: 1,
+        partitions: 1,
+    }
+}
+
+// Buckets of one cell.
+fn narrow_layout() -> Layout
+    ensures { layout_shape result ≡ narrow }
+{
+    Layout {
+        policy: Policy::NoForce,
+        cells: 1,
+        buckets: 34,
         blocks: 16,
         structures: 1,
         format: 1,
@@ -56,7 +73,19 @@ fn words_of(alloc: Global, pairs: &[(u32, u64)], size: u32) -> Result<Vec<u64>, 
     Ok(words)
 }
 
-// The region of the tests, with memory for the stores of an undo and of a checkpoint record.
+// A region of 832 words, with memory for the stores of an undo and of a checkpoint record.
+fn region_of(alloc: Global, pairs: &[(u32, u64)]) -> Result<PlainCells, Fail>
+    ensures cells { IfOk result (λ region. ⟦<PlainCells as Device>⟧.cells region ≡ loaded (words_in pairs.now 832)) }
+    ensures spare { IfOk result (λ region. 153 ≤ ⟦<PlainCells as Device>⟧.spare region) }
+{
+    let words = words_of(alloc, pairs, 832)?;
+    let mut region = PlainCells::new(alloc, 100000);
+    region.load(words.as_slice())?;
+    region.reserve(153)?;
+    Ok(region)
+}
+
+// All records in one bucket.
 fn small_region(alloc: Global) -> Result<PlainCells, Fail>
     ensures cells { IfOk result (λ region. ⟦<PlainCells as Device>⟧.cells region ≡ loaded (words_in running 832)) }
     ensures spare { IfOk result (λ region. 153 ≤ ⟦<PlainCells as Device>⟧.spare region) }
@@ -76,33 +105,90 @@ fn small_region(alloc: Global) -> Result<PlainCells, Fail>
         (43, 577),
         (44, 5),
         (45, 7),
-        (48, 2),
-        (49, 1),
-        (50, 1),
-        (51, 578),
-        (53, 9),
-        (54, 1),
-        (56, 3),
+        (56, 2),
         (57, 1),
-        (58, 2),
+        (58, 1),
         (59, 578),
-        (60, 9),
+        (61, 9),
         (62, 1),
-        (64, 4),
-        (65, 1),
-        (66, 6),
-        (67, 592),
-        (68, 1),
+        (88, 3),
+        (89, 1),
+        (90, 2),
+        (91, 578),
+        (92, 9),
+        (94, 1),
+        (104, 4),
+        (105, 1),
+        (106, 6),
+        (107, 592),
+        (108, 1),
         (576, 1),
         (577, 7),
         (578, 9),
         (592, 1),
     ];
-    let words = words_of(alloc, &pairs, 832)?;
-    let mut region = PlainCells::new(alloc, 100000);
-    region.load(words.as_slice())?;
-    region.reserve(153)?;
-    Ok(region)
+    region_of(alloc, &pairs)
+}
+
+// Each record in a bucket of its own: the first, the second, the fourth and the fifth.
+fn narrow_region(alloc: Global) -> Result<PlainCells, Fail>
+    ensures cells { IfOk result (λ region. ⟦<PlainCells as Device>⟧.cells region ≡ loaded (words_in running_narrow 832)) }
+    ensures spare { IfOk result (λ region. 153 ≤ ⟦<PlainCells as Device>⟧.spare region) }
+{
+    let pairs = [
+        (0, 5933297088048660481),
+        (1, 2),
+        (2, 1),
+        (3, 34),
+        (4, 16),
+        (5, 1),
+        (8, 32),
+        (9, 96),
+        (32, 48),
+        (48, 80),
+        (49, 32),
+        (80, 96),
+        (81, 48),
+        (97, 80),
+        (40, 1),
+        (41, 1),
+        (42, 1),
+        (43, 577),
+        (44, 5),
+        (45, 7),
+        (56, 2),
+        (57, 1),
+        (58, 1),
+        (59, 578),
+        (61, 9),
+        (62, 1),
+        (88, 3),
+        (89, 1),
+        (90, 2),
+        (91, 578),
+        (92, 9),
+        (94, 1),
+        (104, 4),
+        (105, 1),
+        (106, 6),
+        (107, 592),
+        (108, 1),
+        (576, 1),
+        (577, 7),
+        (578, 9),
+        (592, 1),
+    ];
+    region_of(alloc, &pairs)
+}
+
+// The table of a region's chains.
+fn table_of<D: Device>(alloc: Global, device: &D, layout: Layout) -> Result<UsedBuckets, Fail>
+    requires { IsTested (layout_shape layout) (D.cells device.now) }
+    ensures { IfOk result (λ table. KnowsRegion layout table (D.cells device.now)) }
+{
+    let mut table = UsedBuckets::with_memory(alloc, layout)?;
+    table.read(device, layout);
+    Ok(table)
 }
 
 // A record of the transaction that isn't an end.
@@ -132,35 +218,42 @@ fn record(
     }
 }
 
-// The gates of the region's records.
+// The gates of the records.
 fn small_gates(alloc: Global) -> Result<Gates, Fail>
     ensures { IfOk result (λ gates. HasRunningGates gates) }
 {
     let mut gates = Gates::with_memory(alloc, 6, 1, 1)?;
     put(&mut gates.gates, 40);
-    put(&mut gates.gates, 48);
     put(&mut gates.gates, 56);
-    put(&mut gates.gates, 64);
+    put(&mut gates.gates, 88);
+    put(&mut gates.gates, 104);
     Ok(gates)
 }
 
 // Undoes the transaction.
-fn undo_small<D: Device>(device: &mut D, layout: Layout, next: &mut u64, gates: &mut Gates) -> Done
-    requires shape { layout_shape layout ≡ small }
-    requires cells { D.cells device.old ≡ loaded (words_in running 832) }
+fn undo_small<D: Device>(
+    device: &mut D,
+    layout: Layout,
+    next: &mut u64,
+    gates: &mut Gates,
+    table: &mut UsedBuckets,
+) -> Done
+    requires tested { IsTested (layout_shape layout) (D.cells device.old) }
     requires spare { 153 ≤ D.spare device.old }
     requires next { next.old ≡ 5 }
     requires gates { HasRunningGates gates.old }
+    requires table { KnowsRegion layout table.old (D.cells device.old) }
     ensures made { result ≡ Done.Made → (first y : State) × CanCheckpoint layout next.new gates.new first y (D.cells device.new) }
-    ensures spare_left { 37 ≤ D.spare device.new }
+    ensures spare_left { layout.cells + 21 ≤ D.spare device.new }
+    ensures table { result ≡ Done.Made → KnowsRegion layout table.new (D.cells device.new) }
 {
     let records = [
         record(40, 1, UPDATE, 577, 5, 7, 0),
-        record(48, 2, UPDATE, 578, 0, 9, 1),
-        record(56, 3, COMPENSATION, 578, 9, 0, 1),
-        record(64, 4, DELETION, 592, 1, 0, 0),
+        record(56, 2, UPDATE, 578, 0, 9, 1),
+        record(88, 3, COMPENSATION, 578, 9, 0, 1),
+        record(104, 4, DELETION, 592, 1, 0, 0),
     ];
-    undo(device, layout, 1, &records, next, gates)
+    undo(device, layout, 1, &records, next, gates, table)
 }
 
 fn word<W: Look>(words: &W, a: u32) -> u64 {
@@ -184,40 +277,87 @@ fn a_transaction_is_undone_and_a_checkpoint_follows(rt: HostRuntime) -> Result<(
     let layout = small_layout();
     let mut region = small_region(alloc)?;
     let mut gates = small_gates(alloc)?;
+    let mut table = table_of(alloc, &region, layout)?;
     let mut next = 5;
-    match undo_small(&mut region, layout, &mut next, &mut gates) {
+    match undo_small(&mut region, layout, &mut next, &mut gates, &mut table) {
         Done::Stopped => return Err("stopped".into()),
         Done::Made => {}
     }
     // 10 + 1 + 10 + 1 + 1 + 10
     assert_eq!(rt; region.events(), 33);
-    check_cell(&rt, &region, 64, &[4, 1, 6, 592, 1, 0, 0, 0]);
-    check_cell(&rt, &region, 72, &[5, 1, 3, 0, 0, 0, 0, 0]);
-    check_cell(&rt, &region, 80, &[6, 1, 2, 577, 7, 5, 0, 0]);
-    check_cell(&rt, &region, 88, &[7, 1, 4, 0, 0, 0, 0, 2]);
+    check_cell(&rt, &region, 104, &[4, 1, 6, 592, 1, 0, 0, 0]);
+    check_cell(&rt, &region, 48, &[5, 1, 3, 0, 0, 0, 0, 0]);
+    check_cell(&rt, &region, 64, &[6, 1, 2, 577, 7, 5, 0, 0]);
+    check_cell(&rt, &region, 72, &[7, 1, 4, 0, 0, 0, 0, 2]);
     check_cell(&rt, &region, 576, &[1, 5, 0, 0]);
     check_cell(&rt, &region, 592, &[1, 0]);
     assert_eq!(rt; next, 8);
-    match append_checkpoint(&mut region, layout, &mut next, &mut gates) {
+    match append_checkpoint(&mut region, layout, &mut next, &mut gates, &mut table) {
         Done::Stopped => return Err("stopped".into()),
         Done::Made => {}
     }
     assert_eq!(rt; region.events(), 43);
-    check_cell(&rt, &region, 96, &[8, 0, 5, 0, 0, 0, 0, 0]);
+    check_cell(&rt, &region, 80, &[8, 0, 5, 0, 0, 0, 0, 0]);
     check_cell(&rt, &region, 8, &[32, 32, 0]);
     assert_eq!(rt; next, 9);
-    assert_eq!(rt; gates.gates.as_slice(), [40, 48, 56, 64, 72, 80].as_slice());
-    assert_eq!(rt; gates.ends.as_slice(), [88].as_slice());
-    assert_eq!(rt; gates.checkpoints.as_slice(), [96].as_slice());
+    assert_eq!(rt;
+        gates.gates.as_slice(),
+        [40, 56, 88, 104, 48, 64].as_slice()
+    );
+    assert_eq!(rt; gates.ends.as_slice(), [72].as_slice());
+    assert_eq!(rt; gates.checkpoints.as_slice(), [80].as_slice());
+    Ok(())
+}
+
+// With one cell a bucket each record takes one bucket more: the third one of the part first, which isn't in the chain, and
+// then the sixth and those behind it.
+#[test]
+fn an_undo_puts_buckets_behind_the_chain(rt: HostRuntime) -> Result<(), Fail> {
+    let alloc = rt.alloc();
+    let layout = narrow_layout();
+    let mut region = narrow_region(alloc)?;
+    let mut gates = small_gates(alloc)?;
+    let mut table = table_of(alloc, &region, layout)?;
+    let mut next = 5;
+    match undo_small(&mut region, layout, &mut next, &mut gates, &mut table) {
+        Done::Stopped => return Err("stopped".into()),
+        Done::Made => {}
+    }
+    // 22 + 1 + 22 + 1 + 1 + 22
+    assert_eq!(rt; region.events(), 69);
+    check_cell(&rt, &region, 8, &[32, 128, 0]);
+    check_cell(&rt, &region, 96, &[64, 80]);
+    check_cell(&rt, &region, 64, &[112, 96]);
+    check_cell(&rt, &region, 72, &[5, 1, 3, 0, 0, 0, 0, 0]);
+    check_cell(&rt, &region, 112, &[128, 64]);
+    check_cell(&rt, &region, 120, &[6, 1, 2, 577, 7, 5, 0, 0]);
+    check_cell(&rt, &region, 128, &[0, 112]);
+    check_cell(&rt, &region, 136, &[7, 1, 4, 0, 0, 0, 0, 2]);
+    check_cell(&rt, &region, 576, &[1, 5, 0, 0]);
+    match append_checkpoint(&mut region, layout, &mut next, &mut gates, &mut table) {
+        Done::Stopped => return Err("stopped".into()),
+        Done::Made => {}
+    }
+    assert_eq!(rt; region.events(), 91);
+    check_cell(&rt, &region, 128, &[144, 112]);
+    check_cell(&rt, &region, 152, &[8, 0, 5, 0, 0, 0, 0, 0]);
+    assert_eq!(rt;
+        gates.gates.as_slice(),
+        [40, 56, 88, 104, 72, 120].as_slice()
+    );
+    assert_eq!(rt; gates.ends.as_slice(), [136].as_slice());
+    assert_eq!(rt; gates.checkpoints.as_slice(), [152].as_slice());
     Ok(())
 }
 
 // A stop behind so many events of the undo. The old word of the update that was compensated before is the eleventh.
 fn stop_undo(rt: &impl Abort, alloc: Global, stop: u64) -> Result<(), Fail> {
+    let layout = small_layout();
     let mut cut = Cut::new(small_region(alloc)?, stop);
     let mut gates = small_gates(alloc)?;
+    let mut table = table_of(alloc, &cut, layout)?;
     let mut next = 5;
-    let done = undo_small(&mut cut, small_layout(), &mut next, &mut gates);
+    let done = undo_small(&mut cut, layout, &mut next, &mut gates, &mut table);
     assert_eq!(rt; done, Done::Stopped);
     assert_eq!(rt; cut.events(), stop);
     assert_eq!(rt; word(&cut, 578), if stop < 11 { 9 } else { 0 });

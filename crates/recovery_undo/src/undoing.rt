@@ -2,7 +2,7 @@
 ghost use Rattle.std.specs.Prelude.{◌≡◌, ◌≢◌, ◌≤◌, ◌<◌, ◌+◌, ◌*◌, ◌-◌, ◌^◌, ◌==◌, ◌∷◌, [], ℕ, length, map, reverse};
 ghost use Rattle.std.specs.List.{list_any};
 ghost use Rattle.persist_model.specs.Records.{Log};
-ghost use Rattle.persist_model.specs.Shape.{part_of};
+ghost use Rattle.persist_model.specs.Shape.{part_of as part_of_shape};
 ghost use Rattle.persist_model.specs.State.{State};
 ghost use Rattle.log_laws.specs.Parts.{EachKeeps};
 ghost use Rattle.region_layout.specs.Layout.{layout_shape};
@@ -14,8 +14,8 @@ ghost use Rattle.recovery_undo.specs.Undoing.{undo_events, CanUndo, IsUndone};
 ghost use Rattle.recovery_undo.specs.Passing.{seen, Start, HasGone, CanNote, Begins, Passes, Finishes, Halts};
 
 use crate::appending::{Appended, append_record};
-use crate::target::{Target, compensation_cell, partition_of, plain_cell};
-use bucket_log::Placed;
+use crate::target::{Target, compensation_cell, plain_cell};
+use bucket_log::{Placed, part_of};
 use lane_traits::{Device, Done};
 use log_partition::UsedBuckets;
 use recovery_run::{Gates, fence, put, store};
@@ -35,7 +35,7 @@ fn append_note<D: Device>(
     requires table { KnowsRegion target.layout table.old (D.cells device.old) }
     ensures made { result ≡ Done.Made → (start : Start) (z : State) (left : ℕ)
         → HasGone target start z left next.old gates.old (seen (D.cells device.old) (D.counts device.old) (D.spare device.old)) → CanNote target start.state z cell.now
-        → (at : ℕ) × (part_of (layout_shape target.layout) at ≡ target.partition)
+        → (at : ℕ) × (part_of_shape (layout_shape target.layout) at ≡ target.partition)
         × HasGone target start (with_cell z target.partition cell.now at) left next.new gates.new (seen (D.cells device.new) (D.counts device.new) (D.spare device.new)) }
     ensures stopped { result ≡ Done.Stopped → (start : Start) (z : State) (left : ℕ)
         → HasGone target start z left next.old gates.old (seen (D.cells device.old) (D.counts device.old) (D.spare device.old)) → CanNote target start.state z cell.now
@@ -216,7 +216,15 @@ fn pass<D: Device>(
     let mut left = records.len();
     while left > 0 {
         left -= 1;
-        match turn(device, target, &records[left], &mut counter, next, gates, table) {
+        match turn(
+            device,
+            target,
+            &records[left],
+            &mut counter,
+            next,
+            gates,
+            table,
+        ) {
             Done::Stopped => return Done::Stopped,
             Done::Made => {}
         }
@@ -289,8 +297,8 @@ fn undo_target<D: Device>(
 /// Undoes a running transaction: a rollback record, the compensations that are missing, the old words, and an end.
 ///
 /// `records` are the transaction's, oldest first. `next` is the number after all, and is raised. The gates of what is appended
-/// are put into `gates`, in memory that is there. The table has the chains, before and behind it. A stop leaves what recovery
-/// undoes again.
+/// are put into `gates`, in memory that is there. The table has the chains of all partitions, before and behind it. A stop leaves
+/// what recovery undoes again, and nothing is said of the table then.
 pub fn undo<D: Device>(
     device: &mut D,
     layout: Layout,
@@ -316,7 +324,7 @@ pub fn undo<D: Device>(
     let target = Target {
         layout,
         transaction,
-        partition: partition_of(layout, records[0].at),
+        partition: part_of(layout, records[0].at),
     };
     undo_target(device, target, records, next, gates, table)
 }

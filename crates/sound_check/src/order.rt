@@ -14,8 +14,8 @@ ghost use Rattle.log_tables.specs.Passed.{IsPast};
 ghost use Rattle.sound_check.specs.Barring.{names_word as names_word_of, is_barring as is_barring_of, compensates as compensates_it, IsClaim};
 
 use crate::fault::CheckFault;
-use bucket_log::Placed;
-use log_tables::{Past, Summaries, Summary, part_of};
+use bucket_log::{Placed, part_of};
+use log_tables::{Past, Summaries, Summary};
 use persist_model::format::{CHECKPOINT, COMPENSATION, DELETION, ROLLBACK, UPDATE};
 use region_layout::{ImageFault, Layout};
 use std::alloc::Global;

@@ -1,7 +1,7 @@
 use Rattle.std.proofs.Common.{refl}
 use Rattle.bucket_log.specs.Plans.{place_address}
 use Rattle.bucket_log.specs.States.{less_room}
-use Rattle.recovery_undo.proofs.Chains.{knows_appended}
+use Rattle.recovery_undo.proofs.ChainsBehind.{knows_appended}
 use Rattle.recovery_undo.proofs.Taking.{is_append, cell_taken, in_part, off_header, within, keeps_header, stays_quiet}
 use Rattle.region_layout.specs.Cell.{record_of}
 use Rattle.region_layout.specs.Layout.{layout_shape}

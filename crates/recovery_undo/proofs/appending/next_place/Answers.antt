@@ -62,3 +62,6 @@ pub returns-clause-in_part : goal.returns-clause-in_part
 returns-clause-in_part g c =
     let at = c.requires.can in
     place_in_part c.args.layout at.0 at.1 (g.D.Device.cells c.args.device.now) at.2 c.args.p c.requires.part c.in-Some.found (next_is g c)
+
+pub returns-clause-table : goal.returns-clause-table
+returns-clause-table g c = c.least-least.ensures.knows (chains_in (layout_shape c.args.layout) (newest_at (g.D.Device.cells c.args.device.now))) c.requires.table

@@ -5,14 +5,14 @@ use Rattle.recovery_undo.proofs.Stepping.{no_placed, newest_of, passes_on}
 use Rattle.recovery_undo.proofs.undoing.pass.Goals as goal
 
 -- what is left to pass begins with the record at the index
-begins_with : (g : _) (c : goal.After-turn-arg-in-loop-left-2-1 g) → reverse (map record_of_placed (take c.loop-left.left c.args.records.now))
+begins_with : (g : _) (c : goal.After-turn-arg-in-loop-left-3-1 g) → reverse (map record_of_placed (take c.loop-left.left c.args.records.now))
     ≡ record_of_placed (get_or c.args.records.now (c.loop-left.left - 1) no_placed) ∷ reverse (map record_of_placed (take (c.loop-left.left - 1) c.args.records.now))
 begins_with g c =
     let bound = c.loop-left.invariant.bound in
     let some = c.loop-left-test.true in
     newest_of c.args.records.now (c.loop-left.left - 1) c.loop-left.left no_placed (omega (arith, bound, some)) (omega (arith, some))
 
-whole : (g : _) (c : goal.After-turn-arg-in-loop-left-2-1 g) (start : Start)
+whole : (g : _) (c : goal.After-turn-arg-in-loop-left-3-1 g) (start : Start)
     → Passes c.args.target start (reverse (map record_of_placed c.args.records.now)) 0 c.args.next.now c.args.gates.now (seen (g.D.Device.cells c.args.device.now) (g.D.Device.counts c.args.device.now) (g.D.Device.spare c.args.device.now))
     → Passes c.args.target start (record_of_placed (get_or c.args.records.now (c.loop-left.left - 1) no_placed) ∷ reverse (map record_of_placed (take (c.loop-left.left - 1) c.args.records.now)))
     c.loop-left.counter c.loop-left.next c.loop-left.gates (seen (g.D.Device.cells c.loop-left.device) (g.D.Device.counts c.loop-left.device) (g.D.Device.spare c.loop-left.device))

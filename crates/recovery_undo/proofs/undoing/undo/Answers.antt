@@ -16,29 +16,29 @@ undo_target-requires-clause-begins g c =
     let at = c.requires.can in (
       (start_of c.args.layout c.args.transaction c.args.records.now c.args.gates.now at.0 at.1 (seen (g.D.Device.cells c.args.device.now) (g.D.Device.counts c.args.device.now) (g.D.Device.spare c.args.device.now))),
       (begins c.args.layout c.args.transaction c.args.next.now c.args.records.now c.args.gates.now at.0 at.1 (seen (g.D.Device.cells c.args.device.now) (g.D.Device.counts c.args.device.now) (g.D.Device.spare c.args.device.now)) at.2
-          c.partition_of.result _ no_placed c.partition_of.ensures.is),
+          c.part_of.result _ no_placed c.part_of.ensures.is),
     )
 
 pub returns-clause-made : goal.returns-clause-made
 returns-clause-made g c = λ made first y h.
     (c.undo_target.ensures.made made (start_of c.args.layout c.args.transaction c.args.records.now c.args.gates.now first y (seen (g.D.Device.cells c.args.device.now) (g.D.Device.counts c.args.device.now) (g.D.Device.spare c.args.device.now)))
     (begins c.args.layout c.args.transaction c.args.next.now c.args.records.now c.args.gates.now first y (seen (g.D.Device.cells c.args.device.now) (g.D.Device.counts c.args.device.now) (g.D.Device.spare c.args.device.now)) h
-    c.partition_of.result _ no_placed c.partition_of.ensures.is)).undone
+    c.part_of.result _ no_placed c.part_of.ensures.is)).undone
 
 pub returns-clause-stopped : goal.returns-clause-stopped
 returns-clause-stopped g c = λ stopped first y h.
     (c.undo_target.ensures.stopped stopped (start_of c.args.layout c.args.transaction c.args.records.now c.args.gates.now first y (seen (g.D.Device.cells c.args.device.now) (g.D.Device.counts c.args.device.now) (g.D.Device.spare c.args.device.now)))
     (begins c.args.layout c.args.transaction c.args.next.now c.args.records.now c.args.gates.now first y (seen (g.D.Device.cells c.args.device.now) (g.D.Device.counts c.args.device.now) (g.D.Device.spare c.args.device.now)) h
-    c.partition_of.result _ no_placed c.partition_of.ensures.is)).keeps
+    c.part_of.result _ no_placed c.part_of.ensures.is)).keeps
 
 -- however it ends, so much is spent at most
 spent : (g : _) (c : goal.After-undo_target g) (first y : _) → CanUndo c.args.layout c.args.transaction c.args.records.now c.args.next.now c.args.gates.now first y (g.D.Device.cells c.args.device.now) (g.D.Device.spare c.args.device.now) →
     HasSpent (layout_shape c.args.layout) (undo_events c.args.layout c.args.transaction c.args.records.now y.log) c.undo_target.result (seen (g.D.Device.cells c.args.device.now) (g.D.Device.counts c.args.device.now) (g.D.Device.spare c.args.device.now)) (seen (g.D.Device.cells c.undo_target.new.device) (g.D.Device.counts c.undo_target.new.device) (g.D.Device.spare c.undo_target.new.device))
 spent g c first y h = all_spent _ (start_of c.args.layout c.args.transaction c.args.records.now c.args.gates.now first y (seen (g.D.Device.cells c.args.device.now) (g.D.Device.counts c.args.device.now) (g.D.Device.spare c.args.device.now))) c.undo_target.result c.undo_target.new.next c.undo_target.new.gates (seen (g.D.Device.cells c.undo_target.new.device) (g.D.Device.counts c.undo_target.new.device) (g.D.Device.spare c.undo_target.new.device))
     (λ made. c.undo_target.ensures.made made (start_of c.args.layout c.args.transaction c.args.records.now c.args.gates.now first y (seen (g.D.Device.cells c.args.device.now) (g.D.Device.counts c.args.device.now) (g.D.Device.spare c.args.device.now))) (begins c.args.layout c.args.transaction c.args.next.now c.args.records.now c.args.gates.now first y (seen (g.D.Device.cells c.args.device.now) (g.D.Device.counts c.args.device.now) (g.D.Device.spare c.args.device.now)) h
-    c.partition_of.result _ no_placed c.partition_of.ensures.is))
+    c.part_of.result _ no_placed c.part_of.ensures.is))
     (λ stopped. c.undo_target.ensures.stopped stopped (start_of c.args.layout c.args.transaction c.args.records.now c.args.gates.now first y (seen (g.D.Device.cells c.args.device.now) (g.D.Device.counts c.args.device.now) (g.D.Device.spare c.args.device.now))) (begins c.args.layout c.args.transaction c.args.next.now c.args.records.now c.args.gates.now first y (seen (g.D.Device.cells c.args.device.now) (g.D.Device.counts c.args.device.now) (g.D.Device.spare c.args.device.now)) h
-    c.partition_of.result _ no_placed c.partition_of.ensures.is))
+    c.part_of.result _ no_placed c.part_of.ensures.is))
 
 pub returns-clause-counted : goal.returns-clause-counted
 returns-clause-counted g c = λ first y h. (spent g c first y h).counted
