@@ -14,6 +14,7 @@ ghost use Rattle.recovery_passes.specs.declared.recovering.RecoverFault.{Recover
 
 use crate::making::make_events;
 use lane_traits::{Device, Done};
+use log_partition::UsedBuckets;
 use persist_model::{List, Look, NoMemory};
 use recovery_analysis::{Work, work_of};
 use region_layout::{ImageFault, Layout};
@@ -135,6 +136,7 @@ pub fn recover<D: Device>(alloc: Global, device: &mut D) -> Result<Recovered, Re
         next,
         most,
     } = work;
+    let table = UsedBuckets::with_memory(alloc, layout)?;
     make_room(device, most)?;
     let before = device.events();
     let done = make_events(
@@ -145,6 +147,7 @@ pub fn recover<D: Device>(alloc: Global, device: &mut D) -> Result<Recovered, Re
         checkpoint,
         next,
         gates,
+        table,
     );
     match done {
         Done::Stopped => Err(RecoverFault::Stopped),

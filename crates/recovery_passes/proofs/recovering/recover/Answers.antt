@@ -12,8 +12,8 @@ use Rattle.recovery_passes.proofs.Results.{sound_read, start_of, read_state, pla
 use Rattle.recovery_passes.specs.declared.recovering.RecoverFault.TheVariants.{Unsound}
 use Rattle.recovery_passes.proofs.recovering.recover.Goals as goal
 
-pub make_events-done-requires : goal.make_events-done-requires
-make_events-done-requires g c =
+pub make_events-done-requires-clause-can : goal.make_events-done-requires-clause-can
+make_events-done-requires-clause-can g c =
     let layout = c.in-Ok.layout in
     let words = g.D.Look.words c.args.device.now in
     let old = g.D.Device.cells c.args.device.now in
