@@ -19,7 +19,7 @@ use std::alloc::Global;
 pub struct UsedBuckets {
     // A mark for each bucket of the region.
     used: Vec<bool>,
-    // Of each partition the number from which its buckets are looked at. Those before it are marked.
+    // Of each partition the number from which its buckets are looked at. Once the table is read, those before it are marked.
     from: Vec<u32>,
 }
 
