@@ -29,6 +29,12 @@ loaded_settled words a below = refl
 pub reads_loaded : (words : List ℕ) → newest_at (loaded words) ≡ slice_index words
 reads_loaded words = ap (λ (ws : List ℕ). slice_index ws) (newest_loaded words)
 
+pub sound_loaded : (words : List ℕ) (cells : Region) → cells ≡ loaded words → IsSound (length words) (slice_index words) → IsSound cells.size (newest_at cells)
+sound_loaded words cells is sound = subst (λ (r : Region). IsSound r.size (newest_at r)) (sym is) (subst (IsSound (length words)) (sym (reads_loaded words)) sound)
+
+pub shape_loaded : (words : List ℕ) (cells : Region) (shape : Shape) → cells ≡ loaded words → shape ≡ shape_of (slice_index words) → shape ≡ shape_of (newest_at cells)
+shape_loaded words cells shape is same = same ∙ sym (ap (λ (w : Words). shape_of w) (ap newest_at is ∙ reads_loaded words))
+
 -- ---- its header stays
 
 list_words_low : (p : ℕ) → 8 ≤ list_words p

@@ -2,7 +2,6 @@
 use Rattle.std.proofs.Common.{◌≡◌, ℕ, ◌+◌, ◌≤◌, List, length, refl, sym, ◌∙◌, ap, subst, arith}
 use Rattle.persist_model.specs.Region.{Words, Region, AreSettled, loaded, newest_words}
 use Rattle.persist_model.specs.Shape.{Shape, shape_of, heap}
-use Rattle.persist_model.specs.Faults.{IsFirstFault}
 use Rattle.persist_model.proofs.Images.{AreFull, length-newest_words}
 use Rattle.lane_traits.specs.Device.{Counts, counted, since_load, MAX_WORDS}
 use Rattle.region_layout.specs.declared.layout.Kind.{Kind}
@@ -18,9 +17,9 @@ use Rattle.image_runner.specs.declared.runner.Wanted.{Wanted}
 use Rattle.image_runner.specs.declared.runner.Wanted.TheVariants as want
 use Rattle.image_runner.specs.declared.runner.Ended.{Ended}
 use Rattle.image_runner.specs.declared.runner.Ended.TheVariants as ended
-use Rattle.image_runner.specs.Ends.{AreStanding, words_of, IsAdmitted, IsRefusedBy, unsound, IsLoaded, IsRecovered, WasRecovered, IsTold, IsHalted, unmade, behind, IsEndOfImage}
-use Rattle.recovery_passes.specs.declared.recovering.RecoverFault.{RecoverFault}
-use Rattle.recovery_passes.specs.declared.recovering.RecoverFault.TheVariants as failed
+use Rattle.image_runner.specs.Ends.{AreStanding, words_of, IsAdmitted, IsRefusedBy, IsLoaded, IsRecovered, WasRecovered, IsTold, IsHalted, unmade, behind, IsEndOfImage}
+use Rattle.recovery_passes.specs.declared.recovering.Unfinished.{Unfinished}
+use Rattle.recovery_passes.specs.declared.recovering.Unfinished.TheVariants as failed
 use Rattle.sound_check.specs.declared.fault.CheckFault.{CheckFault}
 use Rattle.sound_check.specs.declared.fault.CheckFault.TheVariants as refusal
 use Rattle.image_runner.specs.Tells.{end_of_refusal, end_of_fault, Tells, TellsText}
@@ -57,13 +56,6 @@ module _ (i : Image) (cells later : Region) (before counts later_counts : Counts
   back : (P : ℕ → Words → Type 0) → P (length i.words) (words_of i) → P cells.size (newest_at cells)
   back P h = subst (λ (w : Words). P cells.size w) (sym reads) (subst (λ n. P n (words_of i)) (sym (ap (λ (r : Region). r.size) is_loaded)) h)
 
-  pub unsound_end : (found : ImageFault) → IsFirstFault cells.size (newest_at cells) found.fault found.addr → later ≡ cells → later_counts ≡ counts
-      → IsRefusedBy i found.fault found.addr × IsLoaded i before later later_counts
-  unsound_end found first same_cells same_counts = (
-    unsound (there (λ n w. IsFirstFault n w found.fault found.addr) first),
-    record { words = same_cells ∙ is_loaded; unmade = same_counts ∙ since },
-  )
-
   pub halted_end : HasHalted cells later counts later_counts → IsHalted i before later later_counts
   halted_end h = record {
     admitted = admitted;
@@ -74,16 +66,12 @@ module _ (i : Image) (cells later : Region) (before counts later_counts : Counts
   }
 
   -- what is promised of a recovery that wasn't finished, whatever its fault
-  pub record HasFailed (fault : RecoverFault) : Type 0 where
-    pub unsound_first : (found : ImageFault) → fault ≡ failed.Unsound found → IsFirstFault cells.size (newest_at cells) found.fault found.addr
-    pub unsound_cells : (found : ImageFault) → fault ≡ failed.Unsound found → later ≡ cells
-    pub unsound_counts : (found : ImageFault) → fault ≡ failed.Unsound found → later_counts ≡ counts
+  pub record HasFailed (fault : Unfinished) : Type 0 where
     pub memory_cells : fault ≡ failed.NoMemory → later ≡ cells
     pub memory_counts : fault ≡ failed.NoMemory → later_counts ≡ counts
     pub halted : fault ≡ failed.Stopped → HasHalted cells later counts later_counts
 
-  pub failed_end : (wanted : Wanted) (region : Region) (fault : RecoverFault) → HasFailed fault → IsEndOfImage wanted i region before later later_counts (end_of_fault fault)
-  failed_end wanted region (failed.Unsound found) h = unsound_end found (h.unsound_first found refl) (h.unsound_cells found refl) (h.unsound_counts found refl)
+  pub failed_end : (wanted : Wanted) (region : Region) (fault : Unfinished) → HasFailed fault → IsEndOfImage wanted i region before later later_counts (end_of_fault fault)
   failed_end wanted region failed.Stopped h = halted_end (h.halted refl)
   failed_end wanted region failed.NoMemory h = unmade (record { words = h.memory_cells refl ∙ is_loaded; unmade = h.memory_counts refl ∙ since })
 

@@ -11,8 +11,8 @@ use Rattle.image_runner.specs.declared.runner.Ended.{Ended}
 use Rattle.image_runner.specs.declared.runner.Ended.TheVariants as ended
 use Rattle.sound_check.specs.declared.fault.CheckFault.{CheckFault}
 use Rattle.sound_check.specs.declared.fault.CheckFault.TheVariants as refusal
-use Rattle.recovery_passes.specs.declared.recovering.RecoverFault.{RecoverFault}
-use Rattle.recovery_passes.specs.declared.recovering.RecoverFault.TheVariants as fault
+use Rattle.recovery_passes.specs.declared.recovering.Unfinished.{Unfinished}
+use Rattle.recovery_passes.specs.declared.recovering.Unfinished.TheVariants as unfinished
 use Rattle.image_runner.specs.Maps.{HoldMaps, IsFirstBroken}
 
 -- the end that a refused image comes to
@@ -21,10 +21,9 @@ end_of_refusal (refusal.Unsound found) = ended.Unsound found
 end_of_refusal refusal.NoMemory = ended.NoMemory
 
 -- the end that a recovery which wasn't finished comes to
-abbrev pub end_of_fault : RecoverFault → Ended
-end_of_fault (fault.Unsound found) = ended.Unsound found
-end_of_fault fault.Stopped = ended.Stopped
-end_of_fault fault.NoMemory = ended.NoMemory
+abbrev pub end_of_fault : Unfinished → Ended
+end_of_fault unfinished.Stopped = ended.Stopped
+end_of_fault unfinished.NoMemory = ended.NoMemory
 
 -- the report of a recovery, with the maps that these words hold
 pub record TellsReport (heap : ℕ) (kinds : List Kind) (done : Recovered) (words : List ℕ) (text : List ℕ) : Type 0 where

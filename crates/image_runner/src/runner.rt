@@ -14,7 +14,7 @@ use crate::maps::{MapFault, read_maps};
 use image_text::{Image, TextFault, read_image, write_image};
 use lane_traits::Device;
 use persist_model::{List, Look, NoMemory};
-use recovery_passes::{RecoverFault, Recovered, recover};
+use recovery_passes::{Recovered, Unfinished, recover_sound};
 use region_layout::{ImageFault, Kind, Layout};
 use rewind_script::{RecoveryReport, write_recovery};
 use sound_check::CheckFault;
@@ -123,7 +123,7 @@ fn recover_loaded<D: Device>(
     ensures { (before : Region) (counts : Counts) → D.counts region.old ≡ since_load counts
         → IsEndOfImage wanted image.now before counts (D.cells region.new) (D.counts region.new) result }
 {
-    match recover(alloc, region) {
+    match recover_sound(alloc, region, layout) {
         Err(fault) => end_of_fault(fault),
         Ok(done) => tell(
             alloc,
@@ -136,13 +136,12 @@ fn recover_loaded<D: Device>(
     }
 }
 
-fn end_of_fault(fault: RecoverFault) -> Ended
+fn end_of_fault(fault: Unfinished) -> Ended
     ensures { result ≡ end_of_fault fault }
 {
     match fault {
-        RecoverFault::Unsound(found) => Ended::Unsound(found),
-        RecoverFault::Stopped => Ended::Stopped,
-        RecoverFault::NoMemory => Ended::NoMemory,
+        Unfinished::Stopped => Ended::Stopped,
+        Unfinished::NoMemory => Ended::NoMemory,
     }
 }
 

@@ -24,14 +24,17 @@ use Rattle.recovery_analysis.specs.declared.working.Work.{Work}
 use Rattle.recovery_analysis.specs.Grouping.{IsAscending as IsRising}
 use Rattle.recovery_analysis.specs.Analyses.{AreThose}
 use Rattle.recovery_analysis.specs.Works.{IsWorkOf, appends_of}
+use Rattle.recovery_analysis.specs.Conditions.{IsSoundImage}
 use Rattle.persist_model.specs.Faults.{FaultSet, IsFirstFault}
 use Rattle.region_layout.specs.declared.reading.ImageFault.{ImageFault}
 use Rattle.sound_check.specs.declared.fault.CheckFault.{CheckFault}
 use Rattle.sound_check.specs.declared.fault.CheckFault.TheVariants.{Unsound as Faulty, NoMemory as Refused}
 use Rattle.sound_check.specs.Faulty.{IfUnsound}
 use Rattle.recovery_passes.specs.declared.recovering.RecoverFault.{RecoverFault}
-use Rattle.recovery_passes.specs.declared.recovering.RecoverFault.TheVariants.{Unsound, Stopped as Halted}
-use Rattle.recovery_passes.specs.Refusals.{recover_fault, IfRefused}
+use Rattle.recovery_passes.specs.declared.recovering.RecoverFault.TheVariants.{Unsound, Stopped as Halted, NoMemory as Short}
+use Rattle.recovery_passes.specs.declared.recovering.Unfinished.{Unfinished}
+use Rattle.recovery_passes.specs.declared.recovering.Unfinished.TheVariants as unfinished
+use Rattle.recovery_passes.specs.Refusals.{recover_fault, unfinished_fault, IfRefused}
 use Rattle.recovery_passes.specs.Recovered.{IsFinished, Restores, EachStands, IsAscending, Lists, AreFates, HasNeed, with_checkpoint, forced, settled as no_checkpoint, most_events, AreFew}
 use Rattle.recovery_passes.specs.Stages.{AreQuiet, AreShort, IsIdle}
 use Rattle.recovery_passes.specs.Passing.{IsCleared}
@@ -43,21 +46,32 @@ pub sound_read : (words : List ℕ) (region : Region) → words ≡ newest_words
 sound_read words region is sound =
     subst (λ n. IsSound n (newest_at region)) (length-newest_words region) (subst (λ (xs : List ℕ). IsSound (length xs) (slice_index xs)) is sound)
 
+-- and its shape is the one that is read of it
+pub shape_read : (shape : Shape) (words : List ℕ) (region : Region) → words ≡ newest_words region → shape ≡ shape_of (slice_index words) → shape ≡ shape_of (newest_at region)
+shape_read shape words region is same = same ∙ ap (λ (xs : List ℕ). shape_of (slice_index xs)) is
+
+-- and what is sound is read as that
+pub image_read : (layout : Layout) (words : List ℕ) (region : Region) → words ≡ newest_words region → IsSound region.size (newest_at region) → layout_shape layout ≡ shape_of (newest_at region) →
+    IsSoundImage layout (length words) (slice_index words)
+image_read layout words region is sound shape = record {
+  sound = subst (λ (xs : List ℕ). IsSound (length xs) (slice_index xs)) (sym is) (subst (λ n. IsSound n (newest_at region)) (sym (length-newest_words region)) sound);
+  has_layout = ap (λ (xs : List ℕ). shape_of (slice_index xs)) is ∙ sym shape;
+}
+
 -- what recovery begins with: a settled region with this sound state, and the layout that its header says
 pub record IsStart (layout : Layout) (old : Region) (s0 : State) : Type 0 where
   pub begun : IsBegun old s0
   pub shape_is : layout_shape layout ≡ shape_of (newest_at old)
 
-pub start_of : (layout : Layout) (words : List ℕ) (old : Region) → AreSettled old → (is : words ≡ newest_words old) → (sound : IsSound (length words) (slice_index words)) →
-    layout_shape layout ≡ shape_of (slice_index words) → IsStart layout old (sound_read words old is sound).state
-start_of layout words old settled is sound shape = record {
+pub start_of : (layout : Layout) (old : Region) → AreSettled old → (sound : IsSound old.size (newest_at old)) → layout_shape layout ≡ shape_of (newest_at old) → IsStart layout old sound.state
+start_of layout old settled sound shape = record {
   begun = record {
     settled = settled;
-    shape = (sound_read words old is sound).shape;
-    has = (sound_read words old is sound).has;
-    sound = (sound_read words old is sound).sound;
+    shape = sound.shape;
+    has = sound.has;
+    sound = sound.sound;
   };
-  shape_is = shape ∙ ap (λ (xs : List ℕ). shape_of (slice_index xs)) is;
+  shape_is = shape;
 }
 
 -- the words that were read have the state
@@ -170,6 +184,13 @@ module _ (layout : Layout) (old : Region) (s0 : State) (h : IsStart layout old s
     pub finished_short : AreShort (layout_shape layout) old
     finished_short = subst (λ (s : Shape). AreShort s old) (sym h.shape_is) done.few
 
+    pub idle_there : {redo : List Change} {running : List Transaction} {checkpoint : Bool} {next : ℕ} {gates : Gates} {most : ℕ} {now later : Region} {made : Done} {before after : Counts} →
+        IsPlanned layout s0 redo running checkpoint next gates most now → now ≡ old →
+        ((first : State) (m : ℕ) → IsPlanned layout first redo running checkpoint next gates m now → first.log ≡ [] → AreQuiet (layout_shape layout) now → AreShort (layout_shape layout) now → IsIdle made now later before after) →
+        IsIdle made now later before after
+    idle_there {most = most} planned same idle = idle s0 most planned finished_empty
+        (subst (λ (r : Region). AreQuiet (layout_shape layout) r) (sym same) finished_quiet) (subst (λ (r : Region). AreShort (layout_shape layout) r) (sym same) finished_short)
+
 -- ---- the counts
 
 pub made_counts : (most : ℕ) (before later : Counts) (events : ℕ) → HasCounted most Made before later → events ≡ later.events - before.events → later ≡ record before { events = before.events + events }
@@ -192,22 +213,31 @@ stopped_counts most before later h = h.is ∙ ap (λ n. record before { events =
 pub stopped_few : (most n : ℕ) (before later : Counts) → HasCounted most Stopped before later → before.events + n ≡ before.budget → n ≤ most
 stopped_few most n before later h is = let cause = h.cause refl in let few = h.few in omega (arith, is, cause, few)
 
-pub one_less : (layout : Layout) (s0 : State) (redo : List Change) (running : List Transaction) (checkpoint : Bool) (next : ℕ) (gates : Gates) (most : ℕ) (region : Region) →
-    IsPlanned layout s0 redo running checkpoint next gates most region → IsPlanned layout s0 redo running checkpoint next gates ((most - 1) + 1) region
-one_less layout s0 redo running checkpoint next gates most region h =
+-- ---- before the first event
+
+-- what recovery begins with, its work, and its plan for the device that has made room
+pub record IsReady (layout : Layout) (old now : Region) (s0 : State) (work : Work) (redo : List Change) (running : List Transaction) : Type 0 where
+  pub start : IsStart layout old s0
+  pub work_is : IsWorkOf (layout_shape layout) s0.log work
+  pub plan : IsPlanned layout s0 redo running work.checkpoint work.next work.gates work.most now
+
+pub ready_of : (layout : Layout) (words : List ℕ) (old now : Region) (s0 : State) (work : Work) (redo : List Change) (running : List Transaction) → words ≡ newest_words old → IsStart layout old s0 →
+    ((s : State) → HasState (layout_shape layout) (slice_index words) s → IsWorkOf (layout_shape layout) s.log work) → now ≡ old → redo ≡ work.redo → running ≡ work.undo → IsReady layout old now s0 work redo running
+ready_of layout words old now s0 work redo running is start reads same redo_is running_is =
+    let work_is = reads s0 (read_state layout words old s0 is start) in
+    record { start = start; work_is = work_is; plan = plan_of layout old s0 start now work redo running same work_is redo_is running_is }
+
+-- a plan has an event to spare
+pub counted_there : {layout : Layout} {s0 : State} {redo : List Change} {running : List Transaction} {checkpoint : Bool} {next : ℕ} {gates : Gates} {most spare : ℕ} {now : Region} {done : Done} {before taken later : Counts} →
+    IsPlanned layout s0 redo running checkpoint next gates most now → most ≤ spare → taken ≡ before →
+    ((first : State) (m : ℕ) → IsPlanned layout first redo running checkpoint next gates (m + 1) now → m + 1 ≤ spare → HasCounted m done taken later) → HasCounted (most - 1) done before later
+counted_there {layout = layout} {s0 = s0} {redo = redo} {running = running} {checkpoint = checkpoint} {next = next} {gates = gates} {most = most} {now = now} {done = done} {later = later} h enough same counted =
     let is = h.work.most in
-    let same : most ≡ (most - 1) + 1 = omega (arith, is) in
-    subst (λ n. IsPlanned layout s0 redo running checkpoint next gates n region) same h
+    let more : most ≡ (most - 1) + 1 = omega (arith, is) in
+    subst (λ (n : Counts). HasCounted (most - 1) done n later) same
+    (counted s0 (most - 1) (subst (λ n. IsPlanned layout s0 redo running checkpoint next gates n now) more h) (omega (arith, more, enough)))
 
 -- ---- a refusal
-
-pub refused_is : (fault : CheckFault) (faults : FaultSet) → IfUnsound fault faults → IfRefused (recover_fault fault) faults
-refused_is (Faulty x) faults there = there
-refused_is Refused faults there = tt
-
-pub never_halted : (fault : CheckFault) → recover_fault fault ≡ Halted → ⊥
-never_halted (Faulty x) e = cc
-never_halted Refused e = cc
 
 pub unsound_read : (words : List ℕ) (region : Region) → words ≡ newest_words region → (fault : RecoverFault) → IfRefused fault (IsFirstFault (length words) (slice_index words)) → (found : ImageFault) →
     fault ≡ Unsound found → IsFirstFault region.size (newest_at region) found.fault found.addr
@@ -218,3 +248,9 @@ unsound_read words region is fault there found same =
 
 pub err_is : {X : Type 0} (a b : RecoverFault) → ◌≡◌ {A = Result X RecoverFault} (Err a) (Err b) → a ≡ b
 err_is a b e = cc
+
+-- ---- a recovery that wasn't finished
+
+pub halted_is : (fault : Unfinished) → unfinished_fault fault ≡ Halted → fault ≡ unfinished.Stopped
+halted_is unfinished.Stopped e = refl
+halted_is unfinished.NoMemory e = cc

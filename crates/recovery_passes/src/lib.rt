@@ -11,6 +11,6 @@ mod recovering;
 mod redo;
 mod undoing;
 
-pub use recovering::{RecoverFault, Recovered, recover};
+pub use recovering::{RecoverFault, Recovered, Unfinished, recover, recover_sound};
 pub use recovery_analysis::{Analysis, analyse};
 pub use sound_check::{CheckFault, check};

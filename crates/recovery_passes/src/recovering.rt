@@ -8,9 +8,10 @@ ghost use Rattle.lane_traits.specs.Device.{counted};
 ghost use Rattle.recovery_run.specs.Edges.{KeepsWords, IsHeaderWord};
 ghost use Rattle.recovery_run.specs.Reached.{newest_at};
 ghost use Rattle.recovery_passes.specs.Recovered.{IsFinished, Restores, EachStands, AreFates, AreFew};
-ghost use Rattle.recovery_passes.specs.Refusals.{recover_fault, IfRefused};
+ghost use Rattle.recovery_passes.specs.Refusals.{recover_fault, unfinished_fault, IfRefused};
 ghost use Rattle.region_layout.specs.Layout.{layout_shape};
 ghost use Rattle.recovery_passes.specs.declared.recovering.RecoverFault.{RecoverFault};
+ghost use Rattle.recovery_passes.specs.declared.recovering.Unfinished.{Unfinished};
 
 use crate::making::make_events;
 use lane_traits::{Device, Done};
@@ -32,11 +33,20 @@ pub enum RecoverFault {
     NoMemory,
 }
 
-impl From<NoMemory> for RecoverFault {
-    ghost from_gives = { λ _ fault. fault ≡ RecoverFault.NoMemory };
+/// Why the recovery of a sound image wasn't finished.
+#[derive(Clone, Copy, Debug, PartialEq, Eq)]
+pub enum Unfinished {
+    /// The device has stopped. Each of its images is sound, with the same standing words, and can be recovered again.
+    Stopped,
+    /// Want of memory. No event was made, since all memory is taken first.
+    NoMemory,
+}
+
+impl From<NoMemory> for Unfinished {
+    ghost from_gives = { λ _ fault. fault ≡ Unfinished.NoMemory };
 
     fn from(_: NoMemory) -> Self {
-        RecoverFault::NoMemory
+        Unfinished::NoMemory
     }
 }
 
@@ -61,6 +71,16 @@ fn refused(fault: CheckFault) -> RecoverFault
     }
 }
 
+// What a recovery that wasn't finished is to one that checks first.
+fn fault_of(fault: Unfinished) -> RecoverFault
+    ensures { result ≡ unfinished_fault fault }
+{
+    match fault {
+        Unfinished::Stopped => RecoverFault::Stopped,
+        Unfinished::NoMemory => RecoverFault::NoMemory,
+    }
+}
+
 // The layout of a sound image.
 fn checked_layout<W: Look>(alloc: Global, words: &W) -> Result<Layout, RecoverFault>
     ensures shape { IfOk result (λ layout. layout_shape layout ≡ shape_of (slice_index (W.words words.now))) }
@@ -82,6 +102,74 @@ fn make_room<D: Device>(device: &mut D, stores: u64) -> Result<(), NoMemory>
     ensures counts { D.counts device.new ≡ D.counts device.old }
 {
     device.reserve(stores)
+}
+
+/// Recovers a device whose words are settled and a sound image of this layout, as `check` tells: each heap word then has
+/// its standing value, and the log is empty.
+///
+/// It repairs the lists of buckets, stores again what ended transactions wrote and a stop may have lost, takes back what
+/// running ones wrote, and closes all records. It makes its events as lane 16, takes all its memory before the first of
+/// them, and never wants room in the log that the image doesn't have.
+pub fn recover_sound<D: Device>(alloc: Global, device: &mut D, layout: Layout) -> Result<Recovered, Unfinished>
+    requires settled { AreSettled (D.cells device.old) }
+    requires sound { IsSound (D.cells device.old).size (newest_at (D.cells device.old)) }
+    requires shape { layout_shape layout ≡ shape_of (newest_at (D.cells device.old)) }
+    // What was read
+    ensures fates { IfOk result (λ done. AreFates (newest_at (D.cells device.old)) done.winners done.losers) }
+    // What stands at the end
+    ensures restored { OnOk result (Restores (newest_at (D.cells device.old)) (newest_at (D.cells device.new))) }
+    ensures settled { OnOk result (AreSettled (D.cells device.new)) }
+    ensures finished { OnOk result (IsFinished (D.cells device.new).size (newest_at (D.cells device.new))) }
+    ensures size { (D.cells device.new).size ≡ (D.cells device.old).size }
+    // The events
+    ensures events { IfOk result (λ done. D.counts device.new ≡ record (D.counts device.old) { events = (D.counts device.old).events + done.events }) }
+    ensures few { IfOk result (λ done. AreFew (newest_at (D.cells device.old)) done.events) }
+    ensures again { IsFinished (D.cells device.old).size (newest_at (D.cells device.old)) → IfOk result (λ done. done.events ≡ 0) }
+    // The refusals
+    ensures memory_cells { result ≡ Err Unfinished.NoMemory → D.cells device.new ≡ D.cells device.old }
+    ensures memory_counts { result ≡ Err Unfinished.NoMemory → D.counts device.new ≡ D.counts device.old }
+    // A stop
+    ensures stopped { result ≡ Err Unfinished.Stopped → EachStands (newest_at (D.cells device.old)) (D.cells device.new) }
+    ensures stopped_counts { result ≡ Err Unfinished.Stopped
+        → D.counts device.new ≡ record (D.counts device.old) { events = (D.counts device.old).budget; stopped = counted (D.counts device.old).stopped } }
+    ensures stopped_early { result ≡ Err Unfinished.Stopped → (n : ℕ) → (D.counts device.old).events + n ≡ (D.counts device.old).budget
+        → AreFew (newest_at (D.cells device.old)) (n + 1) }
+    ensures unfinished { IsFinished (D.cells device.old).size (newest_at (D.cells device.old)) → result ≡ Err Unfinished.Stopped → ⊥ }
+    // Whatever it answers
+    ensures header { KeepsWords (IsHeaderWord (shape_of (newest_at (D.cells device.old)))) (D.cells device.old) (D.cells device.new) }
+{
+    let work = work_of(alloc, device, layout)?;
+    let Work {
+        winners,
+        losers,
+        redo,
+        undo,
+        checkpoint,
+        gates,
+        next,
+        most,
+    } = work;
+    let table = UsedBuckets::with_memory(alloc, layout)?;
+    make_room(device, most)?;
+    let before = device.events();
+    let done = make_events(
+        device,
+        layout,
+        redo.as_slice(),
+        undo.as_slice(),
+        checkpoint,
+        next,
+        gates,
+        table,
+    );
+    match done {
+        Done::Stopped => Err(Unfinished::Stopped),
+        Done::Made => Ok(Recovered {
+            winners,
+            losers,
+            events: device.events() - before,
+        }),
+    }
 }
 
 /// Recovers a device whose words are settled: each heap word then has its standing value, and the log is empty.
@@ -125,36 +213,8 @@ pub fn recover<D: Device>(alloc: Global, device: &mut D) -> Result<Recovered, Re
         Ok(layout) => layout,
         Err(fault) => return Err(fault),
     };
-    let work = work_of(alloc, device, layout)?;
-    let Work {
-        winners,
-        losers,
-        redo,
-        undo,
-        checkpoint,
-        gates,
-        next,
-        most,
-    } = work;
-    let table = UsedBuckets::with_memory(alloc, layout)?;
-    make_room(device, most)?;
-    let before = device.events();
-    let done = make_events(
-        device,
-        layout,
-        redo.as_slice(),
-        undo.as_slice(),
-        checkpoint,
-        next,
-        gates,
-        table,
-    );
-    match done {
-        Done::Stopped => Err(RecoverFault::Stopped),
-        Done::Made => Ok(Recovered {
-            winners,
-            losers,
-            events: device.events() - before,
-        }),
+    match recover_sound(alloc, device, layout) {
+        Ok(done) => Ok(done),
+        Err(fault) => Err(fault_of(fault)),
     }
 }
