@@ -1,8 +1,8 @@
 -- What recovery's clauses say, from what its stages did.
-use Rattle.std.proofs.Common.{◌≡◌, ◌≢◌, ◌⊎◌, inl, inr, ℕ, ◌+◌, ◌-◌, ◌*◌, ◌<◌, ◌≤◌, Bool, true, false, if◌then◌else◌, List, [], ◌∷◌, length, refl, sym, ap, ◌∙◌, subst, arith}
+use Rattle.std.proofs.Common.{◌≡◌, ℕ, ◌+◌, ◌-◌, ◌*◌, ◌≤◌, Bool, true, false, if◌then◌else◌, List, [], ◌∷◌, length, refl, sym, ap, ◌∙◌, subst, arith}
 use Rattle.std.specs.Prelude.{slice_index, IsTrue, ◌↔◌, Result, Err}
 use Rattle.persist_model.specs.Region.{Words, Region, AreSettled, newest_words}
-use Rattle.persist_model.specs.Records.{Log, IsAmong, IsCommitted, IsLoser}
+use Rattle.persist_model.specs.Records.{Log, IsCommitted, IsLoser}
 use Rattle.persist_model.specs.Shape.{Shape, shape_of, part_of, words_of_shape}
 use Rattle.persist_model.specs.State.{State, IsSoundState, HasOpen, total_need}
 use Rattle.persist_model.specs.Sound.{HasState, IsSound}
@@ -23,18 +23,15 @@ use Rattle.recovery_analysis.specs.declared.grouping.Transaction.{Transaction}
 use Rattle.recovery_analysis.specs.declared.working.Work.{Work}
 use Rattle.recovery_analysis.specs.Grouping.{IsAscending as IsRising}
 use Rattle.recovery_analysis.specs.Analyses.{AreThose}
-use Rattle.recovery_analysis.specs.Works.{IsWorkOf, appends_of}
+use Rattle.recovery_analysis.specs.Works.{IsWorkOf}
 use Rattle.recovery_analysis.specs.Conditions.{IsSoundImage}
-use Rattle.persist_model.specs.Faults.{FaultSet, IsFirstFault}
+use Rattle.persist_model.specs.Faults.{IsFirstFault}
 use Rattle.region_layout.specs.declared.reading.ImageFault.{ImageFault}
-use Rattle.sound_check.specs.declared.fault.CheckFault.{CheckFault}
-use Rattle.sound_check.specs.declared.fault.CheckFault.TheVariants.{Unsound as Faulty, NoMemory as Refused}
-use Rattle.sound_check.specs.Faulty.{IfUnsound}
 use Rattle.recovery_passes.specs.declared.recovering.RecoverFault.{RecoverFault}
-use Rattle.recovery_passes.specs.declared.recovering.RecoverFault.TheVariants.{Unsound, Stopped as Halted, NoMemory as Short}
+use Rattle.recovery_passes.specs.declared.recovering.RecoverFault.TheVariants.{Unsound, Stopped as Halted}
 use Rattle.recovery_passes.specs.declared.recovering.Unfinished.{Unfinished}
 use Rattle.recovery_passes.specs.declared.recovering.Unfinished.TheVariants as unfinished
-use Rattle.recovery_passes.specs.Refusals.{recover_fault, unfinished_fault, IfRefused}
+use Rattle.recovery_passes.specs.Refusals.{unfinished_fault, IfRefused}
 use Rattle.recovery_passes.specs.Recovered.{IsFinished, Restores, EachStands, IsAscending, Lists, AreFates, HasNeed, with_checkpoint, forced, settled as no_checkpoint, most_events, AreFew}
 use Rattle.recovery_passes.specs.Stages.{AreQuiet, AreShort, IsIdle}
 use Rattle.recovery_passes.specs.Passing.{IsCleared}

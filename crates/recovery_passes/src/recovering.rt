@@ -110,7 +110,11 @@ fn make_room<D: Device>(device: &mut D, stores: u64) -> Result<(), NoMemory>
 /// It repairs the lists of buckets, stores again what ended transactions wrote and a stop may have lost, takes back what
 /// running ones wrote, and closes all records. It makes its events as lane 16, takes all its memory before the first of
 /// them, and never wants room in the log that the image doesn't have.
-pub fn recover_sound<D: Device>(alloc: Global, device: &mut D, layout: Layout) -> Result<Recovered, Unfinished>
+pub fn recover_sound<D: Device>(
+    alloc: Global,
+    device: &mut D,
+    layout: Layout,
+) -> Result<Recovered, Unfinished>
     requires settled { AreSettled (D.cells device.old) }
     requires sound { IsSound (D.cells device.old).size (newest_at (D.cells device.old)) }
     requires shape { layout_shape layout ≡ shape_of (newest_at (D.cells device.old)) }
@@ -174,9 +178,7 @@ pub fn recover_sound<D: Device>(alloc: Global, device: &mut D, layout: Layout) -
 
 /// Recovers a device whose words are settled: each heap word then has its standing value, and the log is empty.
 ///
-/// It repairs the lists of buckets, stores again what ended transactions wrote and a stop may have lost, takes back what
-/// running ones wrote, and closes all records. It makes its events as lane 16, takes all its memory before the first of
-/// them, and never wants room in the log that the image doesn't have.
+/// It checks first that the words are a sound image. The rest is `recover_sound`.
 pub fn recover<D: Device>(alloc: Global, device: &mut D) -> Result<Recovered, RecoverFault>
     requires settled { AreSettled (D.cells device.old) }
     // What was read
