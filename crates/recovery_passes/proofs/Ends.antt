@@ -1,22 +1,21 @@
 -- What the end of a recovery, and a stop in it, say of the words with which it began.
-use Rattle.std.proofs.Common.{◌≡◌, ◌⊎◌, inl, inr, ℕ, ◌+◌, ◌<◌, ◌≤◌, ◌==◌, Bool, true, false, if◌then◌else◌, List, [], length, refl, sym, ap, ◌∙◌, subst, arith, nat_lt}
+use Rattle.std.proofs.Common.{◌≡◌, ◌⊎◌, inl, inr, ℕ, ◌+◌, ◌<◌, ◌≤◌, ◌==◌, true, false, if◌then◌else◌, List, [], length, refl, sym, ap, ◌∙◌, subst, arith, nat_lt}
 use Rattle.std.specs.Prelude.{slice_index}
 use Rattle.std.proofs.lemmas.Bool.Decides.{nat_tests}
-use Rattle.persist_model.specs.Region.{Words, Region, IsImage, AreSettled, newest_words}
+use Rattle.persist_model.specs.Region.{Words, Region, IsImage, AreSettled}
 use Rattle.persist_model.specs.Records.{Log}
-use Rattle.persist_model.specs.Shape.{Shape, shape_of, heap, words_of_shape, heap_words, IsHeapWord, IsShape, SECOND_MAGIC, IsMagic, IsPolicy, IsCellCount, IsBucketCount, IsBlockCount, IsStructureCount, IsPartitionCount, IsKind}
+use Rattle.persist_model.specs.Shape.{Shape, shape_of, heap, words_of_shape, heap_words, IsShape, SECOND_MAGIC, IsMagic, IsPolicy, IsCellCount, IsBucketCount, IsBlockCount, IsStructureCount, IsPartitionCount, IsKind}
 use Rattle.persist_model.specs.Standing.{Stands}
 use Rattle.persist_model.specs.State.{State, IsSoundState}
-use Rattle.persist_model.specs.Sound.{HasState, IsSound, StandsIn}
+use Rattle.persist_model.specs.Sound.{HasState, StandsIn}
 use Rattle.persist_model.proofs.Images.{settled_is}
 use Rattle.log_laws.specs.Parts.{EachKeeps}
-use Rattle.log_laws.specs.Recovery.{KeepsStanding}
 use Rattle.log_laws.proofs.Applying.{stands_empty}
 use Rattle.log_laws.proofs.Soundness.{same_log}
 use Rattle.recovery_run.specs.Edges.{HasOneValue, KeepsWords, IsHeaderWord}
-use Rattle.recovery_run.specs.Reached.{newest_at, HasHeader, HasReached, HasSettled, IsQuiet, HasFewBuckets}
+use Rattle.recovery_run.specs.Reached.{newest_at, HasHeader, HasReached, HasSettled, HasFewBuckets}
 use Rattle.recovery_run.proofs.Reaching.{read_newest, read_is_header, has_state, reached_sound, settled_reached}
-use Rattle.recovery_passes.specs.Recovered.{IsFinished, Restores, StandsAsIn, EachStands}
+use Rattle.recovery_passes.specs.Recovered.{IsFinished, Restores, EachStands}
 use Rattle.recovery_passes.specs.Stages.{AreQuiet, AreShort}
 
 below_is : (a b : ℕ) → a < b → nat_lt a b ≡ true

@@ -1,9 +1,7 @@
 -- Behind the undo all records may be closed, at once or behind a checkpoint record.
-use Rattle.std.proofs.Common.{◌≡◌, ◌≢◌, ◌⊎◌, inl, inr, ℕ, ◌+◌, ◌<◌, ◌≤◌, Bool, true, false, List, [], ◌∷◌, ◌++◌, refl, sym, ap, ◌∙◌, subst, arith}
-use Rattle.std.specs.Prelude.{IsTrue}
-use Rattle.std.specs.Vec.{vec_len, vec_capacity}
+use Rattle.std.proofs.Common.{◌≡◌, ◌≢◌, ◌⊎◌, inl, inr, ℕ, ◌<◌, [], ◌∷◌, ◌++◌, sym, subst, arith}
 use Rattle.persist_model.specs.Region.{Region}
-use Rattle.persist_model.specs.Records.{Record, Log, IsAmong, Has, HasNo, IsOf, IsEndOf, IsCheckpoint, IsNewer, IsNewestFirst, IsSkipped, IsLoser}
+use Rattle.persist_model.specs.Records.{Record, Log, IsAmong, IsNewer, IsNewestFirst, IsSkipped, IsLoser}
 use Rattle.persist_model.specs.Standing.{IsToRedo}
 use Rattle.persist_model.specs.State.{State, HasOpen, IsSoundState}
 use Rattle.region_layout.specs.declared.layout.Layout.{Layout}
@@ -12,7 +10,7 @@ use Rattle.log_laws.proofs.Keeping.{loser_open}
 use Rattle.recovery_run.specs.declared.gates.Gates.{Gates}
 use Rattle.recovery_run.proofs.Reaching.{settled_reached, reached_sound}
 use Rattle.recovery_undo.specs.Checkpoint.{CanCheckpoint, IsCheckpointed}
-use Rattle.recovery_passes.specs.Passing.{Undoes, IsReady, IsWanted}
+use Rattle.recovery_passes.specs.Passing.{Undoes, IsReady}
 
 among_append : (xs ys : Log) (r : Record) → IsAmong (xs ++ ys) r → IsAmong xs r ⊎ IsAmong ys r
 among_append [] ys r m = inr m

@@ -1,14 +1,13 @@
 -- From a recovery's beginning to its undo.
-use Rattle.std.proofs.Common.{◌≡◌, inl, inr, ℕ, ◌+◌, ◌-◌, ◌<◌, ◌≤◌, List, [], ◌∷◌, ◌++◌, length, map, sum_by, refl, sym, ap, ◌∙◌, subst, arith}
-use Rattle.persist_model.specs.Region.{Words, Region}
-use Rattle.persist_model.specs.Records.{IsAmong, IsLoser}
-use Rattle.persist_model.specs.Shape.{heap}
-use Rattle.persist_model.specs.State.{State, IsSoundState}
+use Rattle.std.proofs.Common.{◌≡◌, ℕ, ◌<◌, ◌≤◌, List, [], refl, arith}
+use Rattle.persist_model.specs.Region.{Region}
+use Rattle.persist_model.specs.Records.{IsAmong}
+use Rattle.persist_model.specs.State.{State}
 use Rattle.log_laws.specs.Recovering.{with_heap}
 use Rattle.region_layout.specs.declared.layout.Layout.{Layout}
-use Rattle.region_layout.specs.Layout.{layout_shape, policy_number}
+use Rattle.region_layout.specs.Layout.{layout_shape}
 use Rattle.recovery_run.specs.declared.gates.Gates.{Gates}
-use Rattle.recovery_run.specs.Edges.{KeepsWords, IsHeaderWord}
+use Rattle.recovery_run.specs.Edges.{KeepsWords}
 use Rattle.recovery_run.specs.Reached.{HasSettled}
 use Rattle.recovery_analysis.specs.declared.changing.Change.{Change}
 use Rattle.recovery_analysis.specs.declared.grouping.Transaction.{Transaction}
@@ -17,7 +16,7 @@ use Rattle.recovery_analysis.specs.Changes.{stored}
 use Rattle.recovery_analysis.proofs.Lists.{map_among}
 use Rattle.recovery_run.proofs.Reaching.{settled_reached}
 use Rattle.recovery_passes.proofs.Closed.{quiet_kept}
-use Rattle.recovery_passes.specs.Passing.{Begins, IsLeft, Undoes}
+use Rattle.recovery_passes.specs.Passing.{Begins, Undoes}
 use Rattle.recovery_passes.specs.Stages.{AreQuiet, MayStore}
 
 module _ (layout : Layout) (first : State) (total : ℕ) (redo : List Change) (running : List Transaction) (next : ℕ) (gates : Gates) (region : Region)

@@ -1,5 +1,5 @@
 -- One transaction more is undone.
-use Rattle.std.proofs.Common.{◌≡◌, ◌≢◌, ◌⊎◌, inl, inr, ℕ, zero, suc, ◌+◌, ◌-◌, ◌*◌, ◌<◌, ◌≤◌, List, [], ◌∷◌, ◌++◌, length, map, reverse, drop, get_or, sum_by, refl, sym, ap, ◌∙◌, subst, arith}
+use Rattle.std.proofs.Common.{◌≡◌, ◌≢◌, ◌⊎◌, inl, inr, ℕ, zero, suc, ◌+◌, ◌-◌, ◌*◌, ◌<◌, ◌≤◌, List, [], ◌∷◌, ◌++◌, length, map, drop, get_or, refl, sym, ap, ◌∙◌, subst, arith}
 use Rattle.std.specs.Vec.{vec_len, vec_capacity}
 use Rattle.std.proofs.lemmas.List.Sums.{sum_by-cons}
 use Rattle.persist_model.specs.Region.{Region}
@@ -10,18 +10,18 @@ use Rattle.lane_traits.specs.declared.device.Done.{Done}
 use Rattle.lane_traits.specs.declared.device.Done.TheVariants.{Made, Stopped}
 use Rattle.lane_traits.specs.Device.{Counts}
 use Rattle.region_layout.specs.declared.layout.Layout.{Layout}
-use Rattle.region_layout.specs.Layout.{layout_shape, policy_number}
+use Rattle.region_layout.specs.Layout.{layout_shape}
 use Rattle.bucket_log.specs.declared.scanning.Placed.{Placed}
 use Rattle.recovery_run.specs.declared.gates.Gates.{Gates}
 use Rattle.recovery_analysis.specs.declared.grouping.Transaction.{Transaction}
 use Rattle.recovery_analysis.specs.Grouping.{number_of}
-use Rattle.recovery_analysis.specs.Works.{need_in_log, HasSpare}
+use Rattle.recovery_analysis.specs.Works.{need_in_log}
 use Rattle.recovery_undo.specs.Undoing.{undo_events, CanUndo, IsUndone}
 use Rattle.recovery_undo.proofs.Going.{need_some}
 use Rattle.recovery_run.specs.Edges.{HasCounted}
 use Rattle.recovery_passes.specs.Going.{HasGoneOn}
 use Rattle.recovery_passes.proofs.Counting.{counted_more, counted_then}
-use Rattle.recovery_passes.specs.Passing.{gates_len, undo_all_events, IsLeft, Undoes}
+use Rattle.recovery_passes.specs.Passing.{undo_all_events, Undoes}
 
 assoc : (xs ys zs : Log) → (xs ++ ys) ++ zs ≡ xs ++ (ys ++ zs)
 assoc [] ys zs = refl

@@ -1,9 +1,8 @@
 -- How far a recovery has come with the transactions that ran.
-use Rattle.std.specs.Prelude.{◌≡◌, ◌≢◌, ◌↔◌, ℕ, ◌+◌, ◌-◌, ◌*◌, ◌≤◌, Bool, if◌then◌else◌, IsTrue, List, [], ◌++◌, length, map, reverse, sum_by}
+use Rattle.std.specs.Prelude.{◌≡◌, ◌≢◌, ◌↔◌, ℕ, ◌+◌, ◌-◌, ◌*◌, Bool, if◌then◌else◌, IsTrue, List, [], ◌++◌, length, map, reverse, sum_by}
 use Rattle.std.specs.Vec.{vec_len}
 use Rattle.persist_model.specs.Region.{Region}
-use Rattle.persist_model.specs.Records.{Record, Log, IsAmong, HasNo, IsLoser}
-use Rattle.persist_model.specs.Standing.{IsToRedo}
+use Rattle.persist_model.specs.Records.{Record, Log, IsAmong, IsLoser}
 use Rattle.persist_model.specs.Shape.{IsHeapWord}
 use Rattle.persist_model.specs.Need.{need_of}
 use Rattle.persist_model.specs.State.{State, HasOpen}

@@ -1,5 +1,5 @@
 -- What a recovery is to do, and what is known of it.
-use Rattle.std.specs.Prelude.{◌≡◌, ℕ, Bool, List}
+use Rattle.std.specs.Prelude.{ℕ, Bool, List}
 use Rattle.persist_model.specs.Region.{Region}
 use Rattle.persist_model.specs.State.{State, IsSoundState}
 use Rattle.region_layout.specs.declared.layout.Layout.{Layout}
@@ -8,7 +8,6 @@ use Rattle.recovery_run.specs.declared.gates.Gates.{Gates}
 use Rattle.recovery_run.specs.Reached.{HasSettled}
 use Rattle.recovery_analysis.specs.declared.changing.Change.{Change}
 use Rattle.recovery_analysis.specs.declared.grouping.Transaction.{Transaction}
-use Rattle.recovery_analysis.specs.declared.working.Work.{Work}
 use Rattle.recovery_analysis.specs.Works.{IsWorkOf}
 
 -- Recovery begins with the sound state first in a settled region, and this is its work.

@@ -1,19 +1,15 @@
-use Rattle.std.proofs.Common.{◌≡◌, ◌≤◌, ◌+◌, ℕ, List, [], length, refl, sym, ap, ◌∙◌, subst, arith}
+use Rattle.std.proofs.Common.{◌+◌, ℕ, List, length, refl, sym, subst, arith}
 use Rattle.lane_traits.specs.declared.device.Done.TheVariants.{Made, Stopped}
 use Rattle.std.specs.Prelude.{slice_index}
-use Rattle.persist_model.specs.Region.{Region}
-use Rattle.persist_model.specs.Records.{IsAmong}
-use Rattle.persist_model.specs.State.{State}
 use Rattle.log_laws.specs.Recovering.{with_heap}
 use Rattle.region_layout.specs.Layout.{layout_shape}
 use Rattle.log_partition.specs.Merging.{AreLogsOf}
 use Rattle.log_partition.specs.Used.{KnowsChains, chains_in}
-use Rattle.recovery_run.specs.Edges.{HasCounted, IsHeaderWord}
 use Rattle.recovery_run.proofs.Reaching.{settled_reached}
 use Rattle.recovery_undo.proofs.Places.{logs_of}
 use Rattle.recovery_analysis.specs.Changes.{stored}
 use Rattle.recovery_passes.specs.Passing.{begin_events, undo_all_events}
-use Rattle.recovery_passes.proofs.Counting.{counted_more, counted_then, keeps_then}
+use Rattle.recovery_passes.proofs.Counting.{counted_more, counted_then}
 use Rattle.recovery_passes.proofs.Starting.{may_store, stores_above, undoes_at}
 use Rattle.recovery_passes.proofs.beginning.bring_back.Goals as goal
 

@@ -1,4 +1,4 @@
-use Rattle.std.proofs.Common.{◌≡◌, ◌≤◌, ◌+◌, true, false, refl, sym, ap, subst, arith}
+use Rattle.std.proofs.Common.{ap, arith}
 use Rattle.std.specs.Vec.{vec_len}
 use Rattle.recovery_passes.specs.Passing.{gates_len}
 use Rattle.recovery_passes.proofs.ClearBounds.{one_wanted}

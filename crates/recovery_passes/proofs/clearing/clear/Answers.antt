@@ -1,9 +1,9 @@
-use Rattle.std.proofs.Common.{◌≡◌, ◌≤◌, ◌+◌, ◌*◌, true, false, if◌then◌else◌, refl, sym, ap, ◌∙◌, subst, arith}
+use Rattle.std.proofs.Common.{◌+◌, ◌*◌, if◌then◌else◌, refl, sym, ◌∙◌, subst}
 use Rattle.lane_traits.specs.declared.device.Done.TheVariants.{Made, Stopped}
 use Rattle.persist_model.specs.Region.{Region}
 use Rattle.region_layout.specs.Layout.{layout_shape}
-use Rattle.recovery_run.specs.Edges.{HasCounted, IsHeaderWord}
-use Rattle.recovery_passes.specs.Passing.{gates_len, HasNoGates, IsClosedLog, clear_events}
+use Rattle.recovery_run.specs.Edges.{IsHeaderWord}
+use Rattle.recovery_passes.specs.Passing.{gates_len, HasNoGates, clear_events}
 use Rattle.recovery_passes.specs.Stages.{AreShort}
 use Rattle.recovery_passes.proofs.ClearBounds.{close_fits, clear_fits}
 use Rattle.recovery_passes.proofs.Counting.{counted_more, counted_then, keeps_then}

@@ -1,5 +1,4 @@
-use Rattle.std.proofs.Common.{◌≡◌, ◌≤◌, ◌+◌, length, refl, sym, subst, arith}
-use Rattle.std.specs.Vec.{vec_len}
+use Rattle.std.proofs.Common.{◌+◌, length, arith}
 use Rattle.region_layout.specs.Layout.{layout_shape}
 use Rattle.log_clearing.specs.Plans.{closing_plan}
 use Rattle.recovery_passes.specs.Passing.{gates_len}

@@ -1,13 +1,11 @@
-use Rattle.std.proofs.Common.{◌≡◌, ◌≤◌, ◌*◌, ◌+◌, ◌<◌, ℕ, [], inl, inr, refl, sym, ap, ◌∙◌, subst, arith}
+use Rattle.std.proofs.Common.{◌≡◌, ◌*◌, ◌+◌, inl, inr, refl, sym, ap, ◌∙◌, subst, arith}
 use Rattle.std.proofs.lemmas.Bool.Decides.{eqb_tells}
 use Rattle.persist_model.specs.Region.{Region}
 use Rattle.persist_model.specs.Shape.{count_buckets}
-use Rattle.persist_model.specs.State.{State}
 use Rattle.lane_traits.specs.declared.device.Done.TheVariants.{Made, Stopped}
 use Rattle.region_layout.specs.Layout.{layout_shape}
 use Rattle.recovery_run.specs.Edges.{HasCounted, IsHeaderWord}
-use Rattle.recovery_run.specs.Reached.{newest_at, HasFewBuckets, HasSettled}
-use Rattle.recovery_lists.specs.Lists.{HasDropped}
+use Rattle.recovery_run.specs.Reached.{newest_at, HasFewBuckets}
 use Rattle.recovery_passes.proofs.Buckets.{buckets_before, none_before, one_part_more, all_before, few_before}
 use Rattle.recovery_passes.proofs.Counting.{counted_none, counted_more, counted_then, keeps_then}
 use Rattle.recovery_passes.proofs.lists.drop_all.Goals as goal

@@ -1,4 +1,4 @@
-use Rattle.std.proofs.Common.{◌≡◌, ◌≤◌, ◌*◌, ◌+◌, ℕ, ◌<◌}
+use Rattle.std.proofs.Common.{◌≤◌, ◌*◌, ◌+◌, ℕ, ◌<◌}
 use Rattle.lane_traits.specs.declared.device.Done.TheVariants.{Made}
 use Rattle.persist_model.specs.State.{State}
 use Rattle.region_layout.specs.Layout.{layout_shape}

@@ -1,10 +1,9 @@
-use Rattle.std.proofs.Common.{◌≡◌, ◌≤◌, ◌+◌, ◌^◌, ◌<◌, ℕ, [], length, refl, sym, ap, ◌∙◌, subst, arith}
-use Rattle.std.specs.Vec.{vec_len}
-use Rattle.lane_traits.specs.declared.device.Done.TheVariants.{Made, Stopped}
+use Rattle.std.proofs.Common.{◌≤◌, ◌+◌, refl, sym, ◌∙◌, subst, arith}
+use Rattle.lane_traits.specs.declared.device.Done.TheVariants.{Stopped}
 use Rattle.persist_model.specs.Region.{Region}
 use Rattle.region_layout.specs.Layout.{layout_shape}
 use Rattle.recovery_run.specs.Edges.{HasCounted, IsHeaderWord}
-use Rattle.recovery_passes.specs.Passing.{gates_len, begin_events, clear_events, HasNoGates}
+use Rattle.recovery_passes.specs.Passing.{begin_events, clear_events, HasNoGates}
 use Rattle.recovery_passes.specs.Stages.{AreShort}
 use Rattle.recovery_passes.proofs.Counting.{counted_more, counted_then, keeps_then}
 use Rattle.recovery_passes.proofs.Bounds.{planned_total, plan_begins, plan_fits, total_is, none_redone, none_running, none_wanted, no_gates}

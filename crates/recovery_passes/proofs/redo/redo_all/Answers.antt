@@ -1,7 +1,5 @@
-use Rattle.std.proofs.Common.{◌≡◌, ◌≤◌, ◌+◌, [], ◌∷◌, List, length, rules, refl, sym, ap, ◌∙◌, subst, arith}
-use Rattle.lane_traits.specs.declared.device.Done.TheVariants.{Made, Stopped}
-use Rattle.persist_model.specs.Region.{Words}
-use Rattle.persist_model.specs.State.{State}
+use Rattle.std.proofs.Common.{◌≡◌, ◌+◌, [], List, length, refl, sym, ◌∙◌, subst, arith}
+use Rattle.lane_traits.specs.declared.device.Done.TheVariants.{Stopped}
 use Rattle.log_laws.specs.Recovering.{with_heap}
 use Rattle.recovery_run.specs.Reached.{HasSettled}
 use Rattle.recovery_run.proofs.Reaching.{settled_reached}

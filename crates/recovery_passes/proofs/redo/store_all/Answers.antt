@@ -1,12 +1,10 @@
-use Rattle.std.proofs.Common.{◌≡◌, ◌≤◌, ◌+◌, ◌<◌, ℕ, length, take, refl, sym, ap, ◌∙◌, subst, arith}
+use Rattle.std.proofs.Common.{◌+◌, length, take, refl, arith}
 use Rattle.lane_traits.specs.declared.device.Done.TheVariants.{Made, Stopped}
-use Rattle.persist_model.specs.Records.{IsAmong}
 use Rattle.persist_model.specs.Shape.{words_of_shape}
 use Rattle.log_laws.specs.Recovering.{with_heap}
 use Rattle.recovery_analysis.specs.Changes.{stored}
-use Rattle.recovery_analysis.specs.declared.changing.Change.{Change}
 use Rattle.recovery_analysis.proofs.Lists.{among_at}
-use Rattle.recovery_passes.proofs.Counting.{counted_more, counted_then, keeps_then}
+use Rattle.recovery_passes.proofs.Counting.{counted_more, counted_then}
 use Rattle.recovery_passes.proofs.Redoing.{reached_more, word_below}
 use Rattle.recovery_passes.proofs.redo.store_all.Goals as goal
 

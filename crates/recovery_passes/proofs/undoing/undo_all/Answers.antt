@@ -1,12 +1,10 @@
-use Rattle.std.proofs.Common.{◌≡◌, ◌≤◌, ◌+◌, ◌<◌, ℕ, List, [], ◌∷◌, length, drop, get_or, refl, sym, ap, ◌∙◌, subst, arith}
-use Rattle.lane_traits.specs.declared.device.Done.TheVariants.{Made, Stopped}
+use Rattle.std.proofs.Common.{◌+◌, length, drop, refl, ap, arith}
+use Rattle.lane_traits.specs.declared.device.Done.TheVariants.{Made}
 use Rattle.region_layout.specs.Layout.{layout_shape}
-use Rattle.recovery_run.specs.Edges.{HasCounted, IsHeaderWord}
-use Rattle.recovery_analysis.specs.declared.grouping.Transaction.{Transaction}
-use Rattle.recovery_undo.specs.Undoing.{undo_events}
-use Rattle.recovery_passes.specs.Passing.{Undoes, undo_all_events}
-use Rattle.recovery_passes.proofs.Counting.{counted_none, counted_more, keeps_then}
-use Rattle.recovery_passes.proofs.Undone.{here, gone_can, gone_stopped, gone_spare, gone_next, item_first, drop_none}
+use Rattle.recovery_run.specs.Edges.{IsHeaderWord}
+use Rattle.recovery_passes.specs.Passing.{undo_all_events}
+use Rattle.recovery_passes.proofs.Counting.{counted_more, keeps_then}
+use Rattle.recovery_passes.proofs.Undone.{gone_can, gone_stopped, gone_spare, gone_next, item_first}
 use Rattle.recovery_passes.proofs.undoing.undo_all.Goals as goal
 
 pub undo-requires-clause-can : goal.undo-requires-clause-can

@@ -1,8 +1,8 @@
-use Rattle.std.proofs.Common.{◌≡◌, ◌≤◌, ◌+◌, ◌-◌, ℕ, [], drop}
+use Rattle.std.proofs.Common.{◌≡◌, ◌≤◌, ℕ, [], drop}
 use Rattle.lane_traits.specs.declared.device.Done.TheVariants.{Made}
 use Rattle.persist_model.specs.State.{State, IsSoundState}
 use Rattle.region_layout.specs.Layout.{layout_shape}
-use Rattle.recovery_run.specs.Edges.{HasCounted, KeepsWords, IsHeaderWord}
+use Rattle.recovery_run.specs.Edges.{KeepsWords, IsHeaderWord}
 use Rattle.recovery_undo.specs.Appending.{KnowsRegion}
 use Rattle.recovery_passes.specs.Passing.{Undoes, undo_all_events}
 use Rattle.recovery_passes.specs.Going.{HasGoneOn}
