@@ -11,15 +11,16 @@ use Rattle.persist_model.specs.State.{State, IsSoundState}
 use Rattle.persist_model.proofs.Candidates.{newest-push}
 use Rattle.log_laws.specs.Closing.{IsClosing}
 use Rattle.log_laws.specs.Moves.{IsChangeBy}
-use Rattle.log_laws.proofs.Deciding.{IsDecided, decide_equal, decide_either, decide_less, decide_to_undo, decide_to_delete, decide_to_redo, has_or_none, ended_or_running}
+use Rattle.log_laws.proofs.Deciding.{IsDecided, decide_equal, decide_less, decide_to_undo, decide_to_delete, decide_to_redo, has_or_none, ended_or_running}
 use Rattle.log_laws.proofs.Growing.{numbered, word_is_one's}
 use Rattle.log_laws.proofs.Keeping.{good_of}
 use Rattle.log_laws.proofs.Standings.{AreNumbered, latest_some}
-use Rattle.log_laws.proofs.Undoing.{compensated_word, lesser_before}
+use Rattle.log_laws.proofs.Undoing.{lesser_before}
 use Rattle.log_laws.proofs.Closings.{part_among, part_cases, running_back, skipped_on as skipped_closed}
 use Rattle.plan_records.specs.Passing.{inserted, Passes}
 use Rattle.plan_records.specs.Courses.{own_records, IsAboveOwn}
 use Rattle.plan_records.specs.HeapCourses.{IsChanged}
+use Rattle.plan_records.proofs.Changes.{decide_change, to_undo_of}
 use Rattle.plan_records.proofs.OwnRecords.{own_in, own_out}
 use Rattle.plan_records.proofs.Passing.{inserted_out, inserted_in}
 use Rattle.noforce_policy.specs.Backed.{HasOneValue, IsUnpassed, IsBacked, IsCommittedWord, AreBacked, AreOwnBacked, AreAllSwept, IsNoStoreTo}
@@ -28,15 +29,6 @@ use Rattle.noforce_policy.proofs.Sweeps.{same_word, same_newest, stays}
 
 -- ---- changes
 
-pub decide_change : (t a : ℕ) (r : Record) → IsDecided (IsChangeBy t a r)
-decide_change t a r = by (decide_either _ _ (decide_equal r.kind 1) (decide_equal r.kind 2)) (decide_equal r.word a) (decide_equal r.transaction t)
-  where
-    by : IsDecided (IsChange r) → IsDecided (r.word ≡ a) → IsDecided (r.transaction ≡ t) → IsDecided (IsChangeBy t a r)
-    by (inl x) (inl y) (inl z) = inl (x, y, z)
-    by (inr x) y z = inr (λ k. x k.0)
-    by (inl x) (inr y) z = inr (λ k. y k.1)
-    by (inl x) (inl y) (inr z) = inr (λ k. z k.2)
-
 no_end_change : (r : Record) → IsChange r → IsEnd r → ⊥
 no_end_change r (inl one) four = omega (arith, one, four)
 no_end_change r (inr two) four = omega (arith, two, four)
@@ -44,16 +36,6 @@ no_end_change r (inr two) four = omega (arith, two, four)
 pub no_check_change : (r : Record) → IsChange r → r.kind ≢ 5
 no_check_change r (inl one) five = omega (arith, one, five)
 no_check_change r (inr two) five = omega (arith, two, five)
-
--- a running transaction that changed a word has an update of it to undo
-pub to_undo_of : (shape : Shape) (x : State) (t a : ℕ) (r : Record) → IsSoundState shape x → IsRunning x.log t → IsAmong x.log r → IsChangeBy t a r → Has (IsToUndo x.log a) x.log
-to_undo_of shape x t a r sound running m c = by c.0
-  where
-    by : IsChange r → Has (IsToUndo x.log a) x.log
-    by (inl update) = (r, m, (update, c.1, subst (λ y. IsRunning x.log y) (sym c.2) running))
-    by (inr comp) =
-        let u = compensated_word (part_of shape) x.log x.log t running sound.order r m comp c.2 in
-        (u.0, u.1, (u.2.0, u.2.1 ∙ c.1, subst (λ y. IsRunning x.log y) (sym u.2.2) running))
 
 -- no checkpoint has passed a running transaction
 running_unpassed : (log : Log) (t : ℕ) → IsRunning log t → IsSkipped log t → ⊥

@@ -1,6 +1,5 @@
 -- What words that the log backs are in each image.
-use Rattle.std.proofs.Common.{◌≡◌, ◌⊎◌, inl, inr, ℕ, ◌+◌, ◌*◌, ◌<◌, ◌≤◌, nat_lt, cond, sym, ◌∙◌, subst, arith, None}
-use Rattle.std.proofs.lemmas.Bool.Decides.{nat_tests}
+use Rattle.std.proofs.Common.{◌≡◌, ◌⊎◌, inl, inr, ℕ, ◌+◌, ◌*◌, ◌<◌, sym, ◌∙◌, subst, arith, None}
 use Rattle.persist_model.specs.Region.{Words, Region, newest, MayStand}
 use Rattle.persist_model.specs.Records.{Record, Log, IsAmong, Has, HasNo, IsRunning, IsChange}
 use Rattle.persist_model.specs.Shape.{Shape, IsHeapWord, IsPlainOwner, heap, words_of_shape, heap_words}
@@ -15,18 +14,12 @@ use Rattle.plan_records.specs.Appends.{MayStandAt, AppendKeeps}
 use Rattle.plan_records.specs.Conditions.{IsUpdateOf, AreSweptIn}
 use Rattle.plan_records.specs.HeapUpdates.{OldsMeet}
 use Rattle.plan_records.specs.HeapImages.{LeavesKept}
+use Rattle.plan_records.proofs.Changes.{decide_change, heap_word_is}
 use Rattle.plan_records.proofs.Records.{updates_keep, checkpoints_keep}
 use Rattle.noforce_policy.specs.Backed.{HasOneValue, IsUnpassed, IsBacked, IsCommittedWord, AreBacked, AreOwnBacked}
 use Rattle.noforce_policy.specs.BackedLaws.{BackedUpdatesMeet, SweptWordsMeet, UpdatesLeave, CheckpointsLeave, ClearsLeave}
 use Rattle.noforce_policy.proofs.Checkpoints.{checkpoints_serve}
-use Rattle.noforce_policy.proofs.Backed.{decide_change, own_is_latest, to_redo_of}
-
--- a heap word is itself in the heap words
-heap_word_is : (shape : Shape) (w : Words) (a : ℕ) → IsHeapWord shape a → heap_words shape w a ≡ w a
-heap_word_is shape w a m = by (heap shape) (words_of_shape shape) m.0 m.1
-  where
-    by : (low high : ℕ) → low ≤ a → a < high → cond (nat_lt a low) 0 (cond (nat_lt a high) (w a) 0) ≡ w a
-    by low high above below = grind (arith, nat_tests)
+use Rattle.noforce_policy.proofs.Backed.{own_is_latest, to_redo_of}
 
 -- where a word has one value, that is in each image
 in_image : (shape : Shape) (region : Region) (i : Words) (a : ℕ) → IsHeapWord shape a → region.size ≡ words_of_shape shape → MayStand i region → HasOneValue region a →

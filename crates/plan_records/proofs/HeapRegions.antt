@@ -2,13 +2,13 @@
 use Rattle.std.proofs.Common.{◌≡◌, ◌≢◌, ◌⊎◌, inl, inr, ℕ, zero, suc, ◌+◌, ◌*◌, Bool, true, false, ◌==◌, ◌<◌, ◌≤◌, cond, List, [], ◌∷◌, ◌++◌, take, refl, sym, ap, ◌∙◌, subst, arith}
 use Rattle.std.specs.Prelude.{nat_lt, ◌||◌, IsTrue}
 use Rattle.std.proofs.lemmas.Bool.{ltb-true}
-use Rattle.std.proofs.lemmas.Bool.Decides.{nat_tests, eqb_tells}
+use Rattle.std.proofs.lemmas.Bool.Decides.{eqb_tells}
 use Rattle.persist_model.specs.declared.event.Event.{Event}
 use Rattle.persist_model.specs.declared.event.Event.TheVariants.{Fence}
 use Rattle.persist_model.specs.Region.{Words, Region}
 use Rattle.persist_model.specs.Progress.{Progress, Wrote, latest, advance_all, Tracks, IsWordOf, AreSettledAt}
 use Rattle.persist_model.specs.Records.{Record, Log, IsAmong}
-use Rattle.persist_model.specs.Shape.{Shape, heap, words_of_shape, IsHeapWord, IsPlainOwner, heap_words, log_words}
+use Rattle.persist_model.specs.Shape.{Shape, heap, IsHeapWord, IsPlainOwner, heap_words, log_words}
 use Rattle.persist_model.specs.Chain.{view}
 use Rattle.persist_model.specs.State.{State}
 use Rattle.persist_model.specs.ImageRecords.{cell_address}
@@ -29,6 +29,7 @@ use Rattle.log_clearing.specs.Plans.{closes, group, closing_plan}
 use Rattle.plan_records.specs.Appends.{MayAppend}
 use Rattle.plan_records.specs.Courses.{MayCloseOwn}
 use Rattle.plan_records.specs.HeapCourses.{newest, IsChanged, IsInStep, taking, MayReach, IsTrackedImage, LogPlansAreOnLog, WordsAreTaken, HeapImagesReach}
+use Rattle.plan_records.proofs.Changes.{heap_word_is}
 
 on_log_take : (shape : Shape) (k : ℕ) (es : List Event) → AreOnLog shape es → AreOnLog shape (take k es)
 on_log_take shape zero es on = tt
@@ -87,13 +88,6 @@ log_plans_are_on_log = record {
 }
 
 -- ---- images
-
--- a heap word is itself in the heap words
-heap_word_is : (shape : Shape) (w : Words) (a : ℕ) → IsHeapWord shape a → heap_words shape w a ≡ w a
-heap_word_is shape w a m = by (heap shape) (words_of_shape shape) m.0 m.1
-  where
-    by : (low high : ℕ) → low ≤ a → a < high → cond (nat_lt a low) 0 (cond (nat_lt a high) (w a) 0) ≡ w a
-    by low high above below = grind (arith, nat_tests)
 
 -- of the tracked words those of A are as they may be found
 may_reach : (A : ℕ → Type 0) (shape : Shape) (test : ℕ → Bool) (lane : ℕ) (z : Progress) (events : List Event) (region : Region) (i : Words) → ((a : ℕ) → A a → IsHeapWord shape a) →

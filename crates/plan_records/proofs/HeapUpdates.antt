@@ -1,22 +1,21 @@
 -- What the lane of an update must know of its OLD.
-use Rattle.std.proofs.Common.{◌≡◌, ◌⊎◌, inl, inr, ℕ, [], ◌∷◌, refl, sym, ◌∙◌, subst}
+use Rattle.std.proofs.Common.{◌≡◌, ◌⊎◌, inl, inr, ℕ, [], ◌∷◌, refl, sym, ◌∙◌}
 use Rattle.std.proofs.lemmas.Bool.Decides.{eqb_tells}
 use Rattle.persist_model.specs.Progress.{Wrote, advance_all}
-use Rattle.persist_model.specs.Records.{Record, Log, IsAmong, Has, HasNo, IsChange, IsRunning}
+use Rattle.persist_model.specs.Records.{Record, Log, Has, HasNo}
 use Rattle.persist_model.specs.Standing.{IsToUndo, IsLatest, Stands, undone, deleted, redone, kept}
 use Rattle.persist_model.specs.Order.{last_new}
-use Rattle.persist_model.specs.Shape.{Shape, part_of}
-use Rattle.persist_model.specs.State.{State, IsSoundState}
 use Rattle.persist_model.proofs.Projecting.{latest_none, IsFixed-aways, Reaches-fixed}
 use Rattle.log_laws.specs.Moves.{IsChangeBy}
-use Rattle.log_laws.proofs.Deciding.{IsDecided, decide_equal, decide_either}
+use Rattle.log_laws.proofs.Deciding.{decide_equal}
 use Rattle.log_laws.proofs.Keeping.{good_of}
 use Rattle.log_laws.proofs.Stacks.{IsTo, updates, compensates, neither, is_to}
 use Rattle.log_laws.proofs.Standings.{latest_some}
-use Rattle.log_laws.proofs.Undoing.{last_new_is, compensated_word}
+use Rattle.log_laws.proofs.Undoing.{last_new_is}
 use Rattle.plan_records.specs.Cells.{cell_of_update, appended}
 use Rattle.plan_records.specs.Conditions.{IsUpdateOf}
 use Rattle.plan_records.specs.HeapUpdates.{OldsMeet, UpdatesMeet}
+use Rattle.plan_records.proofs.Changes.{decide_change, to_undo_of}
 use Rattle.plan_records.proofs.HeapGoing.{on_log_away}
 
 last_new_none : (t a d : ℕ) (log : Log) → HasNo (IsChangeBy t a) log → last_new t a d log ≡ d
@@ -27,25 +26,6 @@ last_new_none t a d (x ∷ log) none = by (is_to t x) (last_new_none t a d log (
     by (updates one update owner) again = elim (eqb_tells x.word a) [ inl e ↦ absurd (none x (inl refl) (inl update, e.1, owner)) | inr ne ↦ (rw (one, ne.0) again) ]
     by (compensates not_one two comp owner) again = elim (eqb_tells x.word a) [ inl e ↦ absurd (none x (inl refl) (inr comp, e.1, owner)) | inr ne ↦ (rw (not_one, two, ne.0) again) ]
     by (neither not_one not_two off) again = rw (not_one, not_two) again
-
-decide_change : (t a : ℕ) (r : Record) → IsDecided (IsChangeBy t a r)
-decide_change t a r = by (decide_either _ _ (decide_equal r.kind 1) (decide_equal r.kind 2)) (decide_equal r.word a) (decide_equal r.transaction t)
-  where
-    by : IsDecided (IsChange r) → IsDecided (r.word ≡ a) → IsDecided (r.transaction ≡ t) → IsDecided (IsChangeBy t a r)
-    by (inl x) (inl y) (inl z) = inl (x, y, z)
-    by (inr x) y z = inr (λ k. x k.0)
-    by (inl x) (inr y) z = inr (λ k. y k.1)
-    by (inl x) (inl y) (inr z) = inr (λ k. z k.2)
-
--- a running transaction that changed a word has an update of it to undo
-to_undo_of : (shape : Shape) (x : State) (t a : ℕ) (r : Record) → IsSoundState shape x → IsRunning x.log t → IsAmong x.log r → IsChangeBy t a r → Has (IsToUndo x.log a) x.log
-to_undo_of shape x t a r sound running m c = by c.0
-  where
-    by : IsChange r → Has (IsToUndo x.log a) x.log
-    by (inl update) = (r, m, (update, c.1, subst (λ y. IsRunning x.log y) (sym c.2) running))
-    by (inr comp) =
-        let u = compensated_word (part_of shape) x.log x.log t running sound.order r m comp c.2 in
-        (u.0, u.1, (u.2.0, u.2.1 ∙ c.1, subst (λ y. IsRunning x.log y) (sym u.2.2) running))
 
 pub olds_meet : OldsMeet
 olds_meet shape x u h sound running free next old = by (latest_some (IsChangeBy u.transaction u.word) x.log (decide_change u.transaction u.word))

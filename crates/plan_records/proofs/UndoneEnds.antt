@@ -4,13 +4,12 @@ use Rattle.persist_model.specs.Region.{Words}
 use Rattle.persist_model.specs.Records.{Record, Log, IsAmong, HasNo, IsEnd, IsRunning, IsSkipped}
 use Rattle.persist_model.specs.Shape.{Shape, part_of}
 use Rattle.persist_model.specs.Standing.{IsToRedo, IsEarliest, IsLatest}
-use Rattle.persist_model.specs.Records.{IsChange}
 use Rattle.persist_model.specs.Need.{to_undo}
 use Rattle.persist_model.specs.State.{State, IsSoundState}
 use Rattle.log_laws.specs.Moves.{Arrives, IsOfRunning, IsChangeBy, adds_rolled_end}
 use Rattle.log_laws.specs.Recovering.{with_heap}
 use Rattle.log_laws.specs.Recovery.{grown, IsCovered, IsStored, KeepsStanding}
-use Rattle.log_laws.proofs.Deciding.{IsDecided, decide_equal, decide_either}
+use Rattle.log_laws.proofs.Deciding.{IsDecided, decide_equal}
 use Rattle.log_laws.proofs.Keeping.{good_of}
 use Rattle.log_laws.proofs.Undoing.{IsGood, last_new_is}
 use Rattle.log_laws.proofs.Growing.{has_back, numbered}
@@ -24,6 +23,7 @@ use Rattle.plan_records.specs.declared.cells.Outcome.TheVariants.{RolledBack}
 use Rattle.plan_records.specs.Cells.{cell_of_end, appended}
 use Rattle.plan_records.specs.Conditions.{AreLast}
 use Rattle.plan_records.specs.Laws.{UndoneEndsKeep}
+use Rattle.plan_records.proofs.Changes.{decide_change}
 use Rattle.plan_records.proofs.Appending.{takes, arrives, append_keeps, running_raised}
 use Rattle.plan_records.proofs.Records.{plain_formed}
 
@@ -82,7 +82,7 @@ module _ (policy t : ℕ) (log : Log) (h : Words) (apart : AreNumbered log) (run
 -- Where nothing is left to undo, the last NEW of each word is the OLD of its earliest update.
 are_stored : (shape : Shape) (s : State) (t : ℕ) (h : Words) → IsSoundState shape s → IsRunning s.log t → to_undo t s.log ≡ [] →
     ((a : ℕ) (r : Record) → IsLatest (IsChangeBy t a) s.log r → h a ≡ r.after) → IsStored t s.log h
-are_stored shape s t h sound running left last a u first = elim (latest_some (IsChangeBy t a) s.log decide_change) [
+are_stored shape s t h sound running left last a u first = elim (latest_some (IsChangeBy t a) s.log (decide_change t a)) [
   | inr none ↦ absurd (none u first.among (inl first.has.0, first.has.1, first.has.2))
   | inl r ↦ last a r.0 r.1 ∙ sym (last_new_is t a 0 s.log r.0 good.falls r.1) ∙ stack.after a 0 ∙ ap (λ l. top_new a (first_old t a 0 s.log) l) left ∙ first_old_is t a 0 s.log u good.falls first
 ]
@@ -92,15 +92,6 @@ are_stored shape s t h sound running left last a u first = elim (latest_some (Is
 
     stack : HasStack t s.log
     stack = has_stack (part_of shape) t s.log s.log running (numbered (part_of shape) s.log s.log sound.order) sound.gates sound.order
-
-    decide_change : (r : Record) → IsDecided (IsChangeBy t a r)
-    decide_change r = decide_both3 (decide_either _ _ (decide_equal r.kind 1) (decide_equal r.kind 2)) (decide_equal r.word a) (decide_equal r.transaction t)
-      where
-        decide_both3 : IsDecided (IsChange r) → IsDecided (r.word ≡ a) → IsDecided (r.transaction ≡ t) → IsDecided (IsChangeBy t a r)
-        decide_both3 (inl x) (inl y) (inl z) = inl (x, y, z)
-        decide_both3 (inr x) y z = inr (λ k. x k.0)
-        decide_both3 (inl x) (inr y) z = inr (λ k. y k.1)
-        decide_both3 (inl x) (inl y) (inr z) = inr (λ k. z k.2)
 
 -- the end keeps a state sound, with its standing words
 undone_end_keeps : (shape : Shape) (s : State) (e : Record) (room : ℕ → ℕ) (h : Words) → IsSoundState shape s →
