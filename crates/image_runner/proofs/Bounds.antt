@@ -1,18 +1,18 @@
 -- How many events a recovery may take, as a number.
-use Rattle.std.proofs.Common.{◌≡◌, ◌≢◌, ◌⊎◌, inl, inr, ℕ, zero, suc, ◌+◌, ◌-◌, ◌*◌, ◌/◌, ◌<◌, ◌≤◌, ◌==◌, Bool, true, false, if◌then◌else◌, List, [], ◌∷◌, length, map, refl, sym, ◌∙◌, ap, subst, arith}
+use Rattle.std.proofs.Common.{◌≡◌, ◌⊎◌, inl, inr, ℕ, zero, suc, ◌+◌, ◌-◌, ◌*◌, ◌/◌, ◌<◌, ◌≤◌, ◌==◌, Bool, true, false, if◌then◌else◌, List, [], ◌∷◌, length, map, refl, sym, ◌∙◌, ap, subst, arith}
 use Rattle.std.proofs.Math.Nat.{div-le_self, div-mul-le_self, mul-le-mul_right}
 use Rattle.std.proofs.lemmas.Bool.Decides.{eqb_tells}
 use Rattle.persist_model.specs.Region.{Words}
 use Rattle.persist_model.specs.Records.{Record, Log, IsAmong, IsNewer, IsNewestFirst}
 use Rattle.persist_model.specs.Chain.{Each, IsAbsent, HasNoRepeats, view, last_or}
 use Rattle.persist_model.specs.Need.{need_in}
-use Rattle.persist_model.specs.Shape.{Shape, shape_of, heap, bucket, bucket_size, first_bucket, count_buckets, part_of, log_words, IsBucketOf, IsShape, SECOND_MAGIC, IsPartitionCount}
-use Rattle.persist_model.specs.ImageRecords.{cell_address, record_at, IsRecordOf, AreRecords}
-use Rattle.persist_model.specs.State.{State, total_need, HasRoom, IsSoundState}
-use Rattle.persist_model.specs.Sound.{IsListOf, HasState, HaveChains, IsSound, closed_cells, room_of}
+use Rattle.persist_model.specs.Shape.{Shape, shape_of, heap, bucket, bucket_size, first_bucket, count_buckets, part_of, log_words, IsBucketOf, IsShape, SECOND_MAGIC}
+use Rattle.persist_model.specs.ImageRecords.{cell_address, record_at, IsRecordOf}
+use Rattle.persist_model.specs.State.{State, total_need}
+use Rattle.persist_model.specs.Sound.{HasState, IsSound, closed_cells, room_of}
 use Rattle.log_laws.proofs.SameLists.{chain_buckets}
-use Rattle.persist_hash.proofs.Lists.{at_most, each_of}
-use Rattle.recovery_passes.specs.Recovered.{HasNeed, with_checkpoint, forced, settled, most_events, AreFew}
+use Rattle.persist_hash.proofs.Lists.{at_most}
+use Rattle.recovery_passes.specs.Recovered.{HasNeed, with_checkpoint, forced, settled, AreFew}
 
 -- ---- a record's address is below the heap
 
