@@ -1,10 +1,10 @@
 //! Which blocks of a heap are free.
 #![tactic(auto)]
 
-ghost use Rattle.std.specs.Prelude.{◌≡◌, ◌^◌, ◌↔◌, ℕ, ◌<◌, [], ◌∷◌, ◌++◌, length, slice_get, slice_set, slice_index, Some, IsTrue, IsNone, OnOk, IfOk, IfSome};
+ghost use Rattle.std.specs.Prelude.{◌≡◌, ◌^◌, ◌↔◌, ℕ, ◌<◌, ◌≤◌, [], ◌∷◌, ◌++◌, length, slice_get, slice_set, slice_index, Some, IsTrue, IsNone, OnOk, IfOk, IfSome};
 ghost use Rattle.persist_model.specs.Shape.{words_of_shape};
 ghost use Rattle.region_layout.specs.Layout.{layout_shape};
-ghost use Rattle.offset_alloc.specs.Blocks.{standing_of, IsFree, IsLeastFree, AreAsOwned};
+ghost use Rattle.offset_alloc.specs.Blocks.{standing_of, IsFree, IsLeastFree, NoneIsFreeBelow, IsLeastOrCount, AreAsOwned};
 
 use persist_model::{Look, NoMemory};
 use region_layout::Layout;
@@ -27,15 +27,20 @@ pub enum Standing {
 #[derive(Drop)]
 pub struct Blocks {
     standings: Vec<Standing>,
+    // the least free block, or the number of blocks where none is free
+    least: usize,
 }
 
 impl Model for Blocks {
     ghost use Rattle.std.specs.Prelude.{List};
     ghost use Rattle.offset_alloc.specs.declared.Standing.{Standing};
+    ghost use Rattle.offset_alloc.specs.Blocks.{IsLeastOrCount};
 
     ghost Value = { List Standing };
 
     ghost view = { λ blocks. blocks.standings.items };
+
+    ghost invariant = { λ blocks. IsLeastOrCount blocks.standings.items blocks.least };
 }
 
 /// What the owner word of a block says.
@@ -66,6 +71,28 @@ fn put(standings: &mut Vec<Standing>, standing: Standing) -> Result<(), NoMemory
     Ok(())
 }
 
+/// The least free block, looked for from this one on, or the number of blocks where none is free.
+fn next_free(standings: &[Standing], from: usize) -> usize
+    requires within { from ≤ length standings.now }
+    requires below { NoneIsFreeBelow standings.now from }
+    ensures { IsLeastOrCount standings.now result }
+{
+    for k in from..standings.len() {
+        if matches!(standings[k], Standing::Free) {
+            return k;
+        }
+    }
+    standings.len()
+}
+
+/// The blocks that stand so.
+fn blocks_of(standings: Vec<Standing>) -> Blocks
+    ensures { result ≡ standings.items }
+{
+    let least = next_free(&standings, 0);
+    Blocks { standings, least }
+}
+
 impl Blocks {
     /// The standing of each block by its owner word. A root without an owner is pending for good.
     pub fn rebuild<W: Look>(alloc: Global, words: &W, layout: Layout) -> Result<Self, NoMemory>
@@ -77,7 +104,7 @@ impl Blocks {
         for k in 0..layout.blocks {
             put(&mut standings, standing_at(words, layout, k))?;
         }
-        Ok(Blocks { standings })
+        Ok(blocks_of(standings))
     }
 
     /// How many blocks there are.
@@ -93,18 +120,17 @@ impl Blocks {
         self.standings.is_empty()
     }
 
-    /// The least free block.
+    /// The least free block, which is kept and not looked for.
     pub fn pick(&self) -> Option<u32>
         requires { length self.now < 2 ^ 32 }
         ensures least { IfSome result (IsLeastFree self.now) }
         ensures none { IsNone result ↔ ((k : ℕ) → IsFree self.now k → ⊥) }
     {
-        for k in 0..self.standings.len() {
-            if matches!(self.standings[k], Standing::Free) {
-                return Some(k as u32);
-            }
+        if self.least < self.standings.len() {
+            Some(self.least as u32)
+        } else {
+            None
         }
-        None
     }
 
     pub fn standing(&self, block: u32) -> Standing
@@ -114,12 +140,21 @@ impl Blocks {
         self.standings[block as usize]
     }
 
-    /// The block stands so from now on, and every other as before.
+    /// The block stands so from now on, and every other as before. Where the least free block is taken, the next one is
+    /// looked for behind it.
     pub fn set(&mut self, block: u32, to: Standing)
         requires { block < length self.old }
         ensures { self.new ≡ slice_set self.old block to }
     {
-        self.standings[block as usize] = to;
+        let block = block as usize;
+        self.standings[block] = to;
+        if matches!(to, Standing::Free) {
+            if block < self.least {
+                self.least = block;
+            }
+        } else if block == self.least {
+            self.least = next_free(&self.standings, block + 1);
+        }
     }
 }
 
@@ -137,7 +172,7 @@ mod tests {
             Standing::Free,
             Standing::Free,
         ]?;
-        let mut blocks = Blocks { standings };
+        let mut blocks = blocks_of(standings);
         assert_eq!(rt; blocks.len(), 4);
         assert_eq!(rt; blocks.pick(), Some(2));
         blocks.set(2, Standing::Owned(1));
@@ -145,6 +180,42 @@ mod tests {
         assert_eq!(rt; blocks.pick(), Some(3));
         blocks.set(3, Standing::Pending);
         assert_eq!(rt; blocks.pick(), None);
+        Ok(())
+    }
+
+    #[test]
+    fn a_freed_block_is_picked_if_it_is_below(rt: HostRuntime) -> Result<(), Fail> {
+        let alloc = rt.alloc();
+        let standings = vec![in alloc;
+            Standing::Owned(0),
+            Standing::Owned(0),
+            Standing::Free,
+            Standing::Pending,
+            Standing::Pending,
+        ]?;
+        let mut blocks = blocks_of(standings);
+        blocks.set(4, Standing::Free);
+        assert_eq!(rt; blocks.pick(), Some(2));
+        blocks.set(1, Standing::Free);
+        assert_eq!(rt; blocks.pick(), Some(1));
+        blocks.set(1, Standing::Owned(0));
+        assert_eq!(rt; blocks.pick(), Some(2));
+        blocks.set(2, Standing::Owned(0));
+        assert_eq!(rt; blocks.pick(), Some(4));
+        Ok(())
+    }
+
+    #[test]
+    fn none_is_picked_until_one_is_freed(rt: HostRuntime) -> Result<(), Fail> {
+        let alloc = rt.alloc();
+        let standings = vec![in alloc; Standing::Owned(0), Standing::Free]?;
+        let mut blocks = blocks_of(standings);
+        blocks.set(1, Standing::Owned(0));
+        assert_eq!(rt; blocks.pick(), None);
+        blocks.set(0, Standing::Pending);
+        assert_eq!(rt; blocks.pick(), None);
+        blocks.set(1, Standing::Free);
+        assert_eq!(rt; blocks.pick(), Some(1));
         Ok(())
     }
 }
