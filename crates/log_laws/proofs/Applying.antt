@@ -193,7 +193,7 @@ all_may_close policy log w r over applied m = record {
     | inl five ↦ inl five
     | inr ne ↦ elim (ended_or_running log r.transaction) [ inl e ↦ inr e | inr running ↦ absurd (over r.transaction ((r, m, (refl, ne)), running)) ]
   ];
-  applied = λ names. applied r.word;
+  applied = λ _ _. applied r.word;
   whole = λ end s k of. k;
   skips = λ check e k end lt s j of. j;
 }

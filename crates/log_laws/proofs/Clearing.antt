@@ -54,7 +54,7 @@ may_clear_all policy log w over applied nothing = record {
     | inl five ↦ inl five
     | inr ne ↦ elim (ended_or_running log r.transaction) [ inl e ↦ inr e | inr running ↦ absurd (over r.transaction ((r, m, (refl, ne)), running)) ]
   ];
-  applied = λ r m s names. applied r.word;
+  applied = λ r m s _ _. applied r.word;
   whole = λ e m s end r k of. tt;
   skips = λ c m s check e k end lt r j of. tt;
   redone = nothing;

@@ -87,7 +87,7 @@ deleted_applied policy log w later h a none d gone = elim (part_cases _ later lo
     | inl ke ↦ absurd (gone d.0 kd (d.2.0, d.2.1, (d.2.2.0, ke, d.2.2.2)))
     | inr c ↦ absurd (c.whole d.2.2.2.0.0 d.0 kd (sym d.2.2.2.0.1, λ e. absurd (omega (arith, d.2.0, e))))
   ]
-  | inr c ↦ elim (c.applied (inr d.2.0)) [
+  | inr c ↦ elim (c.applied d.2.0 d.2.2) [
     | inl u ↦ absurd (none u.0 u.1 (u.2.0, u.2.1 ∙ d.2.1, u.2.2))
     | inr applied ↦ subst (λ x. IsApplied policy log w x) d.2.1 applied
   ]

@@ -38,7 +38,7 @@ module _ (policy : ℕ) (log : Log) (c : Record) (is : IsCheckpoint c) (above : 
       MayClear policy (c ∷ log) h (IsListed gates ends checkpoints)
   clear_ended h owners gates ends checkpoints all zero listed = record {
     ended = λ r m on. elim ((listed r m).0 on) [ inl e ↦ inl (ap (λ (x : Record). x.kind) e ∙ is) | inr k ↦ inr k.1 ];
-    applied = λ r m on names. elim (has_or_none (IsToUndo (c ∷ log) r.word) (c ∷ log) (decide_to_undo (c ∷ log) r.word)) [
+    applied = λ r m on _ _. elim (has_or_none (IsToUndo (c ∷ log) r.word) (c ∷ log) (decide_to_undo (c ∷ log) r.word)) [
       | inl u ↦ inl u
       | inr none ↦ inr (λ v st. value r.word none v st)
     ];

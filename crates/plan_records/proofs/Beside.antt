@@ -1,22 +1,18 @@
 -- What others do keeps a transaction's own records, and what its deletions leave.
-use Rattle.std.proofs.Common.{◌≡◌, ◌≢◌, ◌⊎◌, inl, inr, ℕ, ◌==◌, true, false, if◌then◌else◌, List, [], ◌∷◌, ◌++◌, refl, sym, ap, ◌∙◌, subst, arith}
+use Rattle.std.proofs.Common.{◌≡◌, ◌≢◌, ◌⊎◌, inl, inr, ℕ, ◌==◌, true, false, if◌then◌else◌, List, [], ◌∷◌, ◌++◌, refl, sym, ap, ◌∙◌, arith}
 use Rattle.std.proofs.lemmas.Bool.Decides.{eqb_tells}
 use Rattle.persist_model.specs.declared.event.Event.TheVariants.{PStore}
-use Rattle.persist_model.specs.Region.{Words}
 use Rattle.persist_model.specs.Progress.{Progress, write, latest, advance, advance_all}
-use Rattle.persist_model.specs.Records.{Record, Log, IsAmong, IsOf, IsDeletion, NamesWord, IsRunning, IsCommitted}
-use Rattle.persist_model.specs.Shape.{Shape, part_of}
-use Rattle.persist_model.specs.State.{State, IsSoundState}
+use Rattle.persist_model.specs.Records.{Record, Log, IsAmong, Has, IsOf, IsEnd, IsRunning, IsCommitted}
 use Rattle.persist_model.proofs.Projecting.{latest-push}
 use Rattle.log_laws.specs.Closing.{IsPart, empty, stays, goes}
-use Rattle.log_laws.proofs.Deciding.{decide_equal}
-use Rattle.log_laws.proofs.Growing.{has_back, word_is_one's}
+use Rattle.log_laws.specs.Moves.{IsDeletionBy}
 use Rattle.bucket_log.specs.declared.parts.Part.TheVariants.{Fence as Wait}
 use Rattle.plan_records.specs.declared.cells.Outcome.TheVariants.{Committed, RolledBack}
 use Rattle.plan_records.specs.Cells.{cell_of_end, appended}
 use Rattle.plan_records.specs.Sequences.{zero_parts, owner_parts}
 use Rattle.plan_records.specs.Passing.{inserted}
-use Rattle.plan_records.specs.Courses.{own_records, AreDeleted}
+use Rattle.plan_records.specs.Courses.{own_records}
 use Rattle.plan_records.specs.Others.{OthersKeepOwn, AppendsStandInPart, EndsLeaveDeleted, word_events, OwnersAreZero}
 use Rattle.plan_records.proofs.Going.{part_is}
 use Rattle.plan_records.proofs.Passing.{inserted_out}
@@ -40,45 +36,24 @@ appends_stand_in_part shape p w s chain place r may = part_is shape p w s chain 
 
 -- ---- deletions behind an end
 
-module _ (shape : Shape) (t : ℕ) (s : State) (e : Record) (h : Words) (sound : IsSoundState shape s) (running : IsRunning s.log t) (four : e.kind ≡ 4) (own : e.transaction ≡ t)
-    (mine : (d : Record) → IsAmong s.log d → IsDeletion d → d.transaction ≡ t → IsCommitted (e ∷ s.log) t → h d.word ≡ 0) where
-  in_log : (r : Record) → NamesWord r → IsAmong (e ∷ s.log) r → IsAmong s.log r
-  in_log r names (inr m) = m
-  in_log r names (inl same) = absurd (by names)
-    where
-      kind : r.kind ≡ 4
-      kind = ap (λ (x : Record). x.kind) same ∙ four
+-- a deletion of the log with an end was there before it
+deletion_before : (t a : ℕ) (e : Record) (log : Log) → IsEnd e → Has (IsDeletionBy t a) (inserted e log) → Has (IsDeletionBy t a) log
+deletion_before t a e log four d = elim (inserted_out e log d.0 d.1) [
+  | inl same ↦ (let six = d.2.0 in let kind : d.0.kind ≡ 4 = ap (λ (x : Record). x.kind) same ∙ four in absurd (omega (arith, six, kind)))
+  | inr m ↦ (d.0, m, d.2)
+]
 
-      by : NamesWord r → ⊥
-      by (inl (inl k)) = omega (arith, kind, k)
-      by (inl (inr k)) = omega (arith, kind, k)
-      by (inr k) = omega (arith, kind, k)
-
-  pub are_deleted : AreDeleted (e ∷ s.log) t h
-  are_deleted r m of names d = elim (decide_equal d.0.transaction t) [
-    | inl same ↦ (ap h (sym d.2.1) ∙ mine d.0 (in_log d.0 (inr d.2.0) d.1) d.2.0 same (subst (λ x. IsCommitted (e ∷ s.log) x) same d.2.2))
-    | inr other ↦ (
-        let committed : IsCommitted s.log d.0.transaction = has_back _ e s.log (λ k. other (sym k.0.1 ∙ own)) d.2.2 in
-        absurd (word_is_one's (part_of shape) s.log sound.order r d.0 (in_log r names m) (in_log d.0 (inr d.2.0) d.1) names (inr d.2.0) (sym d.2.1)
-        (inl (names, subst (λ x. IsRunning s.log x) (sym of.0) running)) (inr (d.2.0, committed)) (λ same. other (sym same ∙ of.0))))
-  ]
-
--- the same records are there, wherever the end comes
-deleted_inserted : (t : ℕ) (e : Record) (log : Log) (h : Words) → AreDeleted (e ∷ log) t h → AreDeleted (inserted e log) t h
-deleted_inserted t e log h are r m of names d = are r (inserted_out e log r m) of names
-    (d.0, inserted_out e log d.0 d.1, (d.2.0, d.2.1, (d.2.2.0, inserted_out e log d.2.2.0 d.2.2.1, d.2.2.2)))
+-- no end of t is a commit's
+none_committed : (t : ℕ) (e : Record) (log : Log) → e.outcome ≡ 2 → IsRunning log t → IsCommitted (inserted e log) t → ⊥
+none_committed t e log two running over = elim (inserted_out e log over.0 over.1) [
+  | inl same ↦ (let one = over.2.1 in let outcome : over.0.outcome ≡ 2 = ap (λ (x : Record). x.outcome) same ∙ two in omega (arith, one, outcome))
+  | inr m ↦ running over.0 m over.2.0
+]
 
 pub ends_leave_deleted : EndsLeaveDeleted
 ends_leave_deleted = record {
-  committed = λ shape t s place number h sound running zero. (
-      let e : Record = appended place number (cell_of_end t Committed) in
-      deleted_inserted t e s.log h (are_deleted shape t s e h sound running refl refl (λ d m is own over. zero d.word (d, m, (is, refl, own)))));
-  undone = λ shape t s place number h sound running. (
-      let r : Record = appended place number (cell_of_end t RolledBack) in
-      deleted_inserted t r s.log h (are_deleted shape t s r h sound running refl refl (λ d m is own over. absurd (elim over.1 [
-        | inl same ↦ (let two = ap (λ (x : Record). x.outcome) same in let one = over.2.1 in omega (arith, two, one))
-        | inr k ↦ running over.0 k over.2.0
-      ]))));
+  committed = λ t log place number h zero over a d. zero a (deletion_before t a (appended place number (cell_of_end t Committed)) log refl d);
+  undone = λ t log place number h running over. absurd (none_committed t (appended place number (cell_of_end t RolledBack)) log refl running over);
 }
 
 -- ---- the stores of deletions

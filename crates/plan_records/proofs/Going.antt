@@ -2,7 +2,7 @@
 use Rattle.std.proofs.Common.{◌≡◌, ◌≢◌, inl, inr, ℕ, ◌≤◌, List, ◌∷◌, refl, sym, ap, ◌∙◌, subst, arith}
 use Rattle.std.proofs.lemmas.Bool.Decides.{eqb_tells}
 use Rattle.persist_model.specs.Region.{Words}
-use Rattle.persist_model.specs.Records.{Record, Log, IsAmong, Has, HasNo, IsOf, IsEnd, NamesWord, IsRunning, IsEnded}
+use Rattle.persist_model.specs.Records.{Record, Log, IsAmong, Has, HasNo, IsOf, IsEnd, IsDeletion, IsRunning, IsEnded, IsCommitted}
 use Rattle.persist_model.specs.Shape.{Shape, part_of, heap_words}
 use Rattle.persist_model.specs.Standing.{IsToUndo, Stands, undone, deleted, redone, kept}
 use Rattle.persist_model.specs.State.{State}
@@ -67,20 +67,21 @@ clear_own : (shape : Shape) (s : State) (t : ℕ) (h : Words) (gates ends checkp
     AreGatesOf s.log t gates ends checkpoints → AreDeleted s.log t h → MayClear shape.policy s.log h (IsListed gates ends checkpoints)
 clear_own shape s t h gates ends checkpoints force over own zero = record {
   ended = λ r m on. inr (subst (λ x. IsEnded s.log x) (sym ((own r m).0 on).0) over);
-  applied = λ r m on names. elim (has_or_none (IsToUndo s.log r.word) s.log (decide_to_undo s.log r.word)) [
+  applied = λ r m on is over. elim (has_or_none (IsToUndo s.log r.word) s.log (decide_to_undo s.log r.word)) [
     | inl u ↦ inl u
-    | inr none ↦ inr (λ v st. value r m ((own r m).0 on) names none v st)
+    | inr none ↦ inr (λ v st. value r m ((own r m).0 on) is over none v st)
   ];
   whole = λ e m on end r k of. (own r k).1 (of.0 ∙ ((own e m).0 on).0, of.1);
   skips = λ c m on check e k end lt r j of. absurd (((own c m).0 on).1 check);
   redone = λ a r m k. force k.0;
 }
   where
-    value : (r : Record) → IsAmong s.log r → IsOf t r → NamesWord r → HasNo (IsToUndo s.log r.word) s.log → (v : ℕ) → Stands shape.policy s.log h r.word v → v ≡ h r.word
-    value r m of names none v (undone u first e) = absurd (none u first.among first.has)
-    value r m of names none v (deleted nu d e) = e ∙ sym (zero r m of names d)
-    value r m of names none v (redone nu nd x last e) = absurd (force last.has.0)
-    value r m of names none v (kept nu nd nr e) = e
+    value : (r : Record) → IsAmong s.log r → IsOf t r → IsDeletion r → IsCommitted s.log r.transaction → HasNo (IsToUndo s.log r.word) s.log →
+        (v : ℕ) → Stands shape.policy s.log h r.word v → v ≡ h r.word
+    value r m of is committed none v (undone u first e) = absurd (none u first.among first.has)
+    value r m of is committed none v (deleted nu d e) = e ∙ sym (zero (subst (λ x. IsCommitted s.log x) of.0 committed) r.word (r, m, (is, refl, of.0)))
+    value r m of is committed none v (redone nu nd x last e) = absurd (force last.has.0)
+    value r m of is committed none v (kept nu nd nr e) = e
 
 pub clear_serves : (shape : Shape) (t : ℕ) (x : State) → IsEnded x.log t → ClearServes shape t x
 clear_serves shape t x over z v gates ends checkpoints k force may zero reached = closings_keep shape z v x gates ends checkpoints k may.few may.has may.sound may.groups

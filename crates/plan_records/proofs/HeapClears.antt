@@ -9,7 +9,6 @@ use Rattle.persist_model.specs.State.{State, IsSoundState}
 use Rattle.persist_model.proofs.Projecting.{IsFixed-aways, Reaches-fixed}
 use Rattle.log_laws.specs.Moves.{IsDeletionBy}
 use Rattle.log_laws.specs.Recovering.{AreOnLog}
-use Rattle.log_laws.proofs.Deciding.{decide_equal}
 use Rattle.log_laws.proofs.Growing.{has_back}
 use Rattle.region_layout.specs.declared.cell.Cell.{Cell}
 use Rattle.region_layout.specs.declared.layout.Policy.TheVariants.{Force}
@@ -21,9 +20,8 @@ use Rattle.plan_records.specs.Cells.{appended}
 use Rattle.plan_records.specs.Sequences.{undo_parts}
 use Rattle.plan_records.specs.Courses.{own_records, AreDeleted, AreCellsOf, CanCommit, CanAbort, commit_parts, undo_end, abort_parts}
 use Rattle.plan_records.specs.HeapCourses.{Goes, MayReach}
-use Rattle.plan_records.specs.HeapClears.{AreOwn, AreAllGiven, ClearsMeet}
+use Rattle.plan_records.specs.HeapClears.{AreAllGiven, ClearsMeet}
 use Rattle.plan_records.proofs.OwnRecords.{own_in, own_out, to_undo_among}
-use Rattle.plan_records.proofs.HeapOthers.{names_some}
 use Rattle.plan_records.proofs.HeapRegions.{owner_is_heap_word}
 use Rattle.plan_records.proofs.HeapGoing.{on_log_away, goes_fit}
 use Rattle.plan_records.proofs.HeapCommits.{Committing, fences, ends, commit_own, commit_add, commit_store, commit_wait, zero_durably}
@@ -70,13 +68,10 @@ module _ (shape : Shape) (p t : ℕ) (all : List ℕ) where
 
 cleared : (shape : Shape) (p t : ℕ) (s : State) (owners : List ℕ) (q : Progress) (rest : List Part) (x : State) (z : Progress) (h : Words) →
     IsSoundState shape s → CanCommit shape p t s.log owners → AreAllGiven t s.log owners →
-    Goes shape p t s (commit_parts Force t owners) q (Clear ∷ rest) x z → AreOwn t x.log → MayReach shape (IsAmong owners) z h → AreDeleted x.log t h
-cleared shape p t s owners q rest x z h sound can given goes own may r m of names d = elim (decide_equal d.0.transaction t) [
-  | inr ne ↦ absurd (own r m of names d.0 d.1 (d.2.1, ne, inr (d.2.0, d.2.2)))
-  | inl same ↦ zero shape p t s owners q rest x z h sound can goes may r.word
-      (all_given shape p t owners s q (Clear ∷ rest) x z given goes r.word
-      (d.0, own_in t x.log d.0 d.1 (same, names_some d.0 (inr d.2.0)), (d.2.0, d.2.1, same)))
-]
+    Goes shape p t s (commit_parts Force t owners) q (Clear ∷ rest) x z → MayReach shape (IsAmong owners) z h → AreDeleted x.log t h
+cleared shape p t s owners q rest x z h sound can given goes may over a d = zero shape p t s owners q rest x z h sound can goes may a
+    (all_given shape p t owners s q (Clear ∷ rest) x z given goes a
+    (d.0, own_in t x.log d.0 d.1 (d.2.2, λ five. (let six = d.2.0 in absurd (omega (arith, six, five)))), d.2))
 
 -- ---- behind an undo
 
@@ -120,10 +115,7 @@ pub clears_meet : ClearsMeet
 clears_meet = record {
   zero = zero;
   committed = cleared;
-  undone = λ shape p t s updates q rest x z h can goes own r m of names d. absurd (elim (decide_equal d.0.transaction t) [
-    | inr ne ↦ own r m of names d.0 d.1 (d.2.1, ne, inr (d.2.0, d.2.2))
-    | inl same ↦ not_committed shape p t s updates q _ x z can goes (own_end t x.log (subst (λ y. IsCommitted x.log y) same d.2.2))
-  ]);
+  undone = λ shape p t s updates q rest x z h can goes over. absurd (not_committed shape p t s updates q (Clear ∷ rest) x z can goes (own_end t x.log over));
 }
   where
     own_end : (t : ℕ) (log : Log) → IsCommitted log t → IsCommitted (own_records t log) t

@@ -4,7 +4,7 @@ use Rattle.persist_model.specs.declared.event.Event.{Event}
 use Rattle.persist_model.specs.declared.event.Event.TheVariants.{PStore, Fence}
 use Rattle.persist_model.specs.Region.{Words}
 use Rattle.persist_model.specs.Progress.{Progress, start, advance, advance_all, Wrote, Reaches}
-use Rattle.persist_model.specs.Records.{Record, Log, HasNo}
+use Rattle.persist_model.specs.Records.{Record, Log, IsAmong, HasNo}
 use Rattle.persist_model.specs.Shape.{Shape}
 use Rattle.persist_model.specs.Standing.{IsLatest}
 use Rattle.persist_model.specs.State.{State, IsSoundState}
@@ -19,7 +19,6 @@ use Rattle.plan_records.specs.Appends.{with_record}
 use Rattle.plan_records.specs.Conditions.{AreWritten}
 use Rattle.plan_records.specs.Courses.{AreDeleted, write_parts}
 use Rattle.plan_records.specs.HeapCourses.{newest, IsChanged, IsInStep, Goes, begins, appends, stores}
-use Rattle.plan_records.specs.HeapClears.{AreOwn}
 use Rattle.plan_records.proofs.HeapWrites.{writes_settle}
 
 abbrev shape : Shape
@@ -123,14 +122,19 @@ second_end = record { at = 88; lsn = 4; transaction = 2; kind = 4; word = 0; bef
 abbrev both : Log
 both = second_end ∷ deleting ∷ first_end ∷ changed ∷ []
 
--- so the word isn't the first one's own,
-not_own : AreOwn 1 both → ⊥
-not_own own = own changed (inr (inr (inr (inl refl)))) (refl, λ e. omega (arith, e)) (inl (inl refl)) deleting (inr (inl refl))
-    (refl, (λ e. omega (arith, e)), inr (refl, (second_end, inl refl, ((refl, refl), refl))))
+-- The first one's records may be cleared in any words: it deleted nothing.
+first_clears : (h : Words) → AreDeleted both 1 h
+first_clears h over a d = absurd (by d.1)
+  where
+    by : IsAmong both d.0 → ⊥
+    by (inl same) = (let six = d.2.0 in let k : d.0.kind ≡ 4 = ap (λ (x : Record). x.kind) same in omega (arith, six, k))
+    by (inr (inl same)) = (let one = d.2.2 in let k : d.0.transaction ≡ 2 = ap (λ (x : Record). x.transaction) same in omega (arith, one, k))
+    by (inr (inr (inl same))) = (let six = d.2.0 in let k : d.0.kind ≡ 4 = ap (λ (x : Record). x.kind) same in omega (arith, six, k))
+    by (inr (inr (inr (inl same)))) = (let six = d.2.0 in let k : d.0.kind ≡ 1 = ap (λ (x : Record). x.kind) same in omega (arith, six, k))
+    by (inr (inr (inr (inr none)))) = none
 
--- and the first one's records may not be cleared before the second has stored 0
-not_deleted : (h : Words) → h 112 ≡ 7 → AreDeleted both 1 h → ⊥
-not_deleted h seven are =
-    let zero_there : h 112 ≡ 0 = are changed (inr (inr (inr (inl refl)))) (refl, λ e. omega (arith, e)) (inl (inl refl))
-    (deleting, inr (inl refl), (refl, refl, (second_end, inl refl, ((refl, refl), refl)))) in
+-- The second one's may not before it has stored 0.
+second_waits : (h : Words) → h 112 ≡ 7 → AreDeleted both 2 h → ⊥
+second_waits h seven are =
+    let zero_there : h 112 ≡ 0 = are (second_end, inl refl, ((refl, refl), refl)) 112 (deleting, inr (inl refl), (refl, refl, refl)) in
     omega (arith, seven, zero_there)

@@ -67,12 +67,12 @@ aborts_leave shape p t s updates q rest w x z chain place number k test lane reg
 
 pub clears_leave : ClearsLeave
 clears_leave = record {
-  committed = λ shape p t s owners q rest w x z gates ends checkpoints k test lane region i force sound can given goes own may has tracked stands.
+  committed = λ shape p t s owners q rest w x z gates ends checkpoints k test lane region i force sound can given goes may has tracked stands.
       commits_go_on Force shape p t s owners can Clear rest x (goes_are_courses shape p t s (commit_parts Force t owners) q (Clear ∷ rest) x z goes) w i gates ends checkpoints k force may
-      (clears_meet.committed shape p t s owners q rest x z (heap_words shape i) sound can given goes own
+      (clears_meet.committed shape p t s owners q rest x z (heap_words shape i) sound can given goes
       (heap_images_reach.owners shape t s owners test lane z (take k (closing_plan gates ends checkpoints)) region i sound can.given has
       (log_plans_are_on_log.closings shape t w x gates ends checkpoints k may) tracked)) stands;
-  undone = λ shape p t s updates q rest w x z gates ends checkpoints k i force can goes own may stands.
+  undone = λ shape p t s updates q rest w x z gates ends checkpoints k i force can goes may stands.
       aborts_go_on Force shape p t s updates can Clear rest x (goes_are_courses shape p t s (abort_parts Force t updates) q (Clear ∷ rest) x z goes) w i gates ends checkpoints k force may
-      (clears_meet.undone shape p t s updates q rest x z (heap_words shape i) can goes own) stands;
+      (clears_meet.undone shape p t s updates q rest x z (heap_words shape i) can goes) stands;
 }

@@ -22,7 +22,6 @@ mod HeapGoing
 mod HeapWrites
 mod HeapCommits
 mod HeapAborts
-mod HeapOthers
 mod HeapRegions
 mod HeapClears
 mod HeapUpdates

@@ -3,12 +3,12 @@ use Rattle.std.specs.Prelude.{◌≡◌, ◌≢◌, ◌↔◌, ℕ, ◌<◌, ◌
 use Rattle.persist_model.specs.declared.event.Event.{Event}
 use Rattle.persist_model.specs.declared.event.Event.TheVariants.{Store, PStore, WriteBack, Fence}
 use Rattle.persist_model.specs.Region.{Words}
-use Rattle.persist_model.specs.Records.{Record, Log, IsAmong, Has, HasNo, IsOf, IsUpdate, IsRollback, IsEnd, IsDeletion, NamesWord, IsRunning}
+use Rattle.persist_model.specs.Records.{Record, Log, IsAmong, Has, HasNo, IsOf, IsUpdate, IsRollback, IsEnd, IsDeletion, IsRunning, IsCommitted}
 use Rattle.persist_model.specs.Shape.{Shape, part_of, heap_words}
-use Rattle.persist_model.specs.Standing.{IsToDelete}
 use Rattle.persist_model.specs.Need.{is_of, to_undo}
 use Rattle.persist_model.specs.State.{State, IsSoundState}
 use Rattle.persist_model.specs.Sound.{HasState}
+use Rattle.log_laws.specs.Moves.{IsDeletionBy}
 use Rattle.log_laws.specs.Recovery.{IsCovered}
 use Rattle.region_layout.specs.declared.cell.Cell.{Cell}
 use Rattle.region_layout.specs.declared.layout.Policy.{Policy}
@@ -71,9 +71,9 @@ IsCoveredStore policy log (PStore a v) = IsCovered policy log a
 IsCoveredStore policy log (WriteBack a) = Unit {0}
 IsCoveredStore policy log Fence = Unit {0}
 
--- each word that t names and a committed transaction deletes is 0
+-- where t is committed, the owner word of each block that it gave back is 0
 abbrev pub AreDeleted : Log → ℕ → Words → Type 0
-AreDeleted log t h = (r : Record) → IsAmong log r → IsOf t r → NamesWord r → Has (IsToDelete log r.word) log → h r.word ≡ 0
+AreDeleted log t h = IsCommitted log t → (a : ℕ) → Has (IsDeletionBy t a) log → h a ≡ 0
 
 -- the lists have the gates of t's records
 abbrev pub AreGatesOf : Log → ℕ → List ℕ → List ℕ → List ℕ → Type 0
@@ -88,7 +88,7 @@ pub record MayCloseOwn (shape : Shape) (t : ℕ) (z : Words) (x : State) (gates 
   pub own : AreGatesOf x.log t gates ends checkpoints
 
 -- Under force the records of t may be closed: at each prefix of the closing each image is sound, with the standing words before, where
--- what is deleted is 0 in it.
+-- what t deleted is 0 in it.
 abbrev pub ClearServes : Shape → ℕ → State → Type 0
 ClearServes shape t x = (z v : Words) (gates ends checkpoints : List ℕ) (k : ℕ) → shape.policy ≢ 2 → MayCloseOwn shape t z x gates ends checkpoints →
     AreDeleted x.log t (heap_words shape v) → MayStandAt shape z (closing_plan gates ends checkpoints) k v → IsClearing shape v x gates ends checkpoints

@@ -21,7 +21,7 @@ use Rattle.plan_records.specs.Appends.{MayAppend, MayStandAt, Keeps, Commits, wi
 use Rattle.plan_records.specs.Conditions.{CanUpdate}
 use Rattle.plan_records.specs.Courses.{MayCloseOwn, CanCommit, CanAbort, commit_parts, abort_parts}
 use Rattle.plan_records.specs.HeapCourses.{newest, IsChanged, AreNewest, IsInStep, Goes, IsTrackedImage}
-use Rattle.plan_records.specs.HeapClears.{AreOwn, AreAllGiven}
+use Rattle.plan_records.specs.HeapClears.{AreAllGiven}
 
 -- The image i has the records of x, or those and r, is sound, and has the standing words before; behind the whole append it has r.
 pub record LeavesKept (shape : Shape) (p : ℕ) (x : State) (place : Place) (r : Record) (k : ℕ) (i : Words) : Type 0 where
@@ -67,11 +67,11 @@ pub record ClearsLeave : Type 0 where
   pub committed : (shape : Shape) (p t : ℕ) (s : State) (owners : List ℕ) (q : Progress) (rest : List Part) (w : Words) (x : State) (z : Progress)
       (gates ends checkpoints : List ℕ) (k : ℕ) (test : ℕ → Bool) (lane : ℕ) (region : Region) (i : Words) →
       shape.policy ≢ 2 → IsSoundState shape s → CanCommit shape p t s.log owners → AreAllGiven t s.log owners → Goes shape p t s (commit_parts Force t owners) q (Clear ∷ rest) x z →
-      AreOwn t x.log → MayCloseOwn shape t w x gates ends checkpoints → ((a : ℕ) → IsAmong owners a → IsTrue (test a)) →
+      MayCloseOwn shape t w x gates ends checkpoints → ((a : ℕ) → IsAmong owners a → IsTrue (test a)) →
       IsTrackedImage test lane z (take k (closing_plan gates ends checkpoints)) region i → MayStandAt shape w (closing_plan gates ends checkpoints) k i →
       IsClearing shape i x gates ends checkpoints
   pub undone : (shape : Shape) (p t : ℕ) (s : State) (updates : List Cell) (q : Progress) (rest : List Part) (w : Words) (x : State) (z : Progress)
       (gates ends checkpoints : List ℕ) (k : ℕ) (i : Words) →
       shape.policy ≢ 2 → CanAbort shape p t s.log updates → Goes shape p t s (abort_parts Force t updates) q (Clear ∷ rest) x z →
-      AreOwn t x.log → MayCloseOwn shape t w x gates ends checkpoints → MayStandAt shape w (closing_plan gates ends checkpoints) k i →
+      MayCloseOwn shape t w x gates ends checkpoints → MayStandAt shape w (closing_plan gates ends checkpoints) k i →
       IsClearing shape i x gates ends checkpoints

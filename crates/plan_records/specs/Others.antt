@@ -6,7 +6,7 @@ use Rattle.persist_model.specs.Region.{Words}
 use Rattle.persist_model.specs.Progress.{Progress, advance_all}
 use Rattle.persist_model.specs.Records.{Record, Log, IsAmong, Has, IsOf, IsRunning}
 use Rattle.persist_model.specs.Shape.{Shape, part_of}
-use Rattle.persist_model.specs.State.{State, IsSoundState}
+use Rattle.persist_model.specs.State.{State}
 use Rattle.log_laws.specs.Closing.{IsClosedBy}
 use Rattle.log_laws.specs.Moves.{IsDeletionBy}
 use Rattle.bucket_log.specs.declared.append.Place.{Place}
@@ -30,13 +30,12 @@ pub record OthersKeepOwn : Type 0 where
 abbrev pub AppendsStandInPart : Type 0
 AppendsStandInPart = (shape : Shape) (p : ℕ) (w : Words) (s : State) (chain : List ℕ) (place : Place) (r : Record) → MayAppend shape p w s chain place r → part_of shape r.at ≡ p
 
--- Right behind the end of a commit each word that t names and that a committed transaction deletes is 0, where the owner words of t's own
--- deletions are; behind that of an undone one, in any words.
+-- Behind the end of a commit what t deleted is 0, where the owner words of its deletions are; behind that of an undo, in any words.
 pub record EndsLeaveDeleted : Type 0 where
-  pub committed : (shape : Shape) (t : ℕ) (s : State) (place : Place) (number : ℕ) (h : Words) → IsSoundState shape s → IsRunning s.log t →
-      ((a : ℕ) → Has (IsDeletionBy t a) s.log → h a ≡ 0) → AreDeleted (inserted (appended place number (cell_of_end t Committed)) s.log) t h
-  pub undone : (shape : Shape) (t : ℕ) (s : State) (place : Place) (number : ℕ) (h : Words) → IsSoundState shape s → IsRunning s.log t →
-      AreDeleted (inserted (appended place number (cell_of_end t RolledBack)) s.log) t h
+  pub committed : (t : ℕ) (log : Log) (place : Place) (number : ℕ) (h : Words) → ((a : ℕ) → Has (IsDeletionBy t a) log → h a ≡ 0) →
+      AreDeleted (inserted (appended place number (cell_of_end t Committed)) log) t h
+  pub undone : (t : ℕ) (log : Log) (place : Place) (number : ℕ) (h : Words) → IsRunning log t →
+      AreDeleted (inserted (appended place number (cell_of_end t RolledBack)) log) t h
 
 -- the events of parts that aren't on the log
 abbrev pub word_events : List Part → List Event

@@ -25,7 +25,7 @@ ghost use Rattle.plan_records.specs.HeapCourses.{
   NoForceMeets,
   HeapImagesReach,
 };
-ghost use Rattle.plan_records.specs.HeapClears.{WordsStayOwn, ClearsMeet};
+ghost use Rattle.plan_records.specs.HeapClears.{ClearsMeet};
 ghost use Rattle.plan_records.specs.HeapUpdates.{OldsMeet, UpdatesMeet};
 ghost use Rattle.plan_records.specs.HeapImages.{UpdatesLeave, CommitsLeave, AbortsLeave, ClearsLeave};
 
@@ -110,7 +110,7 @@ pub fn appends_stand_in_part()
     ensures { AppendsStandInPart }
 {}
 
-/// Right behind a transaction's end no word that it names is left for another's deletion.
+/// Where the owner words of its deletions are 0, a transaction's end leaves what its clearing asks; behind an undo it does so in any words.
 pub fn ends_leave_deleted()
     ensures { EndsLeaveDeleted }
 {}
@@ -165,14 +165,9 @@ pub fn no_force_meets()
     ensures { NoForceMeets }
 {}
 
-/// Where records are cleared under force, what is deleted is 0.
+/// Where a transaction's records are cleared under force, the owner words of what it deleted are 0.
 pub fn clears_meet()
     ensures { ClearsMeet }
-{}
-
-/// Nobody else comes to have a transaction's words, up to the clearing.
-pub fn words_stay_own()
-    ensures { WordsStayOwn }
 {}
 
 /// An update whose OLD is the last NEW of its transaction, or else the standing value, may come, under both policies.

@@ -74,7 +74,7 @@ module _ (shape : Shape) (first y : State) (region : Region) (gates ends checkpo
     groups = can.lists.groups;
     may = record {
       ended = λ r m s. (all_may_close shape.policy y.log y.words r can.over can.applied m).ended;
-      applied = λ r m s names. (all_may_close shape.policy y.log y.words r can.over can.applied m).applied names;
+      applied = λ r m s is over. (all_may_close shape.policy y.log y.words r can.over can.applied m).applied is over;
       whole = λ e m s end r k of. can.lists.each r k;
       skips = λ c m s check e k end lt r j of. can.lists.each r j;
       redone = can.redone;
