@@ -1,7 +1,7 @@
 -- What each record of a running transaction does to the need of its part.
 use Rattle.std.proofs.Common.{◌≡◌, ◌≢◌, inl, inr, ℕ, zero, suc, ◌+◌, ◌<◌, ◌≤◌, true, false, ◌==◌, [], ◌∷◌, refl, sym, subst, arith}
 use Rattle.std.proofs.lemmas.Bool.Decides.{eqb_tells, nat_tests}
-use Rattle.persist_model.specs.Records.{Record, Log, IsAmong, Has, IsOf, IsUpdate, IsEnd, IsDeletion}
+use Rattle.persist_model.specs.Records.{Record, Log, IsAmong, Has, IsOf, IsUpdate, IsRollback, IsEnd, IsDeletion}
 use Rattle.persist_model.specs.Need.{to_undo, has_kind_of, need_of, is_of, has_of, counted, need_in}
 use Rattle.persist_model.specs.State.{total_need}
 use Rattle.log_laws.proofs.Needs.{kind_test, total_same, need_other, or_false, of_test, sum_same, sum_moved, counted_later, counted_first, has_of_true}
@@ -89,6 +89,17 @@ need_first_deletion d log is none =
     let ended = no_kind d.transaction 4 log (omega arith) none in
     let stack = no_undo d.transaction log none in
     rw (one, two, three, four, rolled, ended, stack) refl
+
+-- a rollback record that comes first brings the end
+pub need_first_rollback : (r : Record) (log : Log) → IsRollback r → has_of r.transaction log ≡ false → need_of (r ∷ log) r.transaction ≡ 1
+need_first_rollback r log is none =
+    let one = kind_test r.transaction 1 r refl 3 is in
+    let two = kind_test r.transaction 2 r refl 3 is in
+    let three = kind_test r.transaction 3 r refl 3 is in
+    let four = kind_test r.transaction 4 r refl 3 is in
+    let ended = no_kind r.transaction 4 log (omega arith) none in
+    let stack = no_undo r.transaction log none in
+    rw (one, two, three, four, ended, stack) refl
 
 -- ---- the need of a part
 

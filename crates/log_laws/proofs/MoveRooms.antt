@@ -6,10 +6,10 @@ use Rattle.persist_model.specs.Shape.{Shape, part_of}
 use Rattle.persist_model.specs.Need.{to_undo, has_kind_of, need_of, is_of, has_of, need_in}
 use Rattle.persist_model.specs.State.{State, HasOpen, HasRoom, IsSoundState}
 use Rattle.log_laws.specs.Moves.{IsOfRunning}
-use Rattle.log_laws.specs.MoveRoom.{TakesCell, HasCells, FitsWith}
-use Rattle.log_laws.proofs.Needs.{need_rollback, need_compensation, need_stays, has_kind_false, of_test}
+use Rattle.log_laws.specs.MoveRoom.{TakesCell, HasCells, HasItsCells, FitsWith}
+use Rattle.log_laws.proofs.Needs.{need_rollback, need_compensation, need_stays, has_kind_false, has_of_true, of_test}
 use Rattle.log_laws.proofs.Keeping.{loser_open, need_in_checkpoint}
-use Rattle.log_laws.proofs.MoveNeeds.{need_updated, need_deleted, need_ended, need_positive, need_first_update, need_first_deletion, need_rose, need_fell_by, need_began, need_began_elsewhere}
+use Rattle.log_laws.proofs.MoveNeeds.{need_updated, need_deleted, need_ended, need_positive, need_first_update, need_first_deletion, need_first_rollback, need_rose, need_fell_by, need_began, need_began_elsewhere}
 
 -- the need of r's part rises by d, and there are enough cells
 fits_more : (shape : Shape) (s : State) (r : Record) (room : ℕ → ℕ) (d : ℕ) → IsSoundState shape s → TakesCell shape s r room → HasCells shape s r (d + 1) →
@@ -66,6 +66,11 @@ tells t log = elim (has_of t log) as (λ b. (b ≡ true) ⊎ (b ≡ false)) [ tr
 running_test : (t : ℕ) (log : Log) → IsRunning log t → has_kind_of t 4 log ≡ false
 running_test t log running = has_kind_false t 4 log running
 
+-- where no record of its transaction is there, r's cells are
+cells_there : (shape : Shape) (s : State) (r : Record) (n : ℕ) → has_of r.transaction s.log ≡ false → HasItsCells shape s r n → HasCells shape s r n
+cells_there shape s r n off (inl some) = let on = has_of_true r.transaction s.log some in absurd (cc)
+cells_there shape s r n off (inr cells) = cells
+
 -- ---- the laws
 
 pub update_fits : (shape : Shape) (s : State) (u : Record) (room : ℕ → ℕ) → IsSoundState shape s → IsUpdate u → IsOfRunning shape s.log u → TakesCell shape s u room →
@@ -105,12 +110,21 @@ deletion_fits shape s d room h is of takes cells = elim (tells d.transaction s.l
 ]
 
 pub rollback_fits : (shape : Shape) (s : State) (r : Record) (room : ℕ → ℕ) → IsSoundState shape s → IsRollback r → IsOfRunning shape s.log r → TakesCell shape s r room →
-    Has (IsOf r.transaction) s.log → HasNo (λ x. IsOf r.transaction x × IsRollback x) s.log → FitsWith shape s r room
-rollback_fits shape s r room h is of takes some fresh =
-    let rolled = has_kind_false r.transaction 3 s.log (λ y m k. fresh y m ((k.1, λ five. absurd (omega (arith, k.0, five))), k.0)) in
-    fits_less shape s r room 1 h takes (loser_open s.log r.transaction (some, of.running)) (omega arith)
-    (need_fell_by (part_of shape) 1 r s.log some of.one_part (need_rollback r.transaction r s.log is refl (running_test r.transaction s.log of.running) rolled))
-    (λ p ne. need_stays (part_of shape) p r s.log some of.one_part ne)
+    HasItsCells shape s r 2 → HasNo (λ x. IsOf r.transaction x × IsRollback x) s.log → FitsWith shape s r room
+rollback_fits shape s r room h is of takes kept fresh = elim (tells r.transaction s.log) [
+  | inl on ↦ (
+      let some = some_of r.transaction s.log on in
+      let rolled = has_kind_false r.transaction 3 s.log (λ y m k. fresh y m ((k.1, λ five. absurd (omega (arith, k.0, five))), k.0)) in
+      fits_less shape s r room 1 h takes (loser_open s.log r.transaction (some, of.running)) (omega arith)
+      (need_fell_by (part_of shape) 1 r s.log some of.one_part (need_rollback r.transaction r s.log is refl (running_test r.transaction s.log of.running) rolled))
+      (λ p ne. need_stays (part_of shape) p r s.log some of.one_part ne))
+  | inr off ↦ (
+      let plain : r.kind ≢ 5 = (λ e. absurd (omega (arith, is, e))) in
+      fits_more shape s r room 1 h takes (cells_there shape s r 2 off kept)
+      (subst (λ n. need_in (part_of shape) (part_of shape r.at) s.log + n ≡ need_in (part_of shape) (part_of shape r.at) (r ∷ s.log)) (need_first_rollback r s.log is off)
+      (need_began (part_of shape) r s.log plain off))
+      (λ p ne. need_began_elsewhere (part_of shape) p r s.log off ne))
+]
 
 pub compensation_fits : (shape : Shape) (s : State) (c u : Record) (stack : Log) (room : ℕ → ℕ) → IsSoundState shape s → IsCompensation c → IsOfRunning shape s.log c → TakesCell shape s c room →
     Has (IsOf c.transaction) s.log → to_undo c.transaction s.log ≡ u ∷ stack → FitsWith shape s c room
@@ -120,12 +134,22 @@ compensation_fits shape s c u stack room h is of takes some shape_is =
     (λ p ne. need_stays (part_of shape) p c s.log some of.one_part ne)
 
 pub end_fits : (shape : Shape) (s : State) (e : Record) (room : ℕ → ℕ) → IsSoundState shape s → IsEnd e → IsOfRunning shape s.log e → TakesCell shape s e room →
-    Has (IsOf e.transaction) s.log → FitsWith shape s e room
-end_fits shape s e room h is of takes some =
-    let gone = need_ended e s.log is in
-    fits_less shape s e room (need_of s.log e.transaction) h takes (loser_open s.log e.transaction (some, of.running)) (need_positive e.transaction s.log (running_test e.transaction s.log of.running))
-    (need_fell_by (part_of shape) (need_of s.log e.transaction) e s.log some of.one_part (omega (arith, gone)))
-    (λ p ne. need_stays (part_of shape) p e s.log some of.one_part ne)
+    HasItsCells shape s e 1 → FitsWith shape s e room
+end_fits shape s e room h is of takes kept = elim (tells e.transaction s.log) [
+  | inl on ↦ (
+      let some = some_of e.transaction s.log on in
+      let gone = need_ended e s.log is in
+      fits_less shape s e room (need_of s.log e.transaction) h takes (loser_open s.log e.transaction (some, of.running))
+      (need_positive e.transaction s.log (running_test e.transaction s.log of.running))
+      (need_fell_by (part_of shape) (need_of s.log e.transaction) e s.log some of.one_part (omega (arith, gone)))
+      (λ p ne. need_stays (part_of shape) p e s.log some of.one_part ne))
+  | inr off ↦ (
+      let plain : e.kind ≢ 5 = (λ x. absurd (omega (arith, is, x))) in
+      fits_more shape s e room 0 h takes (cells_there shape s e 1 off kept)
+      (subst (λ n. need_in (part_of shape) (part_of shape e.at) s.log + n ≡ need_in (part_of shape) (part_of shape e.at) (e ∷ s.log)) (need_ended e s.log is)
+      (need_began (part_of shape) e s.log plain off))
+      (λ p ne. need_began_elsewhere (part_of shape) p e s.log off ne))
+]
 
 pub checkpoint_fits : (shape : Shape) (s : State) (c : Record) (room : ℕ → ℕ) → IsSoundState shape s → IsCheckpoint c → TakesCell shape s c room →
     HasCells shape s c 1 → FitsWith shape s c room

@@ -1,5 +1,5 @@
 -- How many cells a record of a running transaction wants, so that the rule of room holds with it.
-use Rattle.std.specs.Prelude.{◌≡◌, ◌≢◌, ℕ, ◌+◌, ◌<◌, ◌≤◌, if◌then◌else◌, ◌∷◌}
+use Rattle.std.specs.Prelude.{◌≡◌, ◌≢◌, ◌⊎◌, ℕ, ◌+◌, ◌<◌, ◌≤◌, if◌then◌else◌, ◌∷◌}
 use Rattle.persist_model.specs.Records.{Record, Log, Has, HasNo, IsOf, IsUpdate, IsCompensation, IsRollback, IsEnd, IsCheckpoint, IsDeletion}
 use Rattle.persist_model.specs.Shape.{Shape, part_of}
 use Rattle.persist_model.specs.Need.{to_undo, has_of, need_in}
@@ -18,6 +18,11 @@ pub record HasCells (shape : Shape) (s : State) (r : Record) (cells : ℕ) : Typ
   pub checkpoint_here : shape.policy ≡ 2 → part_of shape r.at ≡ 0 → need_in (part_of shape) (part_of shape r.at) s.log + cells + 1 ≤ s.room (part_of shape r.at)
   pub checkpoint_elsewhere : shape.policy ≡ 2 → part_of shape r.at ≢ 0 → need_in (part_of shape) 0 s.log + 1 ≤ s.room 0
 
+-- The cells for r and what follows it are kept, since its transaction has a record, or there are so many more than recovery needs: a
+-- transaction whose records are all closed needs none.
+abbrev pub HasItsCells : Shape → State → Record → ℕ → Type 0
+HasItsCells shape s r cells = Has (IsOf r.transaction) s.log ⊎ HasCells shape s r cells
+
 -- the rule of room holds with r
 abbrev pub FitsWith : Shape → State → Record → (ℕ → ℕ) → Type 0
 FitsWith shape s r room = (p : ℕ) → p < shape.partitions → HasRoom shape (r ∷ s.log) p (room p)
@@ -32,10 +37,11 @@ abbrev pub DeletionFits : Type 0
 DeletionFits = (shape : Shape) (s : State) (d : Record) (room : ℕ → ℕ) → IsSoundState shape s → IsDeletion d → IsOfRunning shape s.log d → TakesCell shape s d room →
     HasCells shape s d (if has_of d.transaction s.log then 1 else 3) → FitsWith shape s d room
 
--- The records of an undo, and any end, take cells that were kept for them.
+-- The records of an undo, and any end, take cells that were kept for them. Where no record of the transaction is left, a rollback record
+-- wants 2 cells, its own and the end's, and an end its own.
 abbrev pub RollbackFits : Type 0
 RollbackFits = (shape : Shape) (s : State) (r : Record) (room : ℕ → ℕ) → IsSoundState shape s → IsRollback r → IsOfRunning shape s.log r → TakesCell shape s r room →
-    Has (IsOf r.transaction) s.log → HasNo (λ x. IsOf r.transaction x × IsRollback x) s.log → FitsWith shape s r room
+    HasItsCells shape s r 2 → HasNo (λ x. IsOf r.transaction x × IsRollback x) s.log → FitsWith shape s r room
 
 abbrev pub CompensationFits : Type 0
 CompensationFits = (shape : Shape) (s : State) (c u : Record) (stack : Log) (room : ℕ → ℕ) → IsSoundState shape s → IsCompensation c → IsOfRunning shape s.log c → TakesCell shape s c room →
@@ -43,7 +49,7 @@ CompensationFits = (shape : Shape) (s : State) (c u : Record) (stack : Log) (roo
 
 abbrev pub EndFits : Type 0
 EndFits = (shape : Shape) (s : State) (e : Record) (room : ℕ → ℕ) → IsSoundState shape s → IsEnd e → IsOfRunning shape s.log e → TakesCell shape s e room →
-    Has (IsOf e.transaction) s.log → FitsWith shape s e room
+    HasItsCells shape s e 1 → FitsWith shape s e room
 
 -- A checkpoint record wants its own cell, and in the first part, while the log is open behind it, one for recovery's.
 abbrev pub CheckpointFits : Type 0

@@ -88,7 +88,7 @@ pub fn deletion_fits()
     ensures { DeletionFits }
 {}
 
-/// A rollback record always fits: its cell was kept for it.
+/// A rollback record fits: its cell was kept for it, or it finds two where no record of its transaction is left.
 pub fn rollback_fits()
     ensures { RollbackFits }
 {}
@@ -98,7 +98,7 @@ pub fn compensation_fits()
     ensures { CompensationFits }
 {}
 
-/// So does the end of a transaction.
+/// So does the end of a transaction, whose cell was kept, or which finds one where no record of its transaction is left.
 pub fn end_fits()
     ensures { EndFits }
 {}

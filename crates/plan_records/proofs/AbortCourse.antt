@@ -1,5 +1,5 @@
 -- Wherever a lane has come in an abort, its next part may begin: what is left of the plan fits the transaction's own records.
-use Rattle.std.proofs.Common.{◌≡◌, ◌≢◌, inl, inr, ℕ, List, [], ◌∷◌, ◌++◌, refl, sym, ap, ◌∙◌, subst, arith}
+use Rattle.std.proofs.Common.{◌≡◌, ◌≢◌, inl, inr, ℕ, ◌≤◌, List, [], ◌∷◌, ◌++◌, refl, sym, ap, ◌∙◌, subst, arith}
 use Rattle.persist_model.specs.Records.{Record, Log, IsAmong, Has, HasNo, IsOf, IsUpdate, IsRollback, IsEnd, IsEnded, IsRunning}
 use Rattle.persist_model.specs.Shape.{Shape, part_of}
 use Rattle.persist_model.specs.Need.{rest, to_undo}
@@ -18,7 +18,7 @@ use Rattle.plan_records.specs.Sequences.{store_of, undo_parts}
 use Rattle.plan_records.specs.Passing.{inserted}
 use Rattle.plan_records.specs.Courses.{own_records, IsAside, Course, begins, appends, makes, meanwhile, IsCoveredStore, MayBegin, IsGoing, AreCellsOf, CanAbort, undo_end, abort_parts, AbortsGoOn}
 use Rattle.plan_records.proofs.OwnRecords.{own_gained, own_in, own_out, to_undo_own, to_undo_plain, to_undo_less, to_undo_among}
-use Rattle.plan_records.proofs.Going.{part_is, going_own, going_all, going_more, open_of, clear_serves}
+use Rattle.plan_records.proofs.Going.{part_is, going_own, going_all, going_more, running_of, open_of, clear_serves}
 use Rattle.plan_records.proofs.Records.{rollbacks_keep, compensations_keep}
 use Rattle.plan_records.proofs.UndoneEnds.{undone_ends_keep}
 
@@ -123,12 +123,12 @@ module _ (policy : Policy) (shape : Shape) (p t : ℕ) where
     updates = λ one. absurd (omega (arith, one));
     deletes = λ six. absurd (omega (arith, six));
     commits = λ four one. absurd (omega (arith, one));
-    ends = λ _ _. undone_ends_keep shape p w x chain place number t may (record {
-      open_one = open_of shape p t x (appended place number (cell_of_end t RolledBack)) (going_all shape p t x.log going) refl
-          (part_is shape p w x chain place (appended place number (cell_of_end t RolledBack)) may);
+    ends = λ _ _ kept. undone_ends_keep shape p w x chain place number t may (record {
+      open_one = open_of shape p t x (appended place number (cell_of_end t RolledBack)) 1 (going_all shape p t x.log going) refl
+          (part_is shape p w x chain place (appended place number (cell_of_end t RolledBack)) may) kept;
       nothing_left = to_undo_own t x.log ∙ left;
     });
-    keeps = λ _ ne _. absurd (ne refl);
+    keeps = λ _ ne _ _. absurd (ne refl);
   }
 
   begin : (x : State) (part : Part) (others : List Part) → Next policy shape p t (own_records t x.log) part others → MayBegin shape p t x part
@@ -137,9 +137,9 @@ module _ (policy : Policy) (shape : Shape) (p t : ℕ) where
     deletes = λ six. absurd (omega (arith, six));
     commits = λ four. absurd (omega (arith, four));
     ends = λ four. absurd (omega (arith, four));
-    keeps = λ _ _ _. rollbacks_keep shape p w x chain place number t may (record {
-      open_one = open_of shape p t x (appended place number (cell_of_rollback t)) (going_all shape p t x.log going) refl
-          (part_is shape p w x chain place (appended place number (cell_of_rollback t)) may);
+    keeps = λ _ _ _ kept. rollbacks_keep shape p w x chain place number t may (record {
+      open_one = open_of shape p t x (appended place number (cell_of_rollback t)) 2 (going_all shape p t x.log going) refl
+          (part_is shape p w x chain place (appended place number (cell_of_rollback t)) may) (kept refl);
       first = λ r m k. first r (own_in t x.log r m k.0) k;
     });
   }
@@ -152,8 +152,9 @@ module _ (policy : Policy) (shape : Shape) (p t : ℕ) where
         deletes = λ six. absurd (omega (arith, six));
         commits = λ four. absurd (omega (arith, four));
         ends = λ four. absurd (omega (arith, four));
-        keeps = λ _ _ _. compensations_keep shape p w x chain place number top.0 u top.3 may (record {
-          open_one = open_of shape p t x (appended place number (cell_of_compensation u)) (going_all shape p t x.log going) own
+        keeps = λ _ _ _ _. compensations_keep shape p w x chain place number top.0 u top.3 may (record {
+          transaction = subst (λ y. 1 ≤ y) (sym own) going.transaction;
+          running = running_of shape p t x (appended place number (cell_of_compensation u)) (going_all shape p t x.log going) own
               (part_is shape p w x chain place (appended place number (cell_of_compensation u)) may);
           stack = top.1;
           newest = ap (λ y. to_undo y x.log) own ∙ to_undo_own t x.log ∙ top.2;

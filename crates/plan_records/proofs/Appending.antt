@@ -9,7 +9,7 @@ use Rattle.persist_model.specs.ImageRecords.{IsWellFormed}
 use Rattle.persist_model.specs.State.{State, total_need, HasNumbers, IsSoundState}
 use Rattle.persist_model.specs.Sound.{HasState}
 use Rattle.log_laws.specs.Moves.{Arrives, IsOfRunning, MayName, MayUpdate, StandsCommitted}
-use Rattle.log_laws.specs.MoveRoom.{TakesCell, HasCells, FitsWith}
+use Rattle.log_laws.specs.MoveRoom.{TakesCell, HasCells, HasItsCells, FitsWith}
 use Rattle.log_laws.specs.Recovery.{grown, KeepsStanding}
 use Rattle.log_laws.specs.Recovering.{with_heap}
 use Rattle.bucket_log.specs.declared.append.Place.{Place}
@@ -111,6 +111,10 @@ running_raised shape log r top h = record { running = h.running; one_part = h.on
 
 pub cells_raised : (shape : Shape) (s : State) (r : Record) (top n : ℕ) → HasCells shape s r n → HasCells shape s (renumbered top r) n
 cells_raised shape s r top n h = record { here = h.here; checkpoint_here = h.checkpoint_here; checkpoint_elsewhere = h.checkpoint_elsewhere }
+
+pub kept_raised : (shape : Shape) (s : State) (r : Record) (top n : ℕ) → HasItsCells shape s r n → HasItsCells shape s (renumbered top r) n
+kept_raised shape s r top n (inl some) = inl some
+kept_raised shape s r top n (inr cells) = inr (cells_raised shape s r top n cells)
 
 pub name_raised : (log : Log) (r : Record) (top : ℕ) → MayName log r → MayName log (renumbered top r)
 name_raised log r top h = record { not_rolled = h.not_rolled; free = h.free }

@@ -95,11 +95,11 @@ module _ (shape : Shape) (p t : ℕ) where
   end_begins x going = λ w chain place number may. record {
     updates = λ one. absurd (omega (arith, one));
     deletes = λ six. absurd (omega (arith, six));
-    commits = λ _ _. commit_ends_write shape p w x chain place number t may
-        (open_of shape p t x (appended place number (cell_of_end t Committed)) (going_all shape p t x.log going) refl
-        (part_is shape p w x chain place (appended place number (cell_of_end t Committed)) may));
-    ends = λ _ two. absurd (omega (arith, two));
-    keeps = λ _ ne _. absurd (ne refl);
+    commits = λ _ _ kept. commit_ends_write shape p w x chain place number t may
+        (open_of shape p t x (appended place number (cell_of_end t Committed)) 1 (going_all shape p t x.log going) refl
+        (part_is shape p w x chain place (appended place number (cell_of_end t Committed)) may) kept);
+    ends = λ _ two _. absurd (omega (arith, two));
+    keeps = λ _ ne _ _. absurd (ne refl);
   }
 
   begin : (x : State) (part : Part) (others : List Part) → Next shape p t (own_records t x.log) part others → MayBegin shape p t x part

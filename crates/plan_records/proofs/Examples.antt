@@ -79,7 +79,6 @@ may_abort : CanAbort shape 0 7 log (cell_of_update second_update ∷ cell_of_upd
 may_abort = record {
   going = record {
     transaction = omega arith;
-    some = (second, inl refl, (refl, λ e. cc));
     running = λ e m end. kinds e m (sym end.0);
     in_part = λ y m of. stand y m;
   };

@@ -7,16 +7,22 @@ use Rattle.persist_model.specs.Shape.{Shape, part_of, heap_words}
 use Rattle.persist_model.specs.Standing.{IsToUndo, Stands, undone, deleted, redone, kept}
 use Rattle.persist_model.specs.State.{State}
 use Rattle.log_laws.specs.Closing.{MayClear}
+use Rattle.log_laws.specs.MoveRoom.{HasItsCells}
+use Rattle.log_laws.specs.Moves.{IsOfRunning}
 use Rattle.log_laws.proofs.Deciding.{has_or_none, decide_to_undo}
 use Rattle.bucket_log.specs.declared.append.Place.{Place}
+use Rattle.bucket_log.specs.declared.parts.Part.{Part}
+use Rattle.bucket_log.specs.declared.parts.Part.TheVariants.{Append}
 use Rattle.bucket_log.specs.States.{less_room}
 use Rattle.log_clearing.specs.Closed.{IsListed}
 use Rattle.log_clearing.proofs.ClearingStates.{closings_keep}
+use Rattle.plan_records.specs.Cells.{appended}
 use Rattle.plan_records.specs.Appends.{MayAppend}
 use Rattle.plan_records.specs.Conditions.{IsOfOpen}
-use Rattle.plan_records.specs.Courses.{own_records, AreDeleted, AreGatesOf, ClearServes, IsGoing}
+use Rattle.plan_records.specs.Courses.{own_records, Course, begins, appends, makes, meanwhile, AreDeleted, AreGatesOf, ClearServes, IsGoing, CoursesKeepRecords}
 use Rattle.plan_records.proofs.Appending.{takes}
 use Rattle.plan_records.proofs.OwnRecords.{own_in, own_out}
+use Rattle.plan_records.proofs.Passing.{inserted_in}
 
 -- the record of an append stands in its partition
 pub part_is : (shape : Shape) (p : ℕ) (w : Words) (s : State) (chain : List ℕ) (place : Place) (r : Record) → MayAppend shape p w s chain place r → part_of shape r.at ≡ p
@@ -29,7 +35,6 @@ part_is shape p w s chain place r may = elim (eqb_tells (part_of shape r.at) p) 
 pub going_own : (shape : Shape) (p t : ℕ) (log : Log) → IsGoing shape p t log → IsGoing shape p t (own_records t log)
 going_own shape p t log h = record {
   transaction = h.transaction;
-  some = (h.some.0, own_in t log h.some.0 h.some.1 h.some.2, h.some.2);
   running = λ e m end. h.running e (own_out t log e m).0 end;
   in_part = λ y m of. h.in_part y (own_out t log y m).0 of;
 }
@@ -37,7 +42,6 @@ going_own shape p t log h = record {
 pub going_all : (shape : Shape) (p t : ℕ) (log : Log) → IsGoing shape p t (own_records t log) → IsGoing shape p t log
 going_all shape p t log h = record {
   transaction = h.transaction;
-  some = (h.some.0, (own_out t log h.some.0 h.some.1).0, h.some.2);
   running = λ e m end. h.running e (own_in t log e m (end.1, λ five. (let four = end.0 in absurd (omega (arith, four, five))))) end;
   in_part = λ y m of. h.in_part y (own_in t log y m of) of;
 }
@@ -45,21 +49,39 @@ going_all shape p t log h = record {
 pub going_more : (shape : Shape) (p t : ℕ) (log : Log) (r : Record) → IsGoing shape p t log → (IsEnd r → ⊥) → part_of shape r.at ≡ p → IsGoing shape p t (r ∷ log)
 going_more shape p t log r h no_end inside = record {
   transaction = h.transaction;
-  some = (h.some.0, inr h.some.1, h.some.2);
   running = λ e m end. elim m [ inl same ↦ no_end (ap (λ (x : Record). x.kind) (sym same) ∙ end.0) | inr k ↦ h.running e k end ];
   in_part = λ y m of. elim m [ inl same ↦ ap (λ (x : Record). part_of shape x.at) same ∙ inside | inr k ↦ h.in_part y k of ];
 }
 
--- so an append of t has its cells
-pub open_of : (shape : Shape) (p t : ℕ) (s : State) (r : Record) → IsGoing shape p t s.log → r.transaction ≡ t → part_of shape r.at ≡ p → IsOfOpen shape s r
-open_of shape p t s r h own inside = record {
-  transaction = subst (λ x. 1 ≤ x) (sym own) h.transaction;
-  some = subst (λ x. Has (IsOf x) s.log) (sym own) h.some;
-  running = record {
-    running = subst (λ x. IsRunning s.log x) (sym own) h.running;
-    one_part = λ y m of. h.in_part y m (of.0 ∙ own, of.1) ∙ sym inside;
-  };
+-- so t may append
+pub running_of : (shape : Shape) (p t : ℕ) (s : State) (r : Record) → IsGoing shape p t s.log → r.transaction ≡ t → part_of shape r.at ≡ p → IsOfRunning shape s.log r
+running_of shape p t s r h own inside = record {
+  running = subst (λ x. IsRunning s.log x) (sym own) h.running;
+  one_part = λ y m of. h.in_part y m (of.0 ∙ own, of.1) ∙ sym inside;
 }
+
+pub open_of : (shape : Shape) (p t : ℕ) (s : State) (r : Record) (cells : ℕ) → IsGoing shape p t s.log → r.transaction ≡ t → part_of shape r.at ≡ p →
+    HasItsCells shape s r cells → IsOfOpen shape s r cells
+open_of shape p t s r cells h own inside its_cells = record {
+  transaction = subst (λ x. 1 ≤ x) (sym own) h.transaction;
+  kept = its_cells;
+  running = running_of shape p t s r h own inside;
+}
+
+-- a record of t stays
+record_stays : (shape : Shape) (p t : ℕ) (s : State) (plan rest : List Part) (x : State) → Course shape p t s plan rest x → Has (IsOf t) s.log → Has (IsOf t) x.log
+record_stays shape p t s plan _ _ begins some = some
+record_stays shape p t s plan _ _ (appends {rest = rest} {x = x} cell place number course inside newest) some =
+    let h = record_stays shape p t s plan (Append cell ∷ rest) x course some in
+    (h.0, inserted_in (appended place number cell) x.log h.0 (inr h.1), h.2)
+record_stays shape p t s plan _ _ (makes {rest = rest} {x = x} part course aside) some = record_stays shape p t s plan (part ∷ rest) x course some
+record_stays shape p t s plan _ _ (meanwhile {rest = rest} {x = x} y course same) some =
+    let h = record_stays shape p t s plan rest x course some in
+    let k = own_out t y.log h.0 (subst (λ l. IsAmong l h.0) (sym same) (own_in t x.log h.0 h.1 h.2)) in
+    (h.0, k.0, k.1)
+
+pub courses_keep_records : CoursesKeepRecords
+courses_keep_records shape p t s plan rest x course some = record_stays shape p t s plan rest x course some
 
 -- ---- clearing
 

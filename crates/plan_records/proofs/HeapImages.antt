@@ -48,19 +48,19 @@ updates_leave shape p w x u chain place number z k test lane region i force may 
     (log_plans_are_on_log.appends shape p w x chain place r k may) tracked)) stands
 
 pub commits_leave : CommitsLeave
-commits_leave shape p t s owners q rest w x z chain place number k test lane region i sound can first goes may has tracked stands =
+commits_leave shape p t s owners q rest w x z chain place number k test lane region i sound can first goes may kept_cells has tracked stands =
     let r : Record = appended place number (cell_of_end t Committed) in
     let course = goes_are_courses shape p t s (commit_parts Force t owners) q (Append (cell_of_end t Committed) ∷ rest) x z goes in
-    committed shape p w x place r (AreWritten shape x t) k i ((commits_go_on Force shape p t s owners can (Append (cell_of_end t Committed)) rest x course w chain place number may).commits refl refl)
+    committed shape p w x place r (AreWritten shape x t) k i ((commits_go_on Force shape p t s owners can (Append (cell_of_end t Committed)) rest x course w chain place number may).commits refl refl kept_cells)
     (commits_meet shape p t s owners q rest x z (heap_words shape i) sound first goes
     (heap_images_reach.changed shape t x test lane z (take k (region_append shape p place r)) region i may.sound has
     (log_plans_are_on_log.appends shape p w x chain place r k may) tracked)) stands
 
 pub aborts_leave : AbortsLeave
-aborts_leave shape p t s updates q rest w x z chain place number k test lane region i sound can first goes may has tracked stands =
+aborts_leave shape p t s updates q rest w x z chain place number k test lane region i sound can first goes may kept_cells has tracked stands =
     let r : Record = appended place number (cell_of_end t RolledBack) in
     let course = goes_are_courses shape p t s (abort_parts Force t updates) q (Append (cell_of_end t RolledBack) ∷ rest) x z goes in
-    kept shape p w x place r (AreLast shape x t) k i ((aborts_go_on Force shape p t s updates can (Append (cell_of_end t RolledBack)) rest x course w chain place number may).ends refl refl)
+    kept shape p w x place r (AreLast shape x t) k i ((aborts_go_on Force shape p t s updates can (Append (cell_of_end t RolledBack)) rest x course w chain place number may).ends refl refl kept_cells)
     (aborts_meet shape p t s updates q rest x z (heap_words shape i) sound can first goes
     (heap_images_reach.changed shape t x test lane z (take k (region_append shape p place r)) region i may.sound has
     (log_plans_are_on_log.appends shape p w x chain place r k may) tracked)) stands

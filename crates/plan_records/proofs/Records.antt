@@ -1,9 +1,11 @@
 -- Each kind of record may come, on its condition.
 use Rattle.std.proofs.Common.{◌≡◌, ◌≢◌, ◌⊎◌, inl, inr, ℕ, Bool, true, false, ◌+◌, ◌==◌, if◌then◌else◌, ◌≤◌, refl, sym, ap, subst, arith}
-use Rattle.persist_model.specs.Records.{Record}
+use Rattle.persist_model.specs.Records.{Record, Has, IsOf}
+use Rattle.persist_model.specs.Order.{IsNextToUndo}
 use Rattle.persist_model.specs.Shape.{Shape, IsHeapWord, IsRootOwner, heap_words}
 use Rattle.persist_model.specs.ImageRecords.{IsWellFormed}
 use Rattle.persist_model.specs.Need.{has_of}
+use Rattle.persist_model.specs.State.{State}
 use Rattle.log_laws.specs.Moves.{adds_update, adds_deletion, adds_rollback, adds_compensation, adds_checkpoint}
 use Rattle.log_laws.specs.Recovery.{grown}
 use Rattle.log_laws.specs.Recovering.{with_heap}
@@ -19,7 +21,7 @@ use Rattle.plan_records.specs.declared.cells.Outcome.TheVariants.{Committed}
 use Rattle.plan_records.specs.Cells.{cell_of_update, cell_of_compensation, cell_of_rollback, cell_of_end, cell_of_checkpoint, cell_of_deletion, appended}
 use Rattle.plan_records.specs.Conditions.{IsUpdateOf, AreSweptIn, AreWritten}
 use Rattle.plan_records.specs.Laws.{UpdatesKeep, DeletionsKeep, RollbacksKeep, CompensationsKeep, CheckpointsKeep, CommitEndsWrite, StoresKeep, DropsKeep}
-use Rattle.plan_records.proofs.Appending.{takes, arrives, append_keeps, append_commits, running_raised, cells_raised, name_raised, update_raised}
+use Rattle.plan_records.proofs.Appending.{takes, arrives, append_keeps, append_commits, running_raised, cells_raised, kept_raised, name_raised, update_raised}
 
 pub updates_keep : UpdatesKeep
 updates_keep shape p w s chain place number update may can =
@@ -76,27 +78,31 @@ rollbacks_keep shape p w s chain place number transaction may can =
     let last : Record = appended place may.top (cell_of_rollback transaction) in
     let formed = plain_formed shape last (omega arith) (omega arith) (inr (omega arith, can.open_one.transaction)) (inr (omega arith, refl)) in
     let running = running_raised shape s.log r may.top can.open_one.running in
-    let fits = rollback_fits shape s last (less_room p s.room) may.sound refl running (takes shape p w s chain place r may) can.open_one.some can.first in
+    let fits = rollback_fits shape s last (less_room p s.room) may.sound refl running (takes shape p w s chain place r may) (kept_raised shape s r may.top 2 can.open_one.kept) can.first in
     append_keeps shape p w s chain place r may (λ h. Unit {0}) (λ h c sound.
     moves_keep shape (with_heap s h) (with_heap (grown s last (less_room p s.room)) h) sound
     (adds_rollback last (less_room p s.room) (arrives shape p w s chain place r may formed fits h) running refl can.first))
+
+-- the update that is to be undone next is a record of its transaction
+top_is_of : (shape : Shape) (s : State) (t : ℕ) (u : Record) → IsNextToUndo t s.log u → Has (IsOf t) s.log
+top_is_of shape s t u next = (u, next.among, (next.owner, λ five. (let one = next.update in absurd (omega (arith, one, five)))))
 
 pub compensations_keep : CompensationsKeep
 compensations_keep shape p w s chain place number u cell is may can =
     let c : Record = appended place number (cell_of_compensation cell) in
     let last : Record = appended place may.top (cell_of_compensation cell) in
-    let next = top_is_next shape s c.transaction u can.stack may.sound can.open_one.running.running can.newest in
+    let next = top_is_next shape s c.transaction u can.stack may.sound can.running.running can.newest in
     let formed_u = may.sound.formed u next.among in
     let word : last.word ≡ u.word = ap (λ (x : Record). x.word) is in
     let formed : IsWellFormed shape last = record {
       kind = (omega arith, omega arith);
-      transaction = inr (omega arith, can.open_one.transaction);
+      transaction = inr (omega arith, can.transaction);
       change = λ _. subst (λ a. IsHeapWord shape a × (IsRootOwner shape a → ⊥)) (sym word) (formed_u.change (inl next.update));
       deletion = λ six. absurd (omega arith);
       outcome = inr (omega arith, refl);
     } in
-    let running = running_raised shape s.log c may.top can.open_one.running in
-    let fits = compensation_fits shape s last u can.stack (less_room p s.room) may.sound refl running (takes shape p w s chain place c may) can.open_one.some can.newest in
+    let running = running_raised shape s.log c may.top can.running in
+    let fits = compensation_fits shape s last u can.stack (less_room p s.room) may.sound refl running (takes shape p w s chain place c may) (top_is_of shape s c.transaction u next) can.newest in
     append_keeps shape p w s chain place c may (λ h. Unit {0}) (λ h on sound.
     moves_keep shape (with_heap s h) (with_heap (grown s last (less_room p s.room)) h) sound
     (adds_compensation last u can.stack (less_room p s.room) (arrives shape p w s chain place c may formed fits h) running refl can.newest
@@ -123,7 +129,7 @@ commit_ends_write shape p w s chain place number transaction may can =
     let last : Record = appended place may.top (cell_of_end transaction Committed) in
     let formed = plain_formed shape last (omega arith) (omega arith) (inr (omega arith, can.transaction)) (inl (refl, inl refl)) in
     let running = running_raised shape s.log e may.top can.running in
-    let fits = end_fits shape s last (less_room p s.room) may.sound refl running (takes shape p w s chain place e may) can.some in
+    let fits = end_fits shape s last (less_room p s.room) may.sound refl running (takes shape p w s chain place e may) (kept_raised shape s e may.top 1 can.kept) in
     append_commits shape p w s chain place e may (AreWritten shape s transaction) (λ h written sound.
     commits_keep shape (with_heap s h) last (less_room p s.room) sound (record {
       arrives = arrives shape p w s chain place e may formed fits h;

@@ -24,7 +24,7 @@ use Rattle.plan_records.specs.Cells.{cell_of_end, appended}
 use Rattle.plan_records.specs.Conditions.{AreLast}
 use Rattle.plan_records.specs.Laws.{UndoneEndsKeep}
 use Rattle.plan_records.proofs.Changes.{decide_change}
-use Rattle.plan_records.proofs.Appending.{takes, arrives, append_keeps, running_raised}
+use Rattle.plan_records.proofs.Appending.{takes, arrives, append_keeps, running_raised, kept_raised}
 use Rattle.plan_records.proofs.Records.{plain_formed}
 
 module _ (policy t : ℕ) (log : Log) (h : Words) (apart : AreNumbered log) (running : IsRunning log t) where
@@ -122,6 +122,6 @@ undone_ends_keep shape p w s chain place number transaction may can =
     let last : Record = appended place may.top (cell_of_end transaction RolledBack) in
     let formed = plain_formed shape last (omega arith) (omega arith) (inr (omega arith, can.open_one.transaction)) (inl (refl, inr refl)) in
     let running = running_raised shape s.log e may.top can.open_one.running in
-    let fits = end_fits shape s last (less_room p s.room) may.sound refl running (takes shape p w s chain place e may) can.open_one.some in
+    let fits = end_fits shape s last (less_room p s.room) may.sound refl running (takes shape p w s chain place e may) (kept_raised shape s e may.top 1 can.open_one.kept) in
     append_keeps shape p w s chain place e may (AreLast shape s transaction) (λ h back sound.
     undone_end_keeps shape s last (less_room p s.room) h may.sound (arrives shape p w s chain place e may formed fits) running refl refl can.nothing_left back)

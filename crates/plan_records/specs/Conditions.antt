@@ -1,14 +1,14 @@
 -- What is asked of the state before, for each kind of record. The record is the cell's at its place, with its number.
 use Rattle.std.specs.Prelude.{◌≡◌, ◌≢◌, ℕ, ◌≤◌, if◌then◌else◌, [], ◌∷◌}
 use Rattle.persist_model.specs.Region.{Words}
-use Rattle.persist_model.specs.Records.{Record, Log, Has, HasNo, IsOf, IsRollback}
+use Rattle.persist_model.specs.Records.{Record, Log, HasNo, IsOf, IsRollback}
 use Rattle.persist_model.specs.Shape.{Shape, IsHeapWord, IsRootOwner, IsPlainOwner}
 use Rattle.persist_model.specs.Standing.{IsLatest}
 use Rattle.persist_model.specs.Need.{to_undo, has_of}
 use Rattle.persist_model.specs.State.{State}
 use Rattle.log_laws.specs.Recovering.{with_heap}
 use Rattle.log_laws.specs.Moves.{IsOfRunning, MayName, MayUpdate, AreSwept, IsDeletionBy, IsChangeBy}
-use Rattle.log_laws.specs.MoveRoom.{HasCells}
+use Rattle.log_laws.specs.MoveRoom.{HasCells, HasItsCells}
 
 -- An update of a heap word that isn't a root's owner, by a running transaction that may name the word, with a cell for it and one for its
 -- compensation; the first record of a transaction wants 2 more.
@@ -29,26 +29,27 @@ pub record CanDelete (shape : Shape) (s : State) (d : Record) : Type 0 where
   pub free : MayName s.log d
   pub cells : HasCells shape s d (if has_of d.transaction s.log then 1 else 3)
 
--- r is of a running transaction that has a record; so its cells are kept
-pub record IsOfOpen (shape : Shape) (s : State) (r : Record) : Type 0 where
+-- r is of a running transaction that has a record, so that its cells are kept, or so many are there
+pub record IsOfOpen (shape : Shape) (s : State) (r : Record) (cells : ℕ) : Type 0 where
   pub transaction : 1 ≤ r.transaction
-  pub some : Has (IsOf r.transaction) s.log
+  pub kept : HasItsCells shape s r cells
   pub running : IsOfRunning shape s.log r
 
--- the first rollback record of its transaction
+-- the first rollback record of its transaction; where it comes alone, it and the end behind it want a cell each
 pub record CanRollBack (shape : Shape) (s : State) (r : Record) : Type 0 where
-  pub open_one : IsOfOpen shape s r
+  pub open_one : IsOfOpen shape s r 2
   pub first : HasNo (λ x. IsOf r.transaction x × IsRollback x) s.log
 
 -- u is the newest update of its transaction that no compensation names; c is of the same transaction
 pub record CanCompensate (shape : Shape) (s : State) (c u : Record) : Type 0 where
-  pub open_one : IsOfOpen shape s c
+  pub transaction : 1 ≤ c.transaction
+  pub running : IsOfRunning shape s.log c
   pub stack : Log
   pub newest : to_undo c.transaction s.log ≡ u ∷ stack
 
 -- no update of e's transaction is left to undo
 pub record CanEndUndone (shape : Shape) (s : State) (e : Record) : Type 0 where
-  pub open_one : IsOfOpen shape s e
+  pub open_one : IsOfOpen shape s e 1
   pub nothing_left : to_undo e.transaction s.log ≡ []
 
 -- A checkpoint record has a cell, and recovery one for its own.

@@ -9,6 +9,7 @@ use Rattle.persist_model.specs.Need.{is_of, to_undo}
 use Rattle.persist_model.specs.State.{State, IsSoundState}
 use Rattle.persist_model.specs.Sound.{HasState}
 use Rattle.log_laws.specs.Moves.{IsDeletionBy}
+use Rattle.log_laws.specs.MoveRoom.{HasItsCells}
 use Rattle.log_laws.specs.Recovery.{IsCovered}
 use Rattle.region_layout.specs.declared.cell.Cell.{Cell}
 use Rattle.region_layout.specs.declared.layout.Policy.{Policy}
@@ -55,14 +56,15 @@ pub data Course (shape : Shape) (p t : ℕ) (s : State) (plan : List Part) : Lis
 
 -- ---- what the next part leaves to a stop
 
--- What an append leaves, by the kind of its record. An update and a deletion have conditions on others' records too, which are asked here;
--- the end of a commit has the standing words as the transaction wrote them where it is there; all else keeps the standing words.
+-- What an append leaves, by the kind of its record. An update and a deletion have conditions on others' records too, which are asked here,
+-- and so are the cells for a rollback record and an end whose transaction has no record left; the end of a commit has the standing words as
+-- the transaction wrote them where it is there; all else keeps the standing words.
 pub record AppendServes (shape : Shape) (p : ℕ) (w : Words) (x : State) (place : Place) (r : Record) : Type 0 where
   pub updates : IsUpdate r → CanUpdate shape x r → AppendKeeps shape p w x place r (IsUpdateOf shape x r)
   pub deletes : IsDeletion r → CanDelete shape x r → AppendKeeps shape p w x place r (λ h. Unit {0})
-  pub commits : IsEnd r → r.outcome ≡ 1 → AppendCommits shape p w x place r (AreWritten shape x r.transaction)
-  pub ends : IsEnd r → r.outcome ≡ 2 → AppendKeeps shape p w x place r (AreLast shape x r.transaction)
-  pub keeps : r.kind ≢ 1 → r.kind ≢ 4 → r.kind ≢ 6 → AppendKeeps shape p w x place r (λ h. Unit {0})
+  pub commits : IsEnd r → r.outcome ≡ 1 → HasItsCells shape x r 1 → AppendCommits shape p w x place r (AreWritten shape x r.transaction)
+  pub ends : IsEnd r → r.outcome ≡ 2 → HasItsCells shape x r 1 → AppendKeeps shape p w x place r (AreLast shape x r.transaction)
+  pub keeps : r.kind ≢ 1 → r.kind ≢ 4 → r.kind ≢ 6 → (IsRollback r → HasItsCells shape x r 2) → AppendKeeps shape p w x place r (λ h. Unit {0})
 
 -- a store to a word whose standing value a record decides
 abbrev pub IsCoveredStore : ℕ → Log → Event → Type 0
@@ -107,10 +109,9 @@ GoesOn shape p t s plan = (part : Part) (rest : List Part) (x : State) → Cours
 
 -- ---- the conditions of the plans that end a transaction
 
--- t runs and has a record, and its records stand in the partition p
+-- t runs, and what records it has stand in the partition p
 pub record IsGoing (shape : Shape) (p t : ℕ) (log : Log) : Type 0 where
   pub transaction : 1 ≤ t
-  pub some : Has (IsOf t) log
   pub running : IsRunning log t
   pub in_part : (y : Record) → IsAmong log y → IsOf t y → part_of shape y.at ≡ p
 
@@ -157,6 +158,10 @@ abbrev pub abort_parts : Policy → ℕ → List Cell → List Part
 abort_parts policy t updates = Append (cell_of_rollback t) ∷ (undo_parts policy updates ++ undo_end policy t)
 
 -- ---- the laws
+
+-- A transaction that had a record when its plan began has one wherever its lane has come: so the cells of its end are kept.
+abbrev pub CoursesKeepRecords : Type 0
+CoursesKeepRecords = (shape : Shape) (p t : ℕ) (s : State) (plan rest : List Part) (x : State) → Course shape p t s plan rest x → Has (IsOf t) s.log → Has (IsOf t) x.log
 
 abbrev pub WritesGoOn : Type 0
 WritesGoOn = (policy : Policy) (shape : Shape) (p : ℕ) (s : State) (u : Update) → IsRunning s.log u.transaction → GoesOn shape p u.transaction s (write_parts policy u)

@@ -6,6 +6,7 @@ use Rattle.persist_model.specs.Records.{Record, IsAmong}
 use Rattle.persist_model.specs.Order.{undo_point}
 use Rattle.persist_model.specs.Shape.{Shape}
 use Rattle.persist_model.specs.State.{State, IsSoundState}
+use Rattle.log_laws.specs.MoveRoom.{HasItsCells}
 use Rattle.region_layout.specs.declared.cell.Cell.{Cell}
 use Rattle.region_layout.specs.declared.layout.Policy.TheVariants.{Force}
 use Rattle.bucket_log.specs.declared.append.Place.{Place}
@@ -48,7 +49,7 @@ CommitsLeave = (shape : Shape) (p t : ℕ) (s : State) (owners : List ℕ) (q : 
     (number k : ℕ) (test : ℕ → Bool) (lane : ℕ) (region : Region) (i : Words) →
     let r = appended place number (cell_of_end t Committed) in
     IsSoundState shape s → CanCommit shape p t s.log owners → AreNewest s.log t q →
-    Goes shape p t s (commit_parts Force t owners) q (Append (cell_of_end t Committed) ∷ rest) x z → MayAppend shape p w x chain place r →
+    Goes shape p t s (commit_parts Force t owners) q (Append (cell_of_end t Committed) ∷ rest) x z → MayAppend shape p w x chain place r → HasItsCells shape x r 1 →
     ((a : ℕ) → IsChanged x.log t a → IsTrue (test a)) → IsTrackedImage test lane z (take k (region_append shape p place r)) region i →
     MayStandAt shape w (region_append shape p place r) k i → LeavesCommitted shape p x place r k i
 
@@ -58,7 +59,7 @@ AbortsLeave = (shape : Shape) (p t : ℕ) (s : State) (updates : List Cell) (q :
     (number k : ℕ) (test : ℕ → Bool) (lane : ℕ) (region : Region) (i : Words) →
     let r = appended place number (cell_of_end t RolledBack) in
     IsSoundState shape s → CanAbort shape p t s.log updates → AreNewest s.log t q →
-    Goes shape p t s (abort_parts Force t updates) q (Append (cell_of_end t RolledBack) ∷ rest) x z → MayAppend shape p w x chain place r →
+    Goes shape p t s (abort_parts Force t updates) q (Append (cell_of_end t RolledBack) ∷ rest) x z → MayAppend shape p w x chain place r → HasItsCells shape x r 1 →
     ((a : ℕ) → IsChanged x.log t a → IsTrue (test a)) → IsTrackedImage test lane z (take k (region_append shape p place r)) region i →
     MayStandAt shape w (region_append shape p place r) k i → LeavesKept shape p x place r k i
 

@@ -54,7 +54,7 @@ CheckpointsKeep = (shape : Shape) (p : ℕ) (w : Words) (s : State) (chain : Lis
 abbrev pub CommitEndsWrite : Type 0
 CommitEndsWrite = (shape : Shape) (p : ℕ) (w : Words) (s : State) (chain : List ℕ) (place : Place) (number transaction : ℕ) →
     let e = appended place number (cell_of_end transaction Committed) in
-    MayAppend shape p w s chain place e → IsOfOpen shape s e → AppendCommits shape p w s place e (AreWritten shape s transaction)
+    MayAppend shape p w s chain place e → IsOfOpen shape s e 1 → AppendCommits shape p w s place e (AreWritten shape s transaction)
 
 -- Stores to words whose standing value a record decides keep all standing words.
 abbrev pub StoresKeep : Type 0

@@ -12,7 +12,7 @@ ghost use Rattle.plan_records.specs.Laws.{
 };
 ghost use Rattle.plan_records.specs.Passing.{PassingsKeep};
 ghost use Rattle.plan_records.specs.Others.{OthersKeepOwn, AppendsStandInPart, EndsLeaveDeleted, OwnersAreZero};
-ghost use Rattle.plan_records.specs.Courses.{WritesGoOn, GivesGoOn, CommitsGoOn, AbortsGoOn};
+ghost use Rattle.plan_records.specs.Courses.{CoursesKeepRecords, WritesGoOn, GivesGoOn, CommitsGoOn, AbortsGoOn};
 ghost use Rattle.plan_records.specs.HeapCourses.{
   GoesAreCourses,
   LogPlansAreOnLog,
@@ -98,6 +98,11 @@ pub fn commits_go_on()
 /// and in that of an abort.
 pub fn aborts_go_on()
     ensures { AbortsGoOn }
+{}
+
+/// A transaction that had a record when its plan began has one wherever its lane has come.
+pub fn courses_keep_records()
+    ensures { CoursesKeepRecords }
 {}
 
 /// What others do keeps a transaction's own records.
