@@ -1,5 +1,5 @@
 -- The append of a record in one partition of a region: what each image is, for its view and as a state.
-use Rattle.std.proofs.Common.{◌≡◌, ◌⊎◌, ◌↔◌, inl, inr, ℕ, zero, suc, ◌+◌, ◌<◌, Bool, true, false, List, [], ◌∷◌, ◌++◌, map, take, length, Some, refl, sym, ap, subst, ◌∙◌, arith, append_assoc, nat_lt, if◌then◌else◌, cond}
+use Rattle.std.proofs.Common.{◌≡◌, ◌⊎◌, ◌↔◌, inl, inr, ℕ, zero, suc, ◌+◌, ◌<◌, ◌≤◌, Bool, true, false, List, [], ◌∷◌, ◌++◌, map, take, length, Some, refl, sym, ap, subst, ◌∙◌, arith, append_assoc, nat_lt, if◌then◌else◌, cond}
 use Rattle.std.specs.Prelude.{slice_get}
 use Rattle.std.proofs.lemmas.Bool.Decides.{nat_tests}
 use Rattle.std.proofs.lemmas.List.{take_all, map-append, length-map}
@@ -35,12 +35,12 @@ use Rattle.bucket_log.specs.Words.{IsLogWord, IsPartWord, SameRecords, AddsRecor
 use Rattle.bucket_log.specs.Plans.{closing, body, insertion_of, append_plan}
 use Rattle.bucket_log.specs.Places.{IsPlaceBy}
 use Rattle.bucket_log.specs.Appends.{CanAppend, NextPlacesTake, KeepsOrAdds, region_append, chain_behind, EachAppendingImage, AppendEnds, EachImageOfAppends, AppendsEnd, AppendsLeaveChains}
-use Rattle.bucket_log.specs.States.{less_room, AppendsAreStates, AppendsTakeCell, Gains, with_log, LeadsTo, AppendsGain}
+use Rattle.bucket_log.specs.States.{less_room, AppendsAreStates, AppendsWait, AppendsTakeCell, Gains, with_log, LeadsTo, AppendsGain}
 use Rattle.bucket_log.proofs.Partitions.{few_parts, log_word_out, log_word_own, part_word_below, part_of_cell}
 use Rattle.bucket_log.proofs.RecordSets.{same_cell}
 use Rattle.bucket_log.proofs.Rooms.{room_same}
 use Rattle.bucket_log.proofs.PartStates.{less_here, less_elsewhere, part_kept, part_gained}
-use Rattle.bucket_log.proofs.Appending.{Each-among, among_last, append_images, append_end, append_rests, append_stores}
+use Rattle.bucket_log.proofs.Appending.{Each-among, among_last, append_images, append_waits, append_end, append_rests, append_stores}
 
 -- ---- the events
 
@@ -114,6 +114,12 @@ module _ (shape : Shape) (ok : IsAllowed shape) (p : ℕ) (inside : p < shape.pa
 
   pub view_images : (A : ℕ → Type 0) (k : ℕ) → ((a : ℕ) → IsPartWord shape p a → A a) → Reaches A (progress_at z (map (out_event p) plan) k) v → KeepsOrAdds shape p (view p z) xs r (view p v)
   view_images A k has h = append_images shape p (view p z) (view p v) xs place r k inside can (view_of_append A k has h)
+
+  pub view_waits : (A : ℕ → Type 0) (k : ℕ) → ((a : ℕ) → IsPartWord shape p a → A a) → k + 2 ≤ length (map (out_event p) plan) →
+      Reaches A (progress_at z (map (out_event p) plan) k) v → KeepsLog shape p (view p z) xs (view p v)
+  view_waits A k has short h =
+      let size : length (map (out_event p) plan) ≡ length plan = length-map plan (out_event p) in
+      append_waits shape p (view p z) (view p v) xs place r k inside can (omega (arith, short, size)) (view_of_append A k has h)
 
   -- where all events of the region are made, all of the view are
   view_of_whole : (A : ℕ → Type 0) → ((a : ℕ) → IsPartWord shape p a → A a) → Reaches A (progress_at z (map (out_event p) plan) (length (map (out_event p) plan))) v →
@@ -244,6 +250,9 @@ module _ (shape : Shape) (ok : IsAllowed shape) (p : ℕ) (inside : p < shape.pa
       (records_kept v keeps.chain buckets_before buckets keeps.records)
       (sym (view_room shape p (log_words shape v) keeps.chain buckets) ∙ keeps.room ∙ room_before)
 
+  pub state_waits : (k : ℕ) (v : Words) → k + 2 ≤ length (region_append shape p place r) → Reached k v → HasState shape v (with_heap s (heap_words shape v))
+  state_waits k v short h = kept_state k v h (view_waits shape ok p inside before (log_words shape v) xs place r can (λ a. a < heap shape) k below_heap short (log_reached k v h))
+
   module _ (later : Log) (gains : Gains s.log r later) where
     gained_state : (k : ℕ) (v : Words) → Reached k v → AddsToLog shape p (view p before) xs r (view p (log_words shape v)) →
         HasState shape v (with_heap (with_log p s later) (heap_words shape v))
@@ -365,3 +374,6 @@ appends_take_cell shape p z s xs place r ok inside has can = append_takes_cell s
 
 pub appends_gain : AppendsGain
 appends_gain shape p z s xs place r later ok inside has can gains = append_leads shape ok p inside z s has xs place r can later gains
+
+pub appends_wait : AppendsWait
+appends_wait shape p z v s xs place r k ok inside has can short h = state_waits shape ok p inside z s has xs place r can k v short h

@@ -1,7 +1,7 @@
 -- Each image of each prefix of an append has the records before, or those and the new one.
-use Rattle.std.proofs.Common.{◌≡◌, ◌≢◌, ◌⊎◌, inl, inr, ℕ, zero, suc, ◌+◌, ◌-◌, ◌*◌, ◌<◌, ◌≤◌, Bool, true, false, if◌then◌else◌, List, [], ◌∷◌, ◌++◌, take, drop, length, refl, ap, sym, ◌∙◌, arith, subst}
+use Rattle.std.proofs.Common.{◌≡◌, ◌≢◌, ◌⊎◌, inl, inr, ℕ, zero, suc, ◌+◌, ◌-◌, ◌*◌, ◌<◌, ◌≤◌, Bool, true, false, if◌then◌else◌, List, [], ◌∷◌, ◌++◌, take, drop, length, refl, ap, sym, ◌∙◌, arith, subst, append_assoc}
 use Rattle.std.proofs.lemmas.Bool.Decides.{eqb_tells}
-use Rattle.std.proofs.lemmas.List.{take_all}
+use Rattle.std.proofs.lemmas.List.{take_all, take-append-le, length-append}
 use Rattle.persist_model.specs.declared.event.Event.{Event}
 use Rattle.persist_model.specs.declared.event.Event.TheVariants.{PStore, Fence}
 use Rattle.persist_model.specs.Region.{Words}
@@ -28,7 +28,7 @@ use Rattle.bucket_log.proofs.ListFacts.{insertion_stores, chain_few}
 use Rattle.bucket_log.proofs.Addresses.{bucket_above, list_word_is_no_cell, list_word_is_log_word, cell_word_is_log_word, cells_apart}
 use Rattle.bucket_log.proofs.RecordSets.{same_cell, IsKept, SameRecords-from, AddsRecord-from, gate_of}
 use Rattle.bucket_log.proofs.Rooms.{room_same, room-last, room_full, room_of_push, closed_all, closed_less}
-use Rattle.bucket_log.proofs.Bodies.{cell_stores, cell_away, closed_or_record, record_at_end}
+use Rattle.bucket_log.proofs.Bodies.{cell_stores, cell_away, closed_in_body, closed_or_record, record_at_end}
 
 pub Each-among : (P : ℕ → Type 0) (xs : List ℕ) (b : ℕ) → Each P xs → IsAmong xs b → P b
 Each-among P [] b h m = elim m [ ]
@@ -160,12 +160,24 @@ module _ (shape : Shape) (p : ℕ) (w v : Words) (xs : List ℕ) (place : Place)
       (cell_words shape p place.bucket place.cell r node_is below at) (record { durable = was_shut; none = λ u x. x }) k h)
       [ inl shut ↦ inl (used_kept k h shut) | inr new ↦ inr (used_added k h new) ]
 
+  -- up to the gate's store
+  used_waits : (k : ℕ) → take k (body r ++ opening r) ≡ take k (body r) → Reaches (IsLogWord shape p) (Made k) v → KeepsLog shape p w xs v
+  used_waits k same h = used_kept k h (closed_in_body (IsLogWord shape p) (start w) r v
+      (cell_words shape p place.bucket place.cell r node_is below at) (record { durable = was_shut; none = λ u x. x }) k
+      (subst (λ es. Reaches (IsLogWord shape p) (advance_all (start w) es) v) same h))
+
   used_rests : Reaches (IsLogWord shape p) (advance_all (start w) (body r ++ opening r)) v → IsAtRest shape p v xs
   used_rests h = used_list 10 h
 
   used_end : Reaches (IsLogWord shape p) (advance_all (start w) (body r ++ opening r)) v → AddsToLog shape p w xs r v
   used_end h = used_added 10 h (record_at_end (IsLogWord shape p) (start w) r v
       (cell_words shape p place.bucket place.cell r node_is below at) (record { durable = was_shut; none = λ u x. x }) h)
+
+-- a prefix of the front is one of the whole
+take_front : {X : Type 0} (j : ℕ) (es fs : List X) → (i : ℕ) × (take j es ≡ take i (es ++ fs))
+take_front zero es fs = (0, refl)
+take_front (suc j) [] fs = (0, refl)
+take_front (suc j) (e ∷ es) fs = let h = take_front j es fs in (suc h.0, ap (λ xs. e ∷ xs) h.1)
 
 -- ---- the gates that are being closed
 
@@ -415,11 +427,15 @@ module _ (shape : Shape) (p : ℕ) (w v : Words) (xs : List ℕ) (place : Place)
         omega (arith, all, less, more, before));
   }
 
+  -- while the place's gate is closed too there is no new record
+  still_shut : (k j : ℕ) → Reaches Log (progress_at w ((shut ++ put) ++ cell_part) k) v → Reaches Log (advance_all all_put (take j cell_part)) v → v r.at ≡ 0 → KeepsLog shape p w xs v
+  still_shut k j h s off = longer_chain k h (at_rest (put_list j s)) (no_removal k h) (λ c lt. elim (eqb_tells c place.cell)
+      [ inl e ↦ ap (λ m. v (cell_address node m)) e.1 ∙ ap v (sym at) ∙ off | inr ne ↦ other_gate c j lt ne.1 s ])
+
   once_put : (k j : ℕ) → Reaches Log (progress_at w ((shut ++ put) ++ cell_part) k) v → Reaches Log (advance_all all_put (take j cell_part)) v → KeepsOrAdds shape p w xs r v
   once_put k j h s = elim (closed_or_record Log all_put r v (cell_words shape p node place.cell r is.bucket below at)
       (subst (λ n. IsFixed all_put n 0) (sym at) (all_put_gate place.cell below)) j s) [
-        | inl off ↦ inl (longer_chain k h (at_rest (put_list j s)) (no_removal k h) (λ c lt. elim (eqb_tells c place.cell)
-            [ inl e ↦ ap (λ m. v (cell_address node m)) e.1 ∙ ap v (sym at) ∙ off | inr ne ↦ other_gate c j lt ne.1 s ]))
+        | inl off ↦ inl (still_shut k j h s off)
         | inr new ↦ inr (added k j h s new)
       ]
 
@@ -433,6 +449,24 @@ module _ (shape : Shape) (p : ℕ) (w v : Words) (xs : List ℕ) (place : Place)
     | inr j ↦ once_put k (suc j.0) h (subst (λ q. Reaches Log q v)
         (advance_all-append (start w) (shut ++ put) (take (suc j.0) cell_part) ∙ ap (λ q. advance_all q (take (suc j.0) cell_part)) (advance_all-append (start w) shut put))
         (subst (λ es. Reaches Log (advance_all (start w) es) v) j.1 h))
+  ]
+
+  -- up to the gate's store
+  fresh_waits : (k : ℕ) → take k ((shut ++ put) ++ cell_part) ≡ take k ((shut ++ put) ++ body r) → Reaches Log (progress_at w ((shut ++ put) ++ cell_part) k) v → KeepsLog shape p w xs v
+  fresh_waits k same h = elim (take_cases k (shut ++ put) (body r)) [
+    | inl e ↦ elim (take_cases k shut put) [
+      | inl f ↦ while_shutting k k h (subst (λ es. Reaches Log (advance_all (start w) es) v) (same ∙ e ∙ f) h)
+      | inr j ↦ while_putting k j.0 h (subst (λ q. Reaches Log q v) (advance_all-append (start w) shut (take (suc j.0) put))
+          (subst (λ es. Reaches Log (advance_all (start w) es) v) (same ∙ e ∙ j.1) h))
+    ]
+    | inr j ↦ (
+        let made : Reaches Log (advance_all all_put (take (suc j.0) (body r))) v = subst (λ q. Reaches Log q v)
+        (advance_all-append (start w) (shut ++ put) (take (suc j.0) (body r)) ∙ ap (λ q. advance_all q (take (suc j.0) (body r))) (advance_all-append (start w) shut put))
+        (subst (λ es. Reaches Log (advance_all (start w) es) v) (same ∙ j.1) h) in
+        let few = take_front (suc j.0) (body r) (opening r) in
+        still_shut k few.0 h (subst (λ es. Reaches Log (advance_all all_put es) v) few.1 made)
+        (closed_in_body Log all_put r v (cell_words shape p node place.cell r is.bucket below at)
+        (subst (λ n. IsFixed all_put n 0) (sym at) (all_put_gate place.cell below)) (suc j.0) made))
   ]
 
   -- the cell's events come behind those of the insertion
@@ -476,6 +510,26 @@ image_by shape p w v xs place r k false inside rest is below at gate h = used_im
 pub append_images : (shape : Shape) (p : ℕ) (w v : Words) (xs : List ℕ) (place : Place) (r : Record) (k : ℕ) → p < shape.partitions → CanAppend shape p w xs place r →
     Reaches (IsLogWord shape p) (appending shape w place r k) v → KeepsOrAdds shape p w xs r v
 append_images shape p w v xs place r k inside can h = image_by shape p w v xs place r k place.fresh inside can.at_rest can.is_place can.below can.at can.gate h
+
+-- a prefix that leaves out two events is one of what comes before the gate's store
+up_to_gate : (front : List Event) (r : Record) (k : ℕ) → k + 2 ≤ length (front ++ (body r ++ opening r)) → take k (front ++ (body r ++ opening r)) ≡ take k (front ++ body r)
+up_to_gate front r k short =
+    let parts : (front ++ body r) ++ opening r ≡ front ++ (body r ++ opening r) = append_assoc front (body r) (opening r) in
+    let size : length ((front ++ body r) ++ opening r) ≡ length (front ++ body r) + 2 = length-append (front ++ body r) (opening r) in
+    let whole : length ((front ++ body r) ++ opening r) ≡ length (front ++ (body r ++ opening r)) = ap (λ es. length es) parts in
+    ap (take k) (sym parts) ∙ take-append-le k (front ++ body r) (opening r) (omega (arith, short, size, whole))
+
+waits_by : (shape : Shape) (p : ℕ) (w v : Words) (xs : List ℕ) (place : Place) (r : Record) (k : ℕ) (fresh : Bool) → p < shape.partitions → IsAtRest shape p w xs →
+    IsPlaceBy shape p w xs place fresh → place.cell < shape.cells → r.at ≡ place_address place → r.lsn ≢ 0 → k + 2 ≤ length (plan_by shape.cells place r fresh) →
+    Reaches (IsLogWord shape p) (progress_at w (plan_by shape.cells place r fresh) k) v → KeepsLog shape p w xs v
+waits_by shape p w v xs place r k true inside rest is below at gate short h =
+    fresh_waits shape p w v xs place r inside rest is below at gate k (up_to_gate (closing place.bucket shape.cells ++ insertion (insertion_of place)) r k short) h
+waits_by shape p w v xs place r k false inside rest is below at gate short h = used_waits shape p w v xs place r rest is below at gate k (up_to_gate [] r k short) h
+
+-- before the gate's store each image has the records before
+pub append_waits : (shape : Shape) (p : ℕ) (w v : Words) (xs : List ℕ) (place : Place) (r : Record) (k : ℕ) → p < shape.partitions → CanAppend shape p w xs place r →
+    k + 2 ≤ length (append_plan shape.cells place r) → Reaches (IsLogWord shape p) (appending shape w place r k) v → KeepsLog shape p w xs v
+append_waits shape p w v xs place r k inside can short h = waits_by shape p w v xs place r k place.fresh inside can.at_rest can.is_place can.below can.at can.gate short h
 
 end_by : (shape : Shape) (p : ℕ) (w v : Words) (xs : List ℕ) (place : Place) (r : Record) (fresh : Bool) → p < shape.partitions → IsAtRest shape p w xs →
     IsPlaceBy shape p w xs place fresh → place.cell < shape.cells → r.at ≡ place_address place → r.lsn ≢ 0 →

@@ -88,12 +88,15 @@ module _ (A : ℕ → Type 0) (p : Progress) (r : Record) (v : Words) (words : (
   gate_word : A r.at
   gate_word = words r.at (omega arith) (omega arith)
 
+  -- Up to the gate's store the cell is closed.
+  pub closed_in_body : (j : ℕ) → Reaches A (advance_all p (take j (body r))) v → v r.at ≡ 0
+  closed_in_body j h = Reaches-fixed A (advance_all p (take j (body r))) v r.at 0 gate_word
+      (IsFixed-aways p r.at 0 (take j (body r)) (AreAway-take r.at j (body r) (gate_away r)) closed) h
+
   -- The cell is closed, or it is the record.
   pub closed_or_record : (k : ℕ) → Reaches A (advance_all p (take k (body r ++ opening r))) v → (v r.at ≡ 0) ⊎ (record_at v r.at ≡ r)
   closed_or_record k h = elim (take_cases k (body r) (opening r)) [
-    | inl e ↦ inl (Reaches-fixed A (advance_all p (take k (body r))) v r.at 0 gate_word
-        (IsFixed-aways p r.at 0 (take k (body r)) (AreAway-take r.at k (body r) (gate_away r)) closed)
-        (subst (λ es. Reaches A (advance_all p es) v) e h))
+    | inl e ↦ inl (closed_in_body k (subst (λ es. Reaches A (advance_all p es) v) e h))
     | inr j ↦ gates j.0 (subst (λ es. Reaches A (advance_all p es) v) j.1 h)
   ]
     where

@@ -1,5 +1,5 @@
 -- An append in the form of states.
-use Rattle.std.specs.Prelude.{◌≡◌, ◌⊎◌, ◌↔◌, ℕ, ◌-◌, ◌<◌, ◌==◌, if◌then◌else◌, List, length}
+use Rattle.std.specs.Prelude.{◌≡◌, ◌⊎◌, ◌↔◌, ℕ, ◌+◌, ◌-◌, ◌<◌, ◌≤◌, ◌==◌, if◌then◌else◌, List, length}
 use Rattle.persist_model.specs.declared.event.Event.{Event}
 use Rattle.persist_model.specs.Region.{Words}
 use Rattle.persist_model.specs.Progress.{Reaches}
@@ -29,6 +29,13 @@ abbrev pub AppendsAreStates : Type 0
 AppendsAreStates = (shape : Shape) (p : ℕ) (z : Words) (s : State) (chain : List ℕ) (place : Place) (r : Record) →
     IsAllowed shape → p < shape.partitions → HasState shape z s → CanAppend shape p (view p (log_words shape z)) chain place r → IsAbove s r →
     IsAppend shape z s r (less_room p s.room) (region_append shape p place r)
+
+-- Before the gate's store, which is the last event but one, each image has the state before.
+abbrev pub AppendsWait : Type 0
+AppendsWait = (shape : Shape) (p : ℕ) (z v : Words) (s : State) (chain : List ℕ) (place : Place) (r : Record) (k : ℕ) →
+    IsAllowed shape → p < shape.partitions → HasState shape z s → CanAppend shape p (view p (log_words shape z)) chain place r →
+    k + 2 ≤ length (region_append shape p place r) → Reaches (λ a. a < heap shape) (progress_at z (region_append shape p place r) k) v →
+    HasState shape v (with_heap s (heap_words shape v))
 
 -- the room falls by one in the record's partition alone
 abbrev pub AppendsTakeCell : Type 0

@@ -1,7 +1,7 @@
 //! What the layers above use of the log, as functions that do nothing: the clause is the law.
 ghost use Rattle.bucket_log.specs.Plans.{AppendsHaveEvents};
 ghost use Rattle.bucket_log.specs.Appends.{NextPlacesTake, EachAppendingImage, AppendEnds, EachImageOfAppends, AppendsEnd, AppendsLeaveChains};
-ghost use Rattle.bucket_log.specs.States.{AppendsAreStates, AppendsTakeCell, AppendsGain};
+ghost use Rattle.bucket_log.specs.States.{AppendsAreStates, AppendsWait, AppendsTakeCell, AppendsGain};
 ghost use Rattle.bucket_log.specs.Scans.{ViewsHaveLogs, LogsAreStates};
 
 /// A fresh append has exactly 21 events and one for each cell of a bucket, another has 10.
@@ -42,6 +42,11 @@ pub fn appends_leave_chains()
 /// An append takes the state of a region to the one with the record, at its gate's store.
 pub fn appends_are_states()
     ensures { AppendsAreStates }
+{}
+
+/// Before its gate's store no image has the record.
+pub fn appends_wait()
+    ensures { AppendsWait }
 {}
 
 /// An append takes one cell of the record's partition.
