@@ -45,6 +45,7 @@ closings_keep shape w v s gates ends checkpoints k few has sound groups may r =
       sound = kept.0;
       keeps = kept.1;
       part = part.part;
+      closing = closing;
       no_less = part.no_less;
     }
 

@@ -7,19 +7,21 @@ use Rattle.persist_model.specs.Records.{Record, IsAmong}
 use Rattle.persist_model.specs.Shape.{Shape, heap, heap_words}
 use Rattle.persist_model.specs.State.{State, IsSoundState}
 use Rattle.persist_model.specs.Sound.{HasState}
-use Rattle.log_laws.specs.Closing.{MayClear, IsClosedBy}
+use Rattle.log_laws.specs.Closing.{MayClear, IsClosedBy, IsClosing}
 use Rattle.log_laws.specs.Recovery.{KeepsStanding}
 use Rattle.log_laws.specs.Recovering.{with_heap}
 use Rattle.log_clearing.specs.Plans.{closing_plan}
 use Rattle.log_clearing.specs.Closed.{AreGroups, IsListed}
 
--- v has some of the listed records closed. It is sound, with the standing words of the records before and its own heap words, and no less room.
+-- v has some of the listed records closed, each as it may be with v's own heap words. It is sound, with the standing words of the records before
+-- and these heap words, and no less room.
 pub record IsClearing (shape : Shape) (v : Words) (s : State) (gates ends checkpoints : List ℕ) : Type 0 where
   pub state : State
   pub has : HasState shape v state
   pub sound : IsSoundState shape state
   pub keeps : KeepsStanding shape.policy (with_heap s (heap_words shape v)) state
   pub part : IsClosedBy (IsListed gates ends checkpoints) s.log state.log
+  pub closing : IsClosing shape.policy s.log (heap_words shape v) state.log
   pub no_less : (p : ℕ) → s.room p ≤ state.room p
 
 -- v has all of the listed records closed, and no others.
