@@ -8,6 +8,7 @@ pub mod Partitions
 pub mod PartStates
 pub mod Appended
 pub mod AppendPlans
+pub mod PartWords
 pub mod Counting
 pub mod Walking
 pub mod NextPlaces

@@ -2,6 +2,7 @@
 ghost use Rattle.bucket_log.specs.Plans.{AppendsHaveEvents};
 ghost use Rattle.bucket_log.specs.Appends.{NextPlacesTake, EachAppendingImage, AppendEnds, EachImageOfAppends, AppendsEnd, AppendsLeaveChains};
 ghost use Rattle.bucket_log.specs.States.{AppendsAreStates, AppendsWait, AppendsTakeCell, AppendsGain};
+ghost use Rattle.bucket_log.specs.PartWords.{PartWordsAreTold, AppendsAreOnPart, PartsReach, OwnWordsTake};
 ghost use Rattle.bucket_log.specs.Scans.{ViewsHaveLogs, LogsAreStates};
 
 /// A fresh append has exactly 21 events and one for each cell of a bucket, another has 10.
@@ -57,6 +58,26 @@ pub fn appends_take_cell()
 /// An append whose number was drawn before a newer record's takes the state to the one that has gained the record.
 pub fn appends_gain()
     ensures { AppendsGain }
+{}
+
+/// The test tells the words of a partition.
+pub fn part_words_are_told()
+    ensures { PartWordsAreTold }
+{}
+
+/// An append stores to words of its partition alone.
+pub fn appends_are_on_part()
+    ensures { AppendsAreOnPart }
+{}
+
+/// What a plan of one partition reaches, whatever the words of others have come to.
+pub fn parts_reach()
+    ensures { PartsReach }
+{}
+
+/// A partition's own words decide whether its list is at rest, what may be appended, and the next place.
+pub fn own_words_take()
+    ensures { OwnWordsTake }
 {}
 
 /// The log that is read in a partition's view is the partition's own.

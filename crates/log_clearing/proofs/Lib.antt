@@ -5,3 +5,4 @@ pub mod ClosingImages
 pub mod ClearingStates
 pub mod ClosedBuckets
 pub mod RemovalStates
+pub mod PartPlans

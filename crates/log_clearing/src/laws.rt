@@ -1,6 +1,7 @@
 //! What the layers above use of clearing, as functions that do nothing: the clause is the law.
 ghost use Rattle.log_clearing.specs.Clearing.{ClosingsKeep, ClosingsClear, ClosingsEnd};
 ghost use Rattle.log_clearing.specs.Removals.{ReadRemovalsMayBeMade, RemovalsAreStates, RoomKeeps};
+ghost use Rattle.log_clearing.specs.PartPlans.{RemovalsAreOnPart, ClosingsAreOnPart, OwnWordsDrop};
 
 /// At each prefix of a closing each image is sound, with the same standing words, where the listed records may be cleared.
 pub fn closings_keep()
@@ -30,4 +31,19 @@ pub fn removals_are_states()
 /// More room keeps a state sound, with its standing words.
 pub fn room_keeps()
     ensures { RoomKeeps }
+{}
+
+/// A removal stores to words of its partition alone,
+pub fn removals_are_on_part()
+    ensures { RemovalsAreOnPart }
+{}
+
+/// and so does a closing whose records stand in one partition.
+pub fn closings_are_on_part()
+    ensures { ClosingsAreOnPart }
+{}
+
+/// A partition's own words decide which of its buckets may be dropped.
+pub fn own_words_drop()
+    ensures { OwnWordsDrop }
 {}

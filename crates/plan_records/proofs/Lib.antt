@@ -8,6 +8,7 @@ pub mod PassingStands
 pub mod PassingNeeds
 pub mod PassingLaw
 pub mod Appending
+pub mod RoomBound
 pub mod Records
 pub mod Changes
 pub mod UndoneEnds

@@ -1,5 +1,5 @@
 -- What an append keeps: the images of its prefixes.
-use Rattle.std.specs.Prelude.{◌⊎◌, ℕ, zero, suc, ◌+◌, ◌<◌, ◌≤◌, ◌^◌, List, length}
+use Rattle.std.specs.Prelude.{◌⊎◌, ℕ, zero, suc, ◌+◌, ◌*◌, ◌<◌, ◌≤◌, ◌^◌, List, length}
 use Rattle.persist_model.specs.declared.event.Event.{Event}
 use Rattle.persist_model.specs.Region.{Words}
 use Rattle.persist_model.specs.Progress.{Reaches}
@@ -22,6 +22,10 @@ use Rattle.plan_records.specs.Passing.{inserted, Passes}
 abbrev pub total_room : (ℕ → ℕ) → ℕ → ℕ
 total_room room zero = 0
 total_room room (suc n) = total_room room n + room n
+
+-- A partition has room in its chain's last bucket and in the buckets outside its chain, so all together have at most as much as this.
+abbrev pub RoomIsBounded : Type 0
+RoomIsBounded = (shape : Shape) (w : Words) (s : State) → HasState shape w s → total_room s.room shape.partitions ≤ shape.cells * (shape.buckets + shape.partitions)
 
 -- The words w have a sound state, and the place may take r. Newer records may be there before r; and top, which is above all numbers, leaves
 -- one for each cell that is free, and one more.

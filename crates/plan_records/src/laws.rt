@@ -10,6 +10,7 @@ ghost use Rattle.plan_records.specs.Laws.{
   StoresKeep,
   DropsKeep,
 };
+ghost use Rattle.plan_records.specs.Appends.{RoomIsBounded};
 ghost use Rattle.plan_records.specs.Passing.{PassingsKeep};
 ghost use Rattle.plan_records.specs.Others.{OthersKeepOwn, AppendsStandInPart, EndsLeaveDeleted, OwnersAreZero};
 ghost use Rattle.plan_records.specs.Courses.{CoursesKeepRecords, WritesGoOn, GivesGoOn, CommitsGoOn, AbortsGoOn};
@@ -78,6 +79,11 @@ pub fn stores_keep()
 /// At each prefix of the removal of a closed bucket each image is sound, with the standing words before.
 pub fn drops_keep()
     ensures { DropsKeep }
+{}
+
+/// How much room a region has at most, so that an append has the numbers that it asks for.
+pub fn room_is_bounded()
+    ensures { RoomIsBounded }
 {}
 
 /// Wherever a lane has come in the plan of a write, its next part may begin.
