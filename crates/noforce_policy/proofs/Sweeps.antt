@@ -185,8 +185,14 @@ sweeps_tell = record {
   stores_durably = tells_stored_durably;
   beside = tells_beside;
   fences = tells_fenced;
-  swept = λ shape dirty lane region log clean tells a is redo. elim (tells_fenced shape dirty lane region tells a is.heap_word) [ inl d ↦ absurd (clean a is.heap_word d) | inr one ↦ one ];
-  kept = λ shape region log by e away swept a is redo. stays region by a e (away a is.heap_word) (swept a is redo);
+  swept = λ shape dirty lane region log undone tells a is redo. elim (tells_fenced shape dirty lane region tells a is.heap_word) [
+    | inl d ↦ (let u = undone a is.heap_word d in absurd (is.not_undone u.0 u.1 u.2))
+    | inr one ↦ one
+  ];
+  kept = λ shape region log by e away swept a is redo. elim (away a is.heap_word) [
+    | inl off ↦ stays region by a e off (swept a is redo)
+    | inr u ↦ absurd (is.not_undone u.0 u.1 u.2)
+  ];
 }
 
 -- ---- events on the log

@@ -68,11 +68,11 @@ pub record SweepsTell : Type 0 where
   -- Behind the lane's fence each word that isn't dirty has one value.
   pub fences : (shape : Shape) (dirty : ℕ → Bool) (lane : ℕ) (region : Region) → TellsDirty shape dirty lane region →
       (a : ℕ) → IsHeapWord shape a → IsTrue (dirty a) ⊎ HasOneValue (after region lane Fence) a
-  -- So where no word is dirty all are swept.
-  pub swept : (shape : Shape) (dirty : ℕ → Bool) (lane : ℕ) (region : Region) (log : Log) → ((a : ℕ) → IsHeapWord shape a → IsTrue (dirty a) → ⊥) →
+  -- So all are swept where each dirty word is to be undone: others store to such words meanwhile.
+  pub swept : (shape : Shape) (dirty : ℕ → Bool) (lane : ℕ) (region : Region) (log : Log) → ((a : ℕ) → IsHeapWord shape a → IsTrue (dirty a) → Has (IsToUndo log a) log) →
       TellsDirty shape dirty lane region → AreAllSwept shape log (after region lane Fence)
-  -- and stay so while no heap word is stored to
-  pub kept : (shape : Shape) (region : Region) (log : Log) (by : ℕ) (e : Event) → ((a : ℕ) → IsHeapWord shape a → IsNoStoreTo a e) →
+  -- and stay so while no other heap word is stored to
+  pub kept : (shape : Shape) (region : Region) (log : Log) (by : ℕ) (e : Event) → ((a : ℕ) → IsHeapWord shape a → IsNoStoreTo a e ⊎ Has (IsToUndo log a) log) →
       AreAllSwept shape log region → AreAllSwept shape log (after region by e)
 
 -- Events on the log's words, as those of an append and of a closing, are no stores to heap words, and are beside a sweep but for the lane's own fences.
