@@ -52,7 +52,7 @@ part_in P _ _ (stays x {later = later} {log = log} part) r (inr m) off = inr (pa
 part_in P _ _ (goes x {later = later} {log = log} p part) r (inl e) off = absurd (off (subst P (sym e) p))
 part_in P _ _ (goes x {later = later} {log = log} p part) r (inr m) off = part_in P later log part r m off
 
-part_map : (P Q : Record → Type 0) (later log : Log) → ((r : Record) → IsAmong log r → P r → Q r) → IsPart P later log → IsPart Q later log
+pub part_map : (P Q : Record → Type 0) (later log : Log) → ((r : Record) → IsAmong log r → P r → Q r) → IsPart P later log → IsPart Q later log
 part_map P Q _ _ f empty = empty
 part_map P Q _ _ f (stays r {later = later} {log = log} part) = stays r (part_map P Q later log (λ s m. f s (inr m)) part)
 part_map P Q _ _ f (goes r {later = later} {log = log} p part) = goes r (f r (inl refl) p) (part_map P Q later log (λ s m. f s (inr m)) part)

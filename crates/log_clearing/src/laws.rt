@@ -1,11 +1,16 @@
 //! What the layers above use of clearing, as functions that do nothing: the clause is the law.
-ghost use Rattle.log_clearing.specs.Clearing.{ClosingsKeep, ClosingsClear, ClosingsEnd};
+ghost use Rattle.log_clearing.specs.Clearing.{ClosingsKeep, DroppingsKeep, ClosingsClear, ClosingsEnd};
 ghost use Rattle.log_clearing.specs.Removals.{ReadRemovalsMayBeMade, RemovalsAreStates, RoomKeeps};
 ghost use Rattle.log_clearing.specs.PartPlans.{RemovalsAreOnPart, ClosingsAreOnPart, OwnWordsDrop};
 
 /// At each prefix of a closing each image is sound, with the same standing words, where the listed records may be cleared.
 pub fn closings_keep()
     ensures { ClosingsKeep }
+{}
+
+/// So it is where deletions of running transactions are closed.
+pub fn droppings_keep()
+    ensures { DroppingsKeep }
 {}
 
 /// A whole closing has closed the listed records, and no others.

@@ -139,7 +139,7 @@ checkpoint_sound shape s c room h a is first two opened none = record {
 
 -- ---- a closing
 
-newest_first_part : (P : Record → Type 0) (later log : Log) → IsPart P later log → IsNewestFirst log → IsNewestFirst later
+pub newest_first_part : (P : Record → Type 0) (later log : Log) → IsPart P later log → IsNewestFirst log → IsNewestFirst later
 newest_first_part P _ _ empty n = n
 newest_first_part P _ _ (goes r p part) n = newest_first_part P _ _ part n.1
 newest_first_part P _ _ (stays r {later = later} {log = log} part) n = (λ s m. n.0 s (part_among P later log part s m), newest_first_part P later log part n.1)

@@ -30,6 +30,7 @@ pub mod Committing
 pub mod SameLists
 pub mod Views
 mod Examples
+pub mod Deferring
 pub mod Moving
 pub mod MoveNeeds
 pub mod MoveRooms

@@ -6,12 +6,13 @@ use Rattle.persist_model.specs.Shape.{Shape, part_of}
 use Rattle.persist_model.specs.ImageRecords.{IsWellFormed}
 use Rattle.persist_model.specs.State.{State, HasNumbers, IsSoundState}
 use Rattle.log_laws.specs.Recovery.{grown, KeepsStanding}
-use Rattle.log_laws.specs.Moves.{Arrives, MayName, Move, writes_words, adds_update, adds_deletion, adds_rollback, adds_compensation, adds_rolled_end, adds_checkpoint, drops_records, MayCommit, StandsCommitted}
+use Rattle.log_laws.specs.Moves.{Arrives, MayName, Move, writes_words, adds_update, adds_deletion, adds_rollback, adds_compensation, adds_rolled_end, adds_checkpoint, drops_records, drops_deletions, MayCommit, StandsCommitted}
 use Rattle.log_laws.proofs.Standings.{stands_stored}
 use Rattle.log_laws.proofs.Growing.{IsAbove, order_grown, stands_noted, bars_before}
 use Rattle.log_laws.proofs.Undoing.{IsInPart, fresh_above, rollback_follows, compensation_follows, end_follows, checkpoint_follows, stands_ended, stands_swept}
 use Rattle.log_laws.proofs.Closings.{stands_closed}
 use Rattle.log_laws.proofs.Committing.{IsCommitEnd, stands_updated, stands_deleted, stands_changed, stands_uncommitted}
+use Rattle.log_laws.proofs.Deferring.{stands_left, deferred_sound}
 use Rattle.log_laws.proofs.Keeping.{good_of, undone_of, top_is_next, closing_sound}
 
 -- ---- the record may follow
@@ -88,6 +89,8 @@ moves_keep shape s _ h (adds_checkpoint c room a is swept) = (
 )
 moves_keep shape s _ h (drops_records later room c more) =
     (closing_sound shape s later room h c more, stands_closed shape.policy s.log s.words later c)
+moves_keep shape s _ h (drops_deletions later room part more) =
+    (deferred_sound shape s later room h part more, stands_left s.log later part shape.policy s.words)
 
 -- ---- the end of a commit
 

@@ -8,7 +8,7 @@ use Rattle.persist_model.specs.Shape.{Shape, part_of}
 use Rattle.persist_model.specs.ImageRecords.{IsWellFormed}
 use Rattle.persist_model.specs.Need.{to_undo}
 use Rattle.persist_model.specs.State.{State, HasRoom, HasNumbers, IsSoundState}
-use Rattle.log_laws.specs.Closing.{IsApplied, IsClosing}
+use Rattle.log_laws.specs.Closing.{IsApplied, IsPart, IsClosing}
 use Rattle.log_laws.specs.Recovery.{IsCovered, IsStored, grown, KeepsStanding}
 
 -- r takes a number above all others and a cell of its part, and the room and the numbers that are left are enough.
@@ -39,6 +39,10 @@ pub record MayUpdate (policy : ℕ) (s : State) (u : Record) : Type 0 where
 abbrev pub AreSwept : ℕ → Log → Words → Type 0
 AreSwept policy log w = (a : ℕ) → HasNo (IsToUndo log a) log → HasNo (IsToDelete log a) log → IsApplied policy log w a
 
+-- a deletion of a running transaction, which decides no word yet
+abbrev pub IsDeferred : Log → Record → Type 0
+IsDeferred log d = IsDeletion d × IsRunning log d.transaction
+
 -- What a running transaction's plan, a checkpoint or a clearing does, but for the end of a commit.
 pub data Move (shape : Shape) (s : State) : State → Type 0 where
   writes_words : (w : Words) → ((a : ℕ) → (w a ≡ s.words a) ⊎ IsCovered shape.policy s.log a) →
@@ -54,6 +58,8 @@ pub data Move (shape : Shape) (s : State) : State → Type 0 where
       to_undo e.transaction s.log ≡ [] → IsStored e.transaction s.log s.words → Move shape s (grown s e room)
   adds_checkpoint : (c : Record) (room : ℕ → ℕ) → Arrives shape s c room → IsCheckpoint c → AreSwept shape.policy s.log s.words → Move shape s (grown s c room)
   drops_records : (later : Log) (room : ℕ → ℕ) → IsClosing shape.policy s.log s.words later → ((p : ℕ) → s.room p ≤ room p) →
+      Move shape s (record { log = later; words = s.words; room = room })
+  drops_deletions : (later : Log) (room : ℕ → ℕ) → IsPart (IsDeferred s.log) later s.log → ((p : ℕ) → s.room p ≤ room p) →
       Move shape s (record { log = later; words = s.words; room = room })
 
 -- Each move keeps a sound state sound, with its standing values.
