@@ -18,13 +18,13 @@ pub mod Beside
 pub mod AbortCourse
 pub mod CommitCourse
 pub mod WriteCourse
-mod HeapOwn
+pub mod HeapOwn
 mod HeapGoing
 mod HeapWrites
 mod HeapCommits
 mod HeapAborts
 mod HeapRegions
 mod HeapClears
-mod HeapUpdates
+pub mod HeapUpdates
 mod HeapImages
 mod HeapExamples

@@ -1,0 +1,5 @@
+use Rattle.history_laws.proofs.Images as lemmas
+use Rattle.history_laws.proofs.tracked_images_reach.Goals as goal
+
+pub returns : goal.returns
+returns c = lemmas.tracked_images_reach

@@ -1,0 +1,29 @@
+-- Each image stands for the history and some of the flight.
+use Rattle.std.specs.Prelude.{ℕ, List}
+use Rattle.persist_model.specs.Region.{Words, Region, MayStand}
+use Rattle.persist_model.specs.Shape.{Shape, shape_of, heap_words, IsShape}
+use Rattle.persist_model.specs.State.{State}
+use Rattle.region_layout.specs.Layout.{IsAllowed}
+use Rattle.history_laws.specs.Histories.{Entry, fold}
+use Rattle.history_laws.specs.Stands.{StandsFor}
+use Rattle.history_laws.specs.UnderWay.{UnderWay}
+use Rattle.history_laws.specs.Below.{LawsBelow}
+use Rattle.history_laws.specs.Choices.{HasChoice}
+use Rattle.history_laws.specs.Moments.{IsMoment, IsReached, AreTracked}
+
+-- Each image has a sound state whose log is the settled log with some of the stored records, and without some of those being closed, and
+-- each heap word stands at its value behind the history and the commits in flight that are in that log.
+abbrev pub ImagesHaveChoices : Type 0
+ImagesHaveChoices = (shape : Shape) (base : Words) (s : State) (h : Words) (flight : List Entry) (under : ℕ → UnderWay) (i : Words) → LawsBelow →
+    IsMoment shape base s h flight under (heap_words shape i) → IsReached shape base under i → HasChoice shape under s h flight (heap_words shape i) shape.partitions i
+
+-- What a stop leaves of a region is such words.
+abbrev pub TrackedImagesReach : Type 0
+TrackedImagesReach = (shape : Shape) (base : Words) (under : ℕ → UnderWay) (holder : ℕ → ℕ) (region : Region) (i : Words) → IsAllowed shape →
+    AreTracked shape base under holder region → MayStand i region → IsReached shape base under i
+
+-- So it stands for the history and some of the flight.
+abbrev pub ImagesStand : Type 0
+ImagesStand = (size : ℕ) (base : Words) (s : State) (start : Words) (history flight : List Entry) (under : ℕ → UnderWay) (i : Words) → LawsBelow → IsShape size base →
+    IsMoment (shape_of base) base s (fold start history) flight under (heap_words (shape_of base) i) → IsReached (shape_of base) base under i →
+    StandsFor size start history flight i
