@@ -103,16 +103,23 @@ module _ (shape : Shape) (under : ℕ → UnderWay) (n : ℕ) (s x : State) (c :
 
 -- a record that isn't skipped leaves the log open
 pub opened : (x : State) (r : Record) → r.kind ≢ 5 → Passes x.log r → IsRunning x.log r.transaction → HasOpen (inserted r x.log)
-opened x r plain passes running = (r, inserted_in r x.log r (inl refl), (plain, λ k. elim (inserted_out r x.log k.0 k.1) [
-  | inr m ↦ running k.0 m k.2.0
-  | inl e ↦ (
-      let check = k.2.1.2 in
-      let less = ap (λ (z : Record). z.lsn) e in
-      elim (inserted_out r x.log k.2.1.0 k.2.1.1) [
-        | inl same ↦ plain (ap (λ (z : Record). z.kind) (sym same) ∙ check.0)
-        | inr m ↦ (passes.newer k.2.1.0 m (let lt = check.1 in omega (arith, lt, less))).no_checkpoint check.0
-      ])
-]))
+opened x r plain passes running = (
+  r,
+  inserted_in r x.log r (inl refl),
+  (
+    plain,
+    λ k. elim (inserted_out r x.log k.0 k.1) [
+      | inr m ↦ running k.0 m k.2.0
+      | inl e ↦ (
+          let check = k.2.1.2 in
+          let less = ap (λ (z : Record). z.lsn) e in
+          elim (inserted_out r x.log k.2.1.0 k.2.1.1) [
+            | inl same ↦ plain (ap (λ (z : Record). z.kind) (sym same) ∙ check.0)
+            | inr m ↦ (passes.newer k.2.1.0 m (let lt = check.1 in omega (arith, lt, less))).no_checkpoint check.0
+          ])
+    ],
+  ),
+)
 
 -- ---- commits in flight
 

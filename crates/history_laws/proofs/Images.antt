@@ -22,11 +22,10 @@ use Rattle.plan_records.specs.Appends.{MayStandAt}
 use Rattle.history_laws.specs.Histories.{Entry, fold}
 use Rattle.history_laws.specs.Stands.{has_commit}
 use Rattle.history_laws.specs.UnderWay.{record_of_adding, UnderWay, nothing, appends, closes, drops, plan_of, made_of, IsAddedIn}
-use Rattle.history_laws.specs.Below.{LawsBelow}
 use Rattle.history_laws.specs.Choices.{HasChoice}
 use Rattle.history_laws.specs.Moments.{IsRunningIn, IsMoment, IsReached}
 use Rattle.history_laws.specs.Stands.{IsHeader}
-use Rattle.history_laws.specs.Laws.{TrackedImagesReach, ImagesHaveChoices, ImagesStand}
+use Rattle.history_laws.specs.Laws.{TrackedImagesReach, ImagesHaveChoices, ImagesStand, RegionsStand}
 use Rattle.history_laws.proofs.Folding.{commit_cases, value_none}
 use Rattle.history_laws.proofs.Headers.{header_below, header_is_none's, stands_for}
 use Rattle.history_laws.proofs.PartWords.{decide_part, some_part, replaced, replaced_in, replaced_out, parts_reach, view_replaced, heap_words_alike, same_state}
@@ -36,7 +35,7 @@ use Rattle.history_laws.proofs.Conditions.{added_plain}
 use Rattle.history_laws.proofs.Choosing.{chosen_none}
 use Rattle.history_laws.proofs.Stepping.{step_nothing, step_drop, step_close, step_waits, step_stored}
 
-module _ (below : LawsBelow) (shape : Shape) (base : Words) (s : State) (h : Words) (flight : List Entry) (under : ℕ → UnderWay) (i : Words)
+module _ (shape : Shape) (base : Words) (s : State) (h : Words) (flight : List Entry) (under : ℕ → UnderWay) (i : Words)
     (moment : IsMoment shape base s h flight under (heap_words shape i)) (reached : IsReached shape base under i) where
   -- the image's words in the first n partitions and in the heap, the settled ones elsewhere
   record IsMixed (n : ℕ) (w : Words) : Type 0 where
@@ -91,21 +90,21 @@ module _ (below : LawsBelow) (shape : Shape) (base : Words) (s : State) (h : Wor
     next_choice : Choice n before → (u : UnderWay) → under n ≡ u → IsRunningIn shape base s h flight (heap_words shape i) n u →
         Reaches (IsPartWord shape n) (progress_at base (plan_of shape n u) (made_of u)) w → Choice (suc n) w
     unfolding before
-    next_choice choice nothing is runs there = step_nothing below shape base s h flight under (heap_words shape i) moment n inside before w alike choice
+    next_choice choice nothing is runs there = step_nothing shape base s h flight under (heap_words shape i) moment n inside before w alike choice
         (λ a lt. elim (decide_part shape n a moment.allowed inside) [
           | inl m ↦ (elim (there a m) [ inl e ↦ e | inr k ↦ absurd k ]) ∙ sym (replaced_in shape n moment.allowed inside base w a m)
           | inr off ↦ sym (replaced_out shape n moment.allowed inside base w a off)
         ])
-    next_choice choice (drops r made) is can there = step_drop below shape base s h flight under (heap_words shape i) moment n inside before w alike choice r made
+    next_choice choice (drops r made) is can there = step_drop shape base s h flight under (heap_words shape i) moment n inside before w alike choice r made
         (drops_see_own shape n (view n (log_words shape base)) (view n (log_words shape before)) r (view_replaced shape n moment.allowed inside base w) can)
         (parts_reach shape n moment.allowed inside base w (region_removal n r) made (removal_in_part shape n base r can) there)
-    next_choice choice (closes gates ends made) is group there = step_close below shape base s h flight under (heap_words shape i) moment n inside before w alike choice gates ends made is group
+    next_choice choice (closes gates ends made) is group there = step_close shape base s h flight under (heap_words shape i) moment n inside before w alike choice gates ends made is group
         (parts_reach shape n moment.allowed inside base w (closing_plan gates ends []) made (closing_in_part shape n gates ends group.gates_in) there)
     next_choice choice (appends x made) is runs there = elim (cases_lt (length (region_append shape n x.place (record_of_adding x))) (made + 2)) [
-      | inr early ↦ step_waits below shape base s h flight under (heap_words shape i) moment n inside before w alike choice x.place x.number x.added made runs.chain can early made_there
+      | inr early ↦ step_waits shape base s h flight under (heap_words shape i) moment n inside before w alike choice x.place x.number x.added made runs.chain can early made_there
       | inl stored ↦ (
           let ready = runs.ready stored in
-          step_stored below shape base s h flight under (heap_words shape i) moment n inside before w alike choice x.place x.number x.added made runs.chain can
+          step_stored shape base s h flight under (heap_words shape i) moment n inside before w alike choice x.place x.number x.added made runs.chain can
           (subst (λ u. IsAddedIn shape n u (record_of_adding x)) (sym is) (stored, refl)) (added_plain x) ready.passes ready.can ready.serves made_there)
     ]
       where
@@ -140,14 +139,19 @@ tracked_images_reach shape base under holder region i ok tracked image = record 
 }
 
 pub images_have_choices : ImagesHaveChoices
-images_have_choices shape base s h flight under i below moment reached = image_choice below shape base s h flight under i moment reached
+images_have_choices shape base s h flight under i moment reached = image_choice shape base s h flight under i moment reached
 
 pub images_stand : ImagesStand
-images_stand size base s start history flight under i below is moment reached =
+images_stand size base s start history flight under i is moment reached =
     stands_for size base i is header start history flight choice.state choice.has choice.sound choice.standing
   where
     header : (a : ℕ) → IsHeader a → i a ≡ base a
     header a k = reached.header a (header_below a k) (λ p lt m. header_is_none's (shape_of base) p a (few_parts (shape_of base) p moment.allowed lt) k m)
 
     choice : HasChoice (shape_of base) under s (fold start history) flight (heap_words (shape_of base) i) (shape_of base).partitions i
-    choice = images_have_choices (shape_of base) base s (fold start history) flight under i below moment reached
+    choice = images_have_choices (shape_of base) base s (fold start history) flight under i moment reached
+
+pub regions_stand : RegionsStand
+regions_stand base s start history flight under holder region is tracked moments i image =
+    images_stand region.size base s start history flight under i is (moments i image)
+    (tracked_images_reach (shape_of base) base under holder region i (moments i image).allowed tracked image)

@@ -5,11 +5,12 @@ pub mod OwnWords
 pub mod Owning
 pub mod Conditions
 pub mod Choosing
+pub mod Waiting
+pub mod Groups
 pub mod Appending
 pub mod Stepping
 pub mod Images
 pub mod Growing
 pub mod Headers
 pub mod Checkpoints
-pub mod Groups
 mod Examples

@@ -122,7 +122,7 @@ rooms_fit shape w s ok has = by (shape.partitions - 1) (let some = ok.partitions
         let is : suc m ≡ shape.partitions = omega (arith, last) in
         let whole : total_room s.room shape.partitions ≤ shape.cells * shape.buckets + shape.cells * shape.partitions =
         subst (λ n. total_room s.room n ≤ shape.cells * shape.buckets + shape.cells * n) is
-            (subst (λ b. total_room s.room (suc m) ≤ shape.cells * b + shape.cells * suc m) (all_buckets shape m last) most) in
+        (subst (λ b. total_room s.room (suc m) ≤ shape.cells * b + shape.cells * suc m) (all_buckets shape m last) most) in
         let parted : shape.cells * (shape.buckets + shape.partitions) ≡ shape.cells * shape.buckets + shape.cells * shape.partitions = mul_add shape.cells shape.buckets shape.partitions in
         omega (arith, whole, parted)
       where

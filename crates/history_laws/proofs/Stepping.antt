@@ -28,19 +28,21 @@ use Rattle.plan_records.proofs.Records.{drops_keep}
 use Rattle.history_laws.specs.Histories.{Entry, value_behind}
 use Rattle.history_laws.specs.Stands.{has_commit, kept_of}
 use Rattle.history_laws.specs.UnderWay.{Added, cell_of, record_of_adding, UnderWay, nothing, appends, closes, drops, IsAddedIn, IsClosedIn}
-use Rattle.history_laws.specs.Below.{LawsBelow, MayClearGroup, IsGroupClearing}
+use Rattle.history_laws.specs.Below.{MayClearGroup, IsGroupClearing}
 use Rattle.history_laws.specs.Choices.{IsChosen, HasChoice}
 use Rattle.history_laws.specs.Moments.{CanAdd, Serves, IsInFlight, IsClosingGroup, IsRunningIn, IsMoment}
 use Rattle.history_laws.proofs.Folding.{commit_same, value_kept}
 use Rattle.history_laws.proofs.PartWords.{same_state}
 use Rattle.history_laws.proofs.PlanWords.{gate_of_part}
+use Rattle.history_laws.proofs.Groups.{groups_keep}
 use Rattle.history_laws.proofs.OwnWords.{rooms_fit}
+use Rattle.history_laws.proofs.Waiting.{appends_wait}
 use Rattle.history_laws.proofs.Owning.{need_passing, own_running, own_back}
 use Rattle.history_laws.proofs.Conditions.{IsBeside, added_plain, added_runs, passes_there}
 use Rattle.history_laws.proofs.Choosing.{chosen_kept, chosen_added, chosen_closed}
 use Rattle.history_laws.proofs.Appending.{HeapMeets, append_leaves, left_by, can_there, meets_there, opened, commits_beside, stands_committed}
 
-module _ (below : LawsBelow) (shape : Shape) (base : Words) (s : State) (h : Words) (flight : List Entry) (under : ℕ → UnderWay) (found : Words)
+module _ (shape : Shape) (base : Words) (s : State) (h : Words) (flight : List Entry) (under : ℕ → UnderWay) (found : Words)
     (moment : IsMoment shape base s h flight under found) (n : ℕ) (inside : n < shape.partitions) where
   abbrev Choice : ℕ → Words → Type 0
   Choice k w = HasChoice shape under s h flight found k w
@@ -204,7 +206,7 @@ module _ (below : LawsBelow) (shape : Shape) (base : Words) (s : State) (h : Wor
       }
 
       pub step_close : MayStandAt shape before (closing_plan gates ends []) made w → Choice (suc n) w
-      step_close reached = closed_choice (below.groups shape before w x gates ends [] made few choice.has choice.sound groups_there may_clear reached)
+      step_close reached = closed_choice (groups_keep shape before w x gates ends [] made few choice.has choice.sound groups_there may_clear reached)
 
     -- ---- an append
 
@@ -215,7 +217,7 @@ module _ (below : LawsBelow) (shape : Shape) (base : Words) (s : State) (h : Wor
       pub step_waits : CanAppend shape n (view n (log_words shape before)) chain place r → made + 2 ≤ length (region_append shape n place r) →
           MayStandAt shape before (region_append shape n place r) made w → Choice (suc n) w
       step_waits can early reached = stays (record {
-        has = below.waits shape n before w x chain place r made moment.allowed inside choice.has can early reached;
+        has = appends_wait shape n before w x chain place r made moment.allowed inside choice.has can early reached;
         sound = sound_with_heap shape x (heap_words shape w) choice.sound;
         standing = λ a u st. st;
       })

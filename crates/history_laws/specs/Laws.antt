@@ -7,23 +7,29 @@ use Rattle.region_layout.specs.Layout.{IsAllowed}
 use Rattle.history_laws.specs.Histories.{Entry, fold}
 use Rattle.history_laws.specs.Stands.{StandsFor}
 use Rattle.history_laws.specs.UnderWay.{UnderWay}
-use Rattle.history_laws.specs.Below.{LawsBelow}
 use Rattle.history_laws.specs.Choices.{HasChoice}
 use Rattle.history_laws.specs.Moments.{IsMoment, IsReached, AreTracked}
 
--- Each image has a sound state whose log is the settled log with some of the stored records, and without some of those being closed, and
--- each heap word stands at its value behind the history and the commits in flight that are in that log.
-abbrev pub ImagesHaveChoices : Type 0
-ImagesHaveChoices = (shape : Shape) (base : Words) (s : State) (h : Words) (flight : List Entry) (under : ℕ → UnderWay) (i : Words) → LawsBelow →
-    IsMoment shape base s h flight under (heap_words shape i) → IsReached shape base under i → HasChoice shape under s h flight (heap_words shape i) shape.partitions i
-
--- What a stop leaves of a region is such words.
+-- What a stop leaves of a region is, in each partition, what its part has reached.
 abbrev pub TrackedImagesReach : Type 0
 TrackedImagesReach = (shape : Shape) (base : Words) (under : ℕ → UnderWay) (holder : ℕ → ℕ) (region : Region) (i : Words) → IsAllowed shape →
     AreTracked shape base under holder region → MayStand i region → IsReached shape base under i
 
+-- Each image has a sound state whose log is the settled log with some of the stored records, and without some of those being closed, and
+-- each heap word stands at its value behind the history and the commits in flight that are in that log.
+abbrev pub ImagesHaveChoices : Type 0
+ImagesHaveChoices = (shape : Shape) (base : Words) (s : State) (h : Words) (flight : List Entry) (under : ℕ → UnderWay) (i : Words) →
+    IsMoment shape base s h flight under (heap_words shape i) → IsReached shape base under i → HasChoice shape under s h flight (heap_words shape i) shape.partitions i
+
 -- So it stands for the history and some of the flight.
 abbrev pub ImagesStand : Type 0
-ImagesStand = (size : ℕ) (base : Words) (s : State) (start : Words) (history flight : List Entry) (under : ℕ → UnderWay) (i : Words) → LawsBelow → IsShape size base →
+ImagesStand = (size : ℕ) (base : Words) (s : State) (start : Words) (history flight : List Entry) (under : ℕ → UnderWay) (i : Words) → IsShape size base →
     IsMoment (shape_of base) base s (fold start history) flight under (heap_words (shape_of base) i) → IsReached (shape_of base) base under i →
     StandsFor size start history flight i
+
+-- So whatever a stop leaves of a region stands for the history and some of the flight, where what is asked holds with each image's heap words.
+abbrev pub RegionsStand : Type 0
+RegionsStand = (base : Words) (s : State) (start : Words) (history flight : List Entry) (under : ℕ → UnderWay) (holder : ℕ → ℕ) (region : Region) → IsShape region.size base →
+    AreTracked (shape_of base) base under holder region →
+    ((i : Words) → MayStand i region → IsMoment (shape_of base) base s (fold start history) flight under (heap_words (shape_of base) i)) →
+    (i : Words) → MayStand i region → StandsFor region.size start history flight i
