@@ -1,6 +1,7 @@
 -- An append in a state that other partitions made.
 use Rattle.std.proofs.Common.{◌≡◌, ◌≢◌, ◌⊎◌, inl, inr, ℕ, ◌<◌, true, List, refl, sym, ap, ◌∙◌, subst, arith}
 use Rattle.persist_model.specs.Region.{Words}
+use Rattle.persist_model.specs.Progress.{latest}
 use Rattle.persist_model.specs.Records.{Record, Log, IsAmong, Has, HasNo, IsOf, IsEnd, IsRunning}
 use Rattle.persist_model.specs.Standing.{Stands}
 use Rattle.persist_model.specs.Shape.{Shape, part_of, IsHeapWord, heap_words}
@@ -18,12 +19,12 @@ use Rattle.plan_records.proofs.Changes.{decide_change}
 use Rattle.plan_records.proofs.Passing.{inserted_out, inserted_in}
 use Rattle.plan_records.proofs.Records.{updates_keep, deletions_keep, rollbacks_keep, compensations_keep, commit_ends_write}
 use Rattle.plan_records.proofs.UndoneEnds.{undone_ends_keep}
-use Rattle.history_laws.specs.Histories.{Entry, value_behind, LeavesValue}
+use Rattle.history_laws.specs.Histories.{Entry, value_behind, LeavesWord}
 use Rattle.history_laws.specs.Stands.{has_commit, kept_of}
 use Rattle.history_laws.specs.UnderWay.{Added, an_update, a_deletion, a_rollback, a_compensation, an_undone_end, a_commit_end, cell_of, UnderWay, IsAddedIn}
 use Rattle.history_laws.specs.Choices.{IsChosen}
 use Rattle.history_laws.specs.Moments.{CanAdd, Serves, IsInFlight}
-use Rattle.history_laws.proofs.Folding.{IsCommitEndOf, commit_is, commit_same, value_kept, value_one}
+use Rattle.history_laws.proofs.Folding.{IsCommitEndOf, commit_is, commit_same, value_kept, value_one, in_split}
 use Rattle.history_laws.proofs.Owning.{latest_forth, changes_forth, deletions_forth, deleted_forth}
 use Rattle.history_laws.proofs.Conditions.{IsBeside, updates_there, deletions_there, rollbacks_there, compensations_there, undone_ends_there, commit_ends_there, last_there, written_there, update_of_there}
 
@@ -58,16 +59,16 @@ append_leaves shape p w v x chain place number made (an_undone_end t) may can me
 append_leaves shape p w v x chain place number made (a_commit_end t) may can meets reached = (commit_ends_write shape p w x chain place number t may can).images made v meets reached
 
 -- the record is a commit's end, with the transaction in flight, and the words stand as it wrote them
-pub record EndsCommit (shape : Shape) (v : Words) (s : State) (flight : List Entry) (x y : State) (r : Record) : Type 0 where
+pub record EndsCommit (shape : Shape) (v : Words) (s : State) (h : Words) (flight : List Entry) (x y : State) (r : Record) : Type 0 where
   pub end : IsEnd r
   pub one : r.outcome ≡ 1
-  pub going : IsInFlight s.log flight r.transaction
+  pub going : IsInFlight s.log h flight r.transaction
   pub commits : Commits shape v x r.transaction y
 
 -- or it isn't, and they stand as before
 pub left_by : (shape : Shape) (v : Words) (s : State) (h : Words) (flight : List Entry) (heap : Words) (x y : State) (place : Place) (number : ℕ) (added : Added) →
     let r = appended place number (cell_of added) in
-    Serves shape s h flight heap r added → Leaves shape v x y added → ((IsEnd r → r.outcome ≡ 1 → ⊥) × Keeps shape v x y) ⊎ EndsCommit shape v s flight x y r
+    Serves shape s h flight heap r added → Leaves shape v x y added → ((IsEnd r → r.outcome ≡ 1 → ⊥) × Keeps shape v x y) ⊎ EndsCommit shape v s h flight x y r
 left_by shape v s h flight heap x y place number (an_update u) serves k = inl ((λ four one. omega (arith, four)), k)
 left_by shape v s h flight heap x y place number (a_deletion g) serves k = inl ((λ four one. omega (arith, four)), k)
 left_by shape v s h flight heap x y place number (a_rollback t) serves k = inl ((λ four one. omega (arith, four)), k)
@@ -141,7 +142,7 @@ decide_deletion_by t a r = elim (decide_equal r.kind 6) [
 -- With the end of a commit each word stands at its value behind the commits in flight that are there now.
 module _ (shape : Shape) (under : ℕ → UnderWay) (n : ℕ) (s x : State) (c : IsChosen shape under n s x) (v : Words) (h : Words) (flight : List Entry) (t : ℕ) (r : Record)
     (own : r.transaction ≡ t) (end : r.kind ≡ 4) (one : r.outcome ≡ 1) (running : IsRunning s.log t) (none : (q : ℕ) (y : Record) → q < n → IsAddedIn shape q (under q) y → IsOf t y → ⊥)
-    (going : IsInFlight s.log flight t) (k : Commits shape v x t (with_record n x r)) where
+    (going : IsInFlight s.log h flight t) (k : Commits shape v x t (with_record n x r)) where
   abbrev later : Log
   later = inserted r x.log
 
@@ -151,26 +152,23 @@ module _ (shape : Shape) (under : ℕ → UnderWay) (n : ℕ) (s x : State) (c :
   there : has_commit t later ≡ true
   there = commit_is t later (r, inserted_in r x.log r (inl refl), ((end, own), one))
 
-  by_one : (a u z : ℕ) → Has (IsDeletionBy t a) s.log ⊎ Has (IsChangeBy t a) s.log → ((e : Entry) → IsAmong flight e → e.transaction ≡ t → LeavesValue e a z) →
-      value_behind (kept_of later flight) a u ≡ z
-  by_one a u z named leaves = value_one flight later t a z u (λ e m. elim (decide_equal e.transaction t) [
-    | inl same ↦ inl (same, leaves e m same)
-    | inr ne ↦ inr (ne, going.alone e m ne a named)
-  ]) there (inl (going.entry, going.among, going.own))
+  by_one : (a z : ℕ) → Has (IsDeletionBy t a) s.log ⊎ Has (IsChangeBy t a) s.log → latest going.entry.writes a (h a) ≡ z → value_behind (kept_of later flight) a (h a) ≡ z
+  by_one a z named makes = ap (λ es. value_behind (kept_of later es) a (h a)) going.split ∙
+      value_one going.front going.entry going.rest later a (h a) z (ap (λ u. has_commit u later) going.own ∙ there) (λ f m. going.alone f m a named) makes
 
   by_none : (a u : ℕ) → HasNo (IsDeletionBy t a) s.log → HasNo (IsChangeBy t a) s.log → value_behind (kept_of x.log flight) a u ≡ value_behind (kept_of later flight) a u
-  by_none a u nd nc = value_kept flight x.log later a u (λ e m. elim (decide_equal e.transaction t) [
-    | inl same ↦ inr ((going.writes e m same).others a nd nc)
-    | inr ne ↦ inl (commits_beside e.transaction r x.log (λ is. ne (sym is.0.1 ∙ own)))
+  by_none a u nd nc = value_kept flight x.log later a u (λ e m. elim (in_split going.front going.entry going.rest e (subst (λ es. IsAmong es e) going.split m)) [
+    | inl is ↦ inr (subst (λ f. LeavesWord f a) (sym is) (going.writes.others a nd nc))
+    | inr other ↦ inl (commits_beside e.transaction r x.log (λ c. going.apart e other (sym c.0.1 ∙ own)))
   ])
 
   pub stands_committed : (a : ℕ) → Stands shape.policy x.log (heap_words shape v) a (value_behind (kept_of x.log flight) a (h a)) →
       StandsLater a (value_behind (kept_of later flight) a (h a))
   stands_committed a before = elim (has_or_none (IsDeletionBy t a) s.log (decide_deletion_by t a)) [
-    | inl d ↦ subst (StandsLater a) (sym (by_one a (h a) 0 (inl d) (λ e m same. (going.writes e m same).deleted a d)))
+    | inl d ↦ subst (StandsLater a) (sym (by_one a 0 (inl d) (going.writes.deleted a d)))
         (k.standing.deleted a (deleted_forth shape under n s x c t running none a d))
     | inr nd ↦ elim (latest_some (IsChangeBy t a) s.log (decide_change t a)) [
-      | inl y ↦ subst (StandsLater a) (sym (by_one a (h a) y.0.after (inr (y.0, y.1.among, y.1.has)) (λ e m same. (going.writes e m same).changed a y.0 nd y.1)))
+      | inl y ↦ subst (StandsLater a) (sym (by_one a y.0.after (inr (y.0, y.1.among, y.1.has)) (going.writes.changed a y.0 nd y.1)))
           (k.standing.changed a y.0 (deletions_forth shape under n s x c t running none a nd) (latest_forth shape under n s x c t running none a y.0 y.1))
       | inr nc ↦ subst (StandsLater a) (by_none a (h a) nd nc)
           (k.standing.others a (value_behind (kept_of x.log flight) a (h a)) (deletions_forth shape under n s x c t running none a nd)

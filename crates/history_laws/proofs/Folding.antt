@@ -3,7 +3,7 @@ use Rattle.std.proofs.Common.{◌≡◌, ◌≢◌, ◌⊎◌, inl, inr, ℕ, Bo
 use Rattle.std.proofs.lemmas.Bool.Decides.{eqb_tells}
 use Rattle.persist_model.specs.Progress.{latest}
 use Rattle.persist_model.specs.Records.{Record, Log, IsAmong, IsEndOf, IsCommitted}
-use Rattle.history_laws.specs.Histories.{Entry, value_behind, LeavesWord, LeavesValue}
+use Rattle.history_laws.specs.Histories.{Entry, value_behind, LeavesWord}
 use Rattle.history_laws.specs.Stands.{is_commit_of, has_commit, kept_of}
 
 -- ---- entries
@@ -72,26 +72,6 @@ value_kept (e ∷ flight) x y a u same =
     by false true (inl k) again = cc
     by false true (inr k) again = again u ∙ ap (value_behind (kept_of y flight) a) (sym (k u))
 
--- where all entries of t leave v, and no others write the word
-pub value_one : (flight : List Entry) (y : Log) (t a v u : ℕ) →
-    ((e : Entry) → IsAmong flight e → ((e.transaction ≡ t) × LeavesValue e a v) ⊎ ((e.transaction ≢ t) × LeavesWord e a)) →
-    has_commit t y ≡ true → ((e : Entry) × IsAmong flight e × (e.transaction ≡ t)) ⊎ (u ≡ v) → value_behind (kept_of y flight) a u ≡ v
-value_one [] y t a v u each on (inl f) = absurd f.1
-value_one [] y t a v u each on (inr is) = is
-value_one (e ∷ flight) y t a v u each on h =
-    by (each e (inl refl)) h (λ z k. value_one flight y t a v z (λ f m. each f (inr m)) on k)
-  where
-    other : (b : Bool) → (z : ℕ) → latest e.writes a z ≡ z → ((f : Entry) × IsAmong flight f × (f.transaction ≡ t)) ⊎ (z ≡ v) → ((z : ℕ) → ((f : Entry) × IsAmong flight f × (f.transaction ≡ t)) ⊎ (z ≡ v) → value_behind (kept_of y flight) a z ≡ v) →
-        value_behind (if b then e ∷ kept_of y flight else kept_of y flight) a z ≡ v
-    other true z leaves later again = ap (value_behind (kept_of y flight) a) leaves ∙ again z later
-    other false z leaves later again = again z later
-
-    by : ((e.transaction ≡ t) × LeavesValue e a v) ⊎ ((e.transaction ≢ t) × LeavesWord e a) → ((f : Entry) × IsAmong (e ∷ flight) f × (f.transaction ≡ t)) ⊎ (u ≡ v) →
-        ((z : ℕ) → ((f : Entry) × IsAmong flight f × (f.transaction ≡ t)) ⊎ (z ≡ v) → value_behind (kept_of y flight) a z ≡ v) → value_behind (kept_of y (e ∷ flight)) a u ≡ v
-    by (inl own) k again = let here : has_commit e.transaction y ≡ true = ap (λ n. has_commit n y) own.0 ∙ on in rw here (again (latest e.writes a u) (inr (own.1 u)))
-    by (inr off) (inr is) again = other (has_commit e.transaction y) u (off.1 u) (inr is) again
-    by (inr off) (inl f) again = other (has_commit e.transaction y) u (off.1 u) (inl (f.0, elim f.1 [ inl is ↦ absurd (off.0 (ap (λ (x : Entry). x.transaction) (sym is) ∙ f.2)) | inr m ↦ m ], f.2)) again
-
 -- where no entry writes the word
 pub value_untouched : (flight : List Entry) (y : Log) (a u : ℕ) → ((e : Entry) → IsAmong flight e → LeavesWord e a) → value_behind (kept_of y flight) a u ≡ u
 value_untouched [] y a u leaves = refl
@@ -100,6 +80,29 @@ value_untouched (e ∷ flight) y a u leaves = by (has_commit e.transaction y) (�
     by : (b : Bool) → ((z : ℕ) → value_behind (kept_of y flight) a z ≡ z) → value_behind (if b then e ∷ kept_of y flight else kept_of y flight) a u ≡ u
     by true again = again (latest e.writes a u) ∙ leaves e (inl refl) u
     by false again = again u
+
+pub kept_append : (y : Log) (xs ys : List Entry) → kept_of y (xs ++ ys) ≡ kept_of y xs ++ kept_of y ys
+kept_append y [] ys = refl
+kept_append y (e ∷ xs) ys = by (has_commit e.transaction y) (kept_append y xs ys)
+  where
+    by : (b : Bool) → kept_of y (xs ++ ys) ≡ kept_of y xs ++ kept_of y ys →
+        (if b then e ∷ kept_of y (xs ++ ys) else kept_of y (xs ++ ys)) ≡ (if b then e ∷ kept_of y xs else kept_of y xs) ++ kept_of y ys
+    by true again = ap (λ es. e ∷ es) again
+    by false again = again
+
+-- where this entry is committed and makes v of the word, and no other writes it
+pub value_one : (front : List Entry) (e : Entry) (rest : List Entry) (y : Log) (a u v : ℕ) → has_commit e.transaction y ≡ true →
+    ((f : Entry) → IsAmong front f ⊎ IsAmong rest f → LeavesWord f a) → latest e.writes a u ≡ v → value_behind (kept_of y (front ++ e ∷ rest)) a u ≡ v
+value_one front e rest y a u v on leaves is =
+    ap (λ es. value_behind es a u) (kept_append y front (e ∷ rest)) ∙ value_append (kept_of y front) (kept_of y (e ∷ rest)) a u ∙
+    ap (value_behind (kept_of y (e ∷ rest)) a) (value_untouched front y a u (λ f m. leaves f (inl m))) ∙
+    rw on (value_untouched rest y a (latest e.writes a u) (λ f m. leaves f (inr m)) ∙ is)
+
+pub in_split : (front : List Entry) (e : Entry) (rest : List Entry) (f : Entry) → IsAmong (front ++ e ∷ rest) f → (f ≡ e) ⊎ (IsAmong front f ⊎ IsAmong rest f)
+in_split [] e rest f (inl is) = inl is
+in_split [] e rest f (inr m) = inr (inr m)
+in_split (x ∷ front) e rest f (inl is) = inr (inl (inl is))
+in_split (x ∷ front) e rest f (inr m) = elim (in_split front e rest f m) [ inl is ↦ inl is | inr (inl k) ↦ inr (inl (inr k)) | inr (inr k) ↦ inr (inr k) ]
 
 -- where none is committed
 pub value_none : (flight : List Entry) (y : Log) (a u : ℕ) → ((e : Entry) → IsAmong flight e → has_commit e.transaction y ≡ false) → value_behind (kept_of y flight) a u ≡ u

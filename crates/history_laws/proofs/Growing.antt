@@ -52,12 +52,12 @@ uncovered_are_settled shape log h w region size may stands a un v is =
 
 -- ---- the history grows
 
-module _ (shape : Shape) (v : Words) (s y : State) (t : ℕ) (k : Commits shape v s t y) (h : Words) (entry : Entry) (writes : IsEntryOf s.log t entry) where
+module _ (shape : Shape) (v : Words) (s y : State) (t : ℕ) (k : Commits shape v s t y) (h : Words) (entry : Entry) (writes : IsEntryOf s.log h t entry) where
   pub stands_grown : (a : ℕ) → Stands shape.policy s.log (heap_words shape v) a (h a) → Stands shape.policy y.log (heap_words shape v) a (latest entry.writes a (h a))
   stands_grown a before = elim (has_or_none (IsDeletionBy t a) s.log (decide_deletion_by t a)) [
-    | inl d ↦ subst (λ u. Stands shape.policy y.log (heap_words shape v) a u) (sym (writes.deleted a d (h a))) (k.standing.deleted a d)
+    | inl d ↦ subst (λ u. Stands shape.policy y.log (heap_words shape v) a u) (sym (writes.deleted a d)) (k.standing.deleted a d)
     | inr nd ↦ elim (latest_some (IsChangeBy t a) s.log (decide_change t a)) [
-      | inl r ↦ subst (λ u. Stands shape.policy y.log (heap_words shape v) a u) (sym (writes.changed a r.0 nd r.1 (h a))) (k.standing.changed a r.0 nd r.1)
+      | inl r ↦ subst (λ u. Stands shape.policy y.log (heap_words shape v) a u) (sym (writes.changed a r.0 nd r.1)) (k.standing.changed a r.0 nd r.1)
       | inr nc ↦ subst (λ u. Stands shape.policy y.log (heap_words shape v) a u) (sym (writes.others a nd nc (h a))) (k.standing.others a (h a) nd nc before)
     ]
   ]

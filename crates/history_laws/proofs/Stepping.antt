@@ -271,7 +271,7 @@ module _ (shape : Shape) (base : Words) (s : State) (h : Words) (flight : List E
         keeps_record : part_of shape r.at ≡ n → (IsEnd r → r.outcome ≡ 1 → ⊥) → Keeps shape w x (with_record n x r) → Choice (suc n) w
         keeps_record here never k = keeps (with_record n x r) k (λ e me. commits_beside e.transaction r x.log (λ c. never c.0.0 c.1)) (chosen here k.sound)
 
-        commits_record : part_of shape r.at ≡ n → (t : ℕ) → r.transaction ≡ t → IsEnd r → r.outcome ≡ 1 → IsInFlight s.log flight t → Commits shape w x t (with_record n x r) → Choice (suc n) w
+        commits_record : part_of shape r.at ≡ n → (t : ℕ) → r.transaction ≡ t → IsEnd r → r.outcome ≡ 1 → IsInFlight s.log h flight t → Commits shape w x t (with_record n x r) → Choice (suc n) w
         commits_record here t own end one going k = record {
           state = seen shape w (with_record n x r);
           has = k.has;

@@ -20,7 +20,3 @@ fold heap entries = λ a. value_behind entries a (heap a)
 -- the entry leaves the word a as it is
 abbrev pub LeavesWord : Entry → ℕ → Type 0
 LeavesWord e a = (u : ℕ) → latest e.writes a u ≡ u
-
--- the entry leaves v in the word a
-abbrev pub LeavesValue : Entry → ℕ → ℕ → Type 0
-LeavesValue e a v = (u : ℕ) → latest e.writes a u ≡ v

@@ -1,8 +1,8 @@
 -- What is asked at a moment: of the settled log, of what is under way in each partition, and of the image's words. All of it is said of the
 -- settled state, though other partitions may have made more of theirs in an image.
-use Rattle.std.specs.Prelude.{◌≡◌, ◌≢◌, ◌⊎◌, ℕ, ◌+◌, ◌*◌, ◌<◌, ◌≤◌, ◌^◌, List, []}
+use Rattle.std.specs.Prelude.{◌≡◌, ◌≢◌, ◌⊎◌, ℕ, ◌+◌, ◌*◌, ◌<◌, ◌≤◌, ◌^◌, List, [], ◌∷◌, ◌++◌}
 use Rattle.persist_model.specs.Region.{Words, Region}
-use Rattle.persist_model.specs.Progress.{Reaches, Tracks, AreSettledAt}
+use Rattle.persist_model.specs.Progress.{Reaches, Tracks, AreSettledAt, latest}
 use Rattle.persist_model.specs.Runs.{progress_at}
 use Rattle.persist_model.specs.Records.{Record, Log, IsAmong, Has, HasNo, IsOf, IsEnd, IsDeletion, NamesWord, IsRunning, IsEnded, IsCommitted}
 use Rattle.persist_model.specs.Standing.{IsLatest, Stands}
@@ -22,7 +22,7 @@ use Rattle.log_clearing.specs.Removals.{CanDrop}
 use Rattle.plan_records.specs.Cells.{IsCellOf}
 use Rattle.plan_records.specs.Passing.{Passes}
 use Rattle.plan_records.specs.Conditions.{CanUpdate, CanDelete, CanRollBack, CanCompensate, CanEndUndone, IsOfOpen, AreLast, AreWritten}
-use Rattle.history_laws.specs.Histories.{Entry, LeavesWord, LeavesValue}
+use Rattle.history_laws.specs.Histories.{Entry, LeavesWord}
 use Rattle.history_laws.specs.UnderWay.{Added, an_update, a_deletion, a_rollback, a_compensation, an_undone_end, a_commit_end, Adding, record_of_adding, UnderWay, nothing, appends, closes, drops, plan_of, made_of, IsStored, IsAddedIn}
 
 -- ---- an append whose gate is stored
@@ -34,19 +34,23 @@ pub record IsOldOf (s : State) (h : Words) (flight : List Entry) (u : Record) : 
   pub plain : HasNo (IsChangeBy u.transaction u.word) s.log → u.before ≡ h u.word
   pub alone : (e : Entry) → IsAmong flight e → LeavesWord e u.word
 
--- The entry has what t wrote: 0 in the owner words that it deletes, the last NEW in each other word that it changed.
-pub record IsEntryOf (log : Log) (t : ℕ) (e : Entry) : Type 0 where
-  pub deleted : (a : ℕ) → Has (IsDeletionBy t a) log → LeavesValue e a 0
-  pub changed : (a : ℕ) (r : Record) → HasNo (IsDeletionBy t a) log → IsLatest (IsChangeBy t a) log r → LeavesValue e a r.after
+-- From the history's heap h the entry makes what t wrote: 0 of the owner words that it deletes, and the last NEW of each other word that it
+-- changed, which is h's own where the change was taken back. It leaves all other words as they are, whatever they are.
+pub record IsEntryOf (log : Log) (h : Words) (t : ℕ) (e : Entry) : Type 0 where
+  pub deleted : (a : ℕ) → Has (IsDeletionBy t a) log → latest e.writes a (h a) ≡ 0
+  pub changed : (a : ℕ) (r : Record) → HasNo (IsDeletionBy t a) log → IsLatest (IsChangeBy t a) log r → latest e.writes a (h a) ≡ r.after
   pub others : (a : ℕ) → HasNo (IsDeletionBy t a) log → HasNo (IsChangeBy t a) log → LeavesWord e a
 
--- t is in flight with such an entry, and no other commit in flight writes a word that t names.
-pub record IsInFlight (log : Log) (flight : List Entry) (t : ℕ) : Type 0 where
+-- t is in flight once, with such an entry, and no other commit in flight writes a word that t names.
+pub record IsInFlight (log : Log) (h : Words) (flight : List Entry) (t : ℕ) : Type 0 where
+  pub front : List Entry
   pub entry : Entry
-  pub among : IsAmong flight entry
+  pub rest : List Entry
+  pub split : flight ≡ front ++ entry ∷ rest
   pub own : entry.transaction ≡ t
-  pub writes : (e : Entry) → IsAmong flight e → e.transaction ≡ t → IsEntryOf log t e
-  pub alone : (e : Entry) → IsAmong flight e → e.transaction ≢ t → (a : ℕ) → Has (IsDeletionBy t a) log ⊎ Has (IsChangeBy t a) log → LeavesWord e a
+  pub writes : IsEntryOf log h t entry
+  pub apart : (e : Entry) → IsAmong front e ⊎ IsAmong rest e → e.transaction ≢ t
+  pub alone : (e : Entry) → IsAmong front e ⊎ IsAmong rest e → (a : ℕ) → Has (IsDeletionBy t a) log ⊎ Has (IsChangeBy t a) log → LeavesWord e a
 
 -- what each kind of record asks of the state
 abbrev pub CanAdd : Shape → State → Record → Added → Type 0
@@ -64,7 +68,7 @@ Serves shape s h flight heap r (a_deletion g) = Unit {0}
 Serves shape s h flight heap r (a_rollback t) = Unit {0}
 Serves shape s h flight heap r (a_compensation u cell) = Unit {0}
 Serves shape s h flight heap r (an_undone_end t) = AreLast shape s t heap
-Serves shape s h flight heap r (a_commit_end t) = AreWritten shape s t heap × IsInFlight s.log flight t
+Serves shape s h flight heap r (a_commit_end t) = AreWritten shape s t heap × IsInFlight s.log h flight t
 
 pub record IsReady (shape : Shape) (s : State) (h : Words) (flight : List Entry) (heap : Words) (x : Adding) : Type 0 where
   pub passes : Passes s.log (record_of_adding x)
