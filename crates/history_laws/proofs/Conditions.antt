@@ -42,7 +42,7 @@ pub added_runs : (shape : Shape) (s : State) (r : Record) (added : Added) → Ca
 added_runs shape s r (an_update u) can = can.running
 added_runs shape s r (a_deletion g) can = can.running
 added_runs shape s r (a_rollback t) can = can.open_one.running
-added_runs shape s r (a_compensation u cell) can = can.1.open_one.running
+added_runs shape s r (a_compensation u cell) can = can.1.running
 added_runs shape s r (an_undone_end t) can = can.open_one.running
 added_runs shape s r (a_commit_end t) can = can.running
 
@@ -120,10 +120,14 @@ module _ (shape : Shape) (under : ℕ → UnderWay) (n : ℕ) (s x : State) (c :
       room : s.room (part_of shape r.at) ≤ x.room (part_of shape r.at)
       room = c.room (part_of shape r.at) (omega (arith, place_is))
 
-  open_there : IsOfOpen shape s r → IsOfOpen shape x r
-  open_there h = record {
+  -- its transaction has a record there too, or the cells are
+  open_there : (cells : ℕ) → IsOfOpen shape s r cells → IsOfOpen shape x r cells
+  open_there cells h = record {
     transaction = h.transaction;
-    some = (h.some.0, own_forth shape under n s x c r.transaction running others h.some.0 h.some.1 h.some.2, h.some.2);
+    kept = elim h.kept [
+      | inl k ↦ inl (k.0, own_forth shape under n s x c r.transaction running others k.0 k.1 k.2, k.2)
+      | inr free ↦ inr (cells_there cells free)
+    ];
     running = running_there h.running;
   }
 
@@ -151,22 +155,23 @@ module _ (shape : Shape) (under : ℕ → UnderWay) (n : ℕ) (s x : State) (c :
 
   pub rollbacks_there : CanRollBack shape s r → CanRollBack shape x r
   rollbacks_there can = record {
-    open_one = open_there can.open_one;
+    open_one = open_there 2 can.open_one;
     first = λ y m k. can.first y (own_back shape under n s x c r.transaction running others y m k.0) k;
   }
 
   pub compensations_there : (u : Record) → CanCompensate shape s r u → CanCompensate shape x r u
   compensations_there u can = record {
-    open_one = open_there can.open_one;
+    transaction = can.transaction;
+    running = running_there can.running;
     stack = can.stack;
     newest = own_to_undo shape under n s x c r.transaction running others ∙ can.newest;
   }
 
   pub undone_ends_there : CanEndUndone shape s r → CanEndUndone shape x r
-  undone_ends_there can = record { open_one = open_there can.open_one; nothing_left = own_to_undo shape under n s x c r.transaction running others ∙ can.nothing_left }
+  undone_ends_there can = record { open_one = open_there 1 can.open_one; nothing_left = own_to_undo shape under n s x c r.transaction running others ∙ can.nothing_left }
 
-  pub commit_ends_there : IsOfOpen shape s r → IsOfOpen shape x r
-  commit_ends_there can = open_there can
+  pub commit_ends_there : IsOfOpen shape s r 1 → IsOfOpen shape x r 1
+  commit_ends_there can = open_there 1 can
 
   -- ---- the heap words
 

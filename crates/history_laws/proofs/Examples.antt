@@ -225,10 +225,10 @@ found = λ a. if a == 168 then 7 else history_heap a
 abbrev entry : Entry
 entry = record { transaction = 1; writes = write 168 7 ∷ [] }
 
-open_end : IsOfOpen shape settled (record_of_adding ending)
+open_end : IsOfOpen shape settled (record_of_adding ending) 1
 open_end = record {
   transaction = omega arith;
-  some = (five, inl refl, (refl, λ e. absurd (omega (arith, e))));
+  kept = inl (five, inl refl, (refl, λ e. absurd (omega (arith, e))));
   running = record { running = runs_on 1; one_part = λ x m of. ap (λ (r : Record). part_of shape r.at) (is_five x m) };
 }
 

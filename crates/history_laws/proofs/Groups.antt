@@ -94,7 +94,7 @@ module _ (shape : Shape) (w v : Words) (s : State) (gates ends checkpoints : Lis
   may_clear : MayClear shape.policy s.log (heap_words shape applied) (IsListed gates ends checkpoints)
   may_clear = record {
     ended = may.ended;
-    applied = λ r m on names. inr (are_applied r.word (named r m names));
+    applied = λ r m on six over. inr (are_applied r.word (named r m (inr six)));
     whole = may.whole;
     skips = may.skips;
     redone = may.redone;

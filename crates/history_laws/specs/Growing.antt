@@ -35,7 +35,7 @@ UncoveredAreSettled = (shape : Shape) (log : Log) (h w : Words) (region : Region
 abbrev pub HistoryGrows : Type 0
 HistoryGrows = (shape : Shape) (p : ℕ) (base v : Words) (s : State) (chain : List ℕ) (place : Place) (number transaction : ℕ) (start : Words) (history : List Entry) (entry : Entry) →
     let e = appended place number (cell_of_end transaction Committed) in
-    MayAppend shape p base s chain place e → IsOfOpen shape s e → AreWritten shape s transaction (heap_words shape v) → IsEntryOf s.log (fold start history) transaction entry →
+    MayAppend shape p base s chain place e → IsOfOpen shape s e 1 → AreWritten shape s transaction (heap_words shape v) → IsEntryOf s.log (fold start history) transaction entry →
     MayStandAt shape base (region_append shape p place e) (length (region_append shape p place e)) v →
     ((a : ℕ) → IsHeapWord shape a → Stands shape.policy s.log (heap_words shape v) a (fold start history a)) →
     (a : ℕ) → IsHeapWord shape a → Stands shape.policy (with_record p s e).log (heap_words shape v) a (fold start (history ++ entry ∷ []) a)

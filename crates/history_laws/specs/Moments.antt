@@ -59,7 +59,7 @@ CanAdd shape x r (a_deletion g) = CanDelete shape x r
 CanAdd shape x r (a_rollback t) = CanRollBack shape x r
 CanAdd shape x r (a_compensation u cell) = IsCellOf cell u × CanCompensate shape x r u
 CanAdd shape x r (an_undone_end t) = CanEndUndone shape x r
-CanAdd shape x r (a_commit_end t) = IsOfOpen shape x r
+CanAdd shape x r (a_commit_end t) = IsOfOpen shape x r 1
 
 -- and of the image's heap words and the history
 abbrev pub Serves : Shape → State → Words → List Entry → Words → Record → Added → Type 0
