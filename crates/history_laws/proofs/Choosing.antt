@@ -3,12 +3,14 @@ use Rattle.std.proofs.Common.{◌≡◌, ◌≢◌, ◌⊎◌, inl, inr, ℕ, su
 use Rattle.persist_model.specs.Region.{Words}
 use Rattle.persist_model.specs.Records.{Record, IsAmong, IsOf, IsEnded, IsRunning}
 use Rattle.persist_model.specs.Need.{need_in}
-use Rattle.persist_model.specs.Shape.{Shape, part_of}
+use Rattle.persist_model.specs.Shape.{Shape, part_of, heap_words}
 use Rattle.persist_model.specs.State.{State}
 use Rattle.log_laws.specs.Recovering.{with_heap}
+use Rattle.log_laws.proofs.ClosingNeeds.{need_closed}
 use Rattle.log_laws.proofs.Closings.{part_among, part_cases}
 use Rattle.bucket_log.proofs.PartStates.{less_elsewhere}
 use Rattle.bucket_log.specs.States.{less_room}
+use Rattle.log_clearing.specs.Clearing.{IsClearing}
 use Rattle.log_clearing.specs.Closed.{IsListed}
 use Rattle.log_clearing.specs.Removals.{with_room}
 use Rattle.plan_records.specs.Appends.{with_record}
@@ -18,7 +20,6 @@ use Rattle.plan_records.proofs.Beside.{others_keep_own}
 use Rattle.plan_records.proofs.OwnRecords.{own_beside}
 use Rattle.plan_records.proofs.Passing.{inserted_out, inserted_in}
 use Rattle.history_laws.specs.UnderWay.{UnderWay, IsAddedIn, IsClosedIn}
-use Rattle.history_laws.specs.Below.{IsGroupClearing}
 use Rattle.history_laws.specs.Choices.{IsChosen}
 use Rattle.history_laws.proofs.Owning.{need_passing}
 
@@ -86,7 +87,7 @@ module _ (shape : Shape) (under : ℕ → UnderWay) (n : ℕ) (s x : State) (c :
   }
 
   -- some of a group of the next partition is closed
-  pub chosen_closed : (v : Words) (gates ends : List ℕ) (g : IsGroupClearing shape v x gates ends []) → shape.policy ≢ 2 →
+  pub chosen_closed : (v : Words) (gates ends : List ℕ) (g : IsClearing shape v x gates ends []) → shape.policy ≢ 2 →
       ((r : Record) → IsListed gates ends [] r → IsClosedIn (under n) r × (part_of shape r.at ≡ n)) →
       ((r : Record) → IsAmong s.log r → IsListed gates ends [] r → IsEnded s.log r.transaction) → IsChosen shape under (suc n) s g.state
   chosen_closed v gates ends g force listed ended = record {
@@ -98,9 +99,12 @@ module _ (shape : Shape) (under : ℕ → UnderWay) (n : ℕ) (s x : State) (c :
         | inr gone ↦ (let on = listed r gone.0 in inr (n, omega arith, on.0, on.1))
       ]
     ];
-    whole = λ e m end. elim (c.whole e m end) [ inl k ↦ g.whole e k end | inr none ↦ inr (λ y k of. none y (back y k) of) ];
+    whole = λ e m end. elim (c.whole e m end) [
+      | inl k ↦ elim (part_cases _ g.state.log x.log g.closing.part e k) [ inl j ↦ inl j | inr gone ↦ inr (gone.whole end) ]
+      | inr none ↦ inr (λ y k of. none y (back y k) of)
+    ];
     own = λ t running others. others_keep_own.closes t x.log g.state.log gates ends [] g.part (λ r m on of. off t running r m on of) ∙ own_more t running others;
-    need = λ q le. (let now = g.need q in let was = c.need q (omega (arith, le)) in omega (arith, now, was));
+    need = λ q le. (let now = need_closed (part_of shape) q shape.policy x.log (heap_words shape v) g.state.log g.closing in let was = c.need q (omega (arith, le)) in omega (arith, now, was));
     room = λ q le. (let now = g.no_less q in let was = c.room q (omega (arith, le)) in omega (arith, now, was));
     spare = λ two. absurd (force two);
   }

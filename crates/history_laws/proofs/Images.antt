@@ -14,10 +14,12 @@ use Rattle.persist_model.specs.State.{State}
 use Rattle.log_laws.specs.Recovering.{with_heap}
 use Rattle.bucket_log.specs.Words.{IsPartWord}
 use Rattle.bucket_log.specs.Appends.{CanAppend, region_append}
+use Rattle.bucket_log.proofs.PartWords.{decide_part_word, appends_are_on_part, own_words_take}
 use Rattle.bucket_log.proofs.Partitions.{part_words_apart, part_word_below, few_parts}
 use Rattle.log_clearing.specs.Plans.{closing_plan}
 use Rattle.log_clearing.specs.Removals.{region_removal}
 use Rattle.log_clearing.proofs.ClearingStates.{sound_with_heap}
+use Rattle.log_clearing.proofs.PartPlans.{removals_are_on_part, closings_are_on_part, own_words_drop}
 use Rattle.plan_records.specs.Appends.{MayStandAt}
 use Rattle.history_laws.specs.Histories.{Entry, fold}
 use Rattle.history_laws.specs.Stands.{has_commit}
@@ -28,9 +30,7 @@ use Rattle.history_laws.specs.Stands.{IsHeader}
 use Rattle.history_laws.specs.Laws.{TrackedImagesReach, ImagesHaveChoices, ImagesStand, RegionsStand}
 use Rattle.history_laws.proofs.Folding.{commit_cases, value_none}
 use Rattle.history_laws.proofs.Headers.{header_below, header_is_none's, stands_for}
-use Rattle.history_laws.proofs.PartWords.{decide_part, some_part, replaced, replaced_in, replaced_out, parts_reach, view_replaced, heap_words_alike, same_state}
-use Rattle.history_laws.proofs.OwnWords.{appends_see_own, drops_see_own}
-use Rattle.history_laws.proofs.PlanWords.{append_in_part, removal_in_part, closing_in_part}
+use Rattle.history_laws.proofs.PartWords.{some_part, replaced, replaced_in, replaced_out, reached_there, view_replaced, heap_words_alike, same_state}
 use Rattle.history_laws.proofs.Conditions.{added_plain}
 use Rattle.history_laws.proofs.Choosing.{chosen_none}
 use Rattle.history_laws.proofs.Stepping.{step_nothing, step_drop, step_close, step_waits, step_stored}
@@ -61,7 +61,7 @@ module _ (shape : Shape) (base : Words) (s : State) (h : Words) (flight : List E
   -- from n partitions to one more
   module _ (n : ℕ) (inside : n < shape.partitions) (w : Words) (mixed : IsMixed (suc n) w) where
     before : Words
-    before = replaced shape n moment.allowed inside base w
+    before = replaced shape n base w
 
     apart : (q a : ℕ) → q < n → IsPartWord shape q a → IsPartWord shape n a → ⊥
     apart q a lt m k = part_words_apart shape n q a moment.allowed inside (omega (arith, lt, inside)) (λ e. omega (arith, e, lt)) m k
@@ -69,15 +69,15 @@ module _ (shape : Shape) (base : Words) (s : State) (h : Words) (flight : List E
     before_mixed : IsMixed n before
     unfolding before
     before_mixed = record {
-      own = λ q a lt m. replaced_out shape n moment.allowed inside base w a (apart q a lt m) ∙ mixed.own q a (omega (arith, lt)) m;
-      others = λ a lt none. elim (decide_part shape n a moment.allowed inside) [
-        | inl m ↦ replaced_in shape n moment.allowed inside base w a m
-        | inr off ↦ replaced_out shape n moment.allowed inside base w a off ∙ mixed.others a lt (λ q le m. elim (eqb_tells q n) [
+      own = λ q a lt m. replaced_out shape n base w a (apart q a lt m) ∙ mixed.own q a (omega (arith, lt)) m;
+      others = λ a lt none. elim (decide_part_word shape n a) [
+        | inl m ↦ replaced_in shape n base w a m
+        | inr off ↦ replaced_out shape n base w a off ∙ mixed.others a lt (λ q le m. elim (eqb_tells q n) [
           | inl e ↦ off (subst (λ p. IsPartWord shape p a) e.1 m)
           | inr ne ↦ none q (let other = ne.1 in omega (arith, le, other)) m
         ])
       ];
-      behind = λ a le. replaced_out shape n moment.allowed inside base w a (λ m. (let lt = part_word_below shape n a moment.allowed inside m in omega (arith, le, lt))) ∙ mixed.behind a le;
+      behind = λ a le. replaced_out shape n base w a (λ m. (let lt = part_word_below shape n a moment.allowed inside m in omega (arith, le, lt))) ∙ mixed.behind a le;
     }
 
     alike : heap_words shape w ≡ heap_words shape i
@@ -91,15 +91,15 @@ module _ (shape : Shape) (base : Words) (s : State) (h : Words) (flight : List E
         Reaches (IsPartWord shape n) (progress_at base (plan_of shape n u) (made_of u)) w → Choice (suc n) w
     unfolding before
     next_choice choice nothing is runs there = step_nothing shape base s h flight under (heap_words shape i) moment n inside before w alike choice
-        (λ a lt. elim (decide_part shape n a moment.allowed inside) [
-          | inl m ↦ (elim (there a m) [ inl e ↦ e | inr k ↦ absurd k ]) ∙ sym (replaced_in shape n moment.allowed inside base w a m)
-          | inr off ↦ sym (replaced_out shape n moment.allowed inside base w a off)
+        (λ a lt. elim (decide_part_word shape n a) [
+          | inl m ↦ (elim (there a m) [ inl e ↦ e | inr k ↦ absurd k ]) ∙ sym (replaced_in shape n base w a m)
+          | inr off ↦ sym (replaced_out shape n base w a off)
         ])
     next_choice choice (drops r made) is can there = step_drop shape base s h flight under (heap_words shape i) moment n inside before w alike choice r made
-        (drops_see_own shape n (view n (log_words shape base)) (view n (log_words shape before)) r (view_replaced shape n moment.allowed inside base w) can)
-        (parts_reach shape n moment.allowed inside base w (region_removal n r) made (removal_in_part shape n base r can) there)
+        (own_words_drop shape n (view n (log_words shape base)) (view n (log_words shape before)) r (view_replaced shape n base w moment.allowed inside) can)
+        (reached_there shape n base w (region_removal n r) made (removals_are_on_part shape n (view n (log_words shape base)) r can) there)
     next_choice choice (closes gates ends made) is group there = step_close shape base s h flight under (heap_words shape i) moment n inside before w alike choice gates ends made is group
-        (parts_reach shape n moment.allowed inside base w (closing_plan gates ends []) made (closing_in_part shape n gates ends group.gates_in) there)
+        (reached_there shape n base w (closing_plan gates ends []) made (closings_are_on_part shape n base s gates ends [] moment.allowed moment.has group.groups group.here) there)
     next_choice choice (appends x made) is runs there = elim (cases_lt (length (region_append shape n x.place (record_of_adding x))) (made + 2)) [
       | inr early ↦ step_waits shape base s h flight under (heap_words shape i) moment n inside before w alike choice x.place x.number x.added made runs.chain can early made_there
       | inl stored ↦ (
@@ -109,11 +109,11 @@ module _ (shape : Shape) (base : Words) (s : State) (h : Words) (flight : List E
     ]
       where
         can : CanAppend shape n (view n (log_words shape before)) runs.chain x.place (record_of_adding x)
-        can = appends_see_own shape n (view n (log_words shape base)) (view n (log_words shape before)) runs.chain x.place (record_of_adding x) (view_replaced shape n moment.allowed inside base w) runs.can
+        can = own_words_take.append shape n (view n (log_words shape base)) (view n (log_words shape before)) runs.chain x.place (record_of_adding x) (view_replaced shape n base w moment.allowed inside) runs.can
 
         made_there : MayStandAt shape before (region_append shape n x.place (record_of_adding x)) made w
-        made_there = parts_reach shape n moment.allowed inside base w (region_append shape n x.place (record_of_adding x)) made
-            (append_in_part shape n base runs.chain x.place (record_of_adding x) inside runs.can) there
+        made_there = reached_there shape n base w (region_append shape n x.place (record_of_adding x)) made
+            (appends_are_on_part shape n (view n (log_words shape base)) runs.chain x.place (record_of_adding x) inside runs.can) there
 
   choices : (n : ℕ) → n ≤ shape.partitions → (w : Words) → IsMixed n w → Choice n w
   choices zero le w mixed = first_choice w mixed

@@ -1,12 +1,8 @@
 pub mod Folding
 pub mod PartWords
-pub mod PlanWords
-pub mod OwnWords
 pub mod Owning
 pub mod Conditions
 pub mod Choosing
-pub mod Waiting
-pub mod Groups
 pub mod Appending
 pub mod Stepping
 pub mod Images

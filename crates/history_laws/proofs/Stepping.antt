@@ -8,35 +8,32 @@ use Rattle.persist_model.specs.Need.{need_in}
 use Rattle.persist_model.specs.Shape.{Shape, part_of, heap, log_words, heap_words}
 use Rattle.persist_model.specs.Chain.{view}
 use Rattle.persist_model.specs.State.{State, IsSoundState}
-use Rattle.log_laws.specs.Closing.{IsApplied}
+use Rattle.log_laws.specs.Closing.{IsApplied, MayClear}
 use Rattle.log_laws.proofs.Closings.{part_among, part_cases}
 use Rattle.log_laws.proofs.Deciding.{decide_equal, has_or_none, decide_to_undo}
 use Rattle.atomic_list.specs.declared.plans.Remove.{Remove}
 use Rattle.bucket_log.specs.declared.append.Place.{Place}
 use Rattle.bucket_log.specs.Appends.{CanAppend, region_append}
 use Rattle.bucket_log.specs.States.{less_room}
-use Rattle.bucket_log.proofs.Appended.{appends_take_cell}
+use Rattle.bucket_log.proofs.Appended.{appends_wait, appends_take_cell}
 use Rattle.bucket_log.proofs.PartStates.{less_elsewhere}
 use Rattle.log_clearing.specs.Plans.{closing_plan}
+use Rattle.log_clearing.specs.Clearing.{IsClearing}
 use Rattle.log_clearing.specs.Closed.{AreGroups, IsListed}
 use Rattle.log_clearing.specs.Removals.{CanDrop, region_removal, more_room}
-use Rattle.log_clearing.proofs.ClearingStates.{sound_with_heap}
+use Rattle.log_clearing.proofs.ClearingStates.{sound_with_heap, closings_keep}
 use Rattle.plan_records.specs.Cells.{appended}
 use Rattle.plan_records.specs.Passing.{inserted, Passes}
 use Rattle.plan_records.specs.Appends.{MayAppend, MayStandAt, Keeps, Commits, seen, with_record}
 use Rattle.plan_records.proofs.Records.{drops_keep}
+use Rattle.plan_records.proofs.RoomBound.{room_is_bounded}
 use Rattle.history_laws.specs.Histories.{Entry, value_behind}
 use Rattle.history_laws.specs.Stands.{has_commit, kept_of}
 use Rattle.history_laws.specs.UnderWay.{Added, cell_of, record_of_adding, UnderWay, nothing, appends, closes, drops, IsAddedIn, IsClosedIn}
-use Rattle.history_laws.specs.Below.{MayClearGroup, IsGroupClearing}
 use Rattle.history_laws.specs.Choices.{IsChosen, HasChoice}
 use Rattle.history_laws.specs.Moments.{CanAdd, Serves, IsInFlight, IsClosingGroup, IsRunningIn, IsMoment}
 use Rattle.history_laws.proofs.Folding.{commit_same, value_kept}
 use Rattle.history_laws.proofs.PartWords.{same_state}
-use Rattle.history_laws.proofs.PlanWords.{gate_of_part}
-use Rattle.history_laws.proofs.Groups.{groups_keep}
-use Rattle.history_laws.proofs.OwnWords.{rooms_fit}
-use Rattle.history_laws.proofs.Waiting.{appends_wait}
 use Rattle.history_laws.proofs.Owning.{need_passing, own_running, own_back}
 use Rattle.history_laws.proofs.Conditions.{IsBeside, added_plain, added_runs, passes_there}
 use Rattle.history_laws.proofs.Choosing.{chosen_kept, chosen_added, chosen_closed}
@@ -114,8 +111,10 @@ module _ (shape : Shape) (base : Words) (s : State) (h : Words) (flight : List E
 
     module _ (gates ends : List ℕ) (made : ℕ) (is : under n ≡ closes gates ends made) (group : IsClosingGroup shape s found n gates ends) where
       listed_part : (r : Record) → IsListed gates ends [] r → part_of shape r.at ≡ n
-      listed_part r (inl m) = gate_of_part shape n r.at moment.allowed inside (group.gates_in r.at (inl m))
-      listed_part r (inr (inl m)) = gate_of_part shape n r.at moment.allowed inside (group.gates_in r.at (inr m))
+      listed_part r (inl m) = let k = group.groups.of_gates r.at m in
+          ap (part_of shape) (sym k.2.0) ∙ group.here k.0 k.1 (inl (subst (λ a. IsAmong gates a) (sym k.2.0) m))
+      listed_part r (inr (inl m)) = let k = group.groups.of_ends r.at m in
+          ap (part_of shape) (sym k.2.0) ∙ group.here k.0 k.1 (inr (inl (subst (λ a. IsAmong ends a) (sym k.2.0) m)))
       listed_part r (inr (inr m)) = absurd m
 
       listed_here : (r : Record) → IsListed gates ends [] r → IsClosedIn (under n) r × (part_of shape r.at ≡ n)
@@ -172,7 +171,7 @@ module _ (shape : Shape) (base : Words) (s : State) (h : Words) (flight : List E
           is_zero nu u (redone _ nd y last e) = absurd (nd r m (six, refl, over))
           is_zero nu u (kept _ nd nr e) = absurd (nd r m (six, refl, over))
 
-      may_clear : MayClearGroup shape.policy x.log (heap_words shape w) (IsListed gates ends [])
+      may_clear : MayClear shape.policy x.log (heap_words shape w) (IsListed gates ends [])
       may_clear = record {
         ended = λ r m on. inr (ended_there r m on);
         applied = applied_there;
@@ -185,7 +184,7 @@ module _ (shape : Shape) (base : Words) (s : State) (h : Words) (flight : List E
       few = moment.allowed.partitions.1
 
       -- no commit in flight is closed
-      same_commits : (g : IsGroupClearing shape w x gates ends []) (e : Entry) → IsAmong flight e → has_commit e.transaction x.log ≡ has_commit e.transaction g.state.log
+      same_commits : (g : IsClearing shape w x gates ends []) (e : Entry) → IsAmong flight e → has_commit e.transaction x.log ≡ has_commit e.transaction g.state.log
       same_commits g e me = commit_same e.transaction x.log g.state.log
           (λ k. elim (part_cases _ g.state.log x.log g.part.part k.0 k.1) [
             | inl m ↦ (k.0, m, k.2)
@@ -193,7 +192,7 @@ module _ (shape : Shape) (base : Words) (s : State) (h : Words) (flight : List E
           ])
           (λ k. (k.0, part_among _ g.state.log x.log g.part.part k.0 k.1, k.2))
 
-      closed_choice : IsGroupClearing shape w x gates ends [] → Choice (suc n) w
+      closed_choice : IsClearing shape w x gates ends [] → Choice (suc n) w
       closed_choice g = record {
         state = g.state;
         has = g.has;
@@ -206,7 +205,7 @@ module _ (shape : Shape) (base : Words) (s : State) (h : Words) (flight : List E
       }
 
       pub step_close : MayStandAt shape before (closing_plan gates ends []) made w → Choice (suc n) w
-      step_close reached = closed_choice (groups_keep shape before w x gates ends [] made few choice.has choice.sound groups_there may_clear reached)
+      step_close reached = closed_choice (closings_keep shape before w x gates ends [] made few choice.has choice.sound groups_there may_clear reached)
 
     -- ---- an append
 
@@ -247,7 +246,7 @@ module _ (shape : Shape) (base : Words) (s : State) (h : Words) (flight : List E
           top = moment.top;
           above = above;
           own = (let lt = moment.drawn n r inside there in omega (arith, lt));
-          numbers = (let fit = rooms_fit shape before x moment.allowed choice.has in let enough = moment.numbers in omega (arith, fit, enough));
+          numbers = (let fit = room_is_bounded shape before x choice.has in let enough = moment.numbers in omega (arith, fit, enough));
         }
 
         in_part : part_of shape r.at ≡ n → (y : Record) → IsAmong x.log y → IsOf r.transaction y → part_of shape y.at ≡ part_of shape r.at

@@ -7,6 +7,7 @@ use Rattle.persist_model.specs.Standing.{Stands}
 use Rattle.persist_model.specs.Shape.{shape_of, heap, heap_words, IsHeapWord, IsShape}
 use Rattle.persist_model.specs.State.{State, IsSoundState}
 use Rattle.persist_model.specs.Sound.{HasState}
+use Rattle.log_laws.specs.Closing.{MayClear}
 use Rattle.bucket_log.specs.declared.append.Place.{Place}
 use Rattle.bucket_log.specs.Appends.{region_append}
 use Rattle.log_clearing.specs.Plans.{closing_plan}
@@ -16,7 +17,6 @@ use Rattle.plan_records.specs.Appends.{MayAppend, MayStandAt}
 use Rattle.plan_records.specs.Conditions.{CanCheckpoint, AreSweptIn}
 use Rattle.history_laws.specs.Histories.{Entry, fold}
 use Rattle.history_laws.specs.Stands.{StandsFor, IsHeader}
-use Rattle.history_laws.specs.Below.{MayClearGroup}
 
 -- the settled log stands for the history with i's heap words, and i has the region's header
 pub record IsSettledFor (base : Words) (s : State) (start : Words) (history : List Entry) (i : Words) : Type 0 where
@@ -36,5 +36,5 @@ abbrev pub CheckpointClosingsStand : Type 0
 CheckpointClosingsStand = (size : ℕ) (base : Words) (s : State) (start : Words) (history : List Entry) (i : Words) (gates ends checkpoints : List ℕ) (made : ℕ) →
     let shape = shape_of base in
     IsShape size base → IsSettledFor base s start history i → shape.partitions ≤ 3 → HasState shape base s → IsSoundState shape s →
-    AreGroups s.log gates ends checkpoints → MayClearGroup shape.policy s.log (heap_words shape i) (IsListed gates ends checkpoints) →
+    AreGroups s.log gates ends checkpoints → MayClear shape.policy s.log (heap_words shape i) (IsListed gates ends checkpoints) →
     Reaches (λ a. a < heap shape) (progress_at base (closing_plan gates ends checkpoints) made) i → StandsFor size start history [] i

@@ -1,7 +1,6 @@
 pub mod Histories
 pub mod Stands
 pub mod UnderWay
-pub mod Below
 pub mod Choices
 pub mod Moments
 pub mod Laws

@@ -8,9 +8,8 @@ use Rattle.persist_model.specs.Records.{Record, Log, IsAmong, Has, HasNo, IsOf, 
 use Rattle.persist_model.specs.Standing.{IsLatest, Stands}
 use Rattle.persist_model.specs.Order.{undo_point}
 use Rattle.persist_model.specs.Need.{need_in}
-use Rattle.persist_model.specs.Shape.{Shape, part_of, words_of_shape, log_words, IsHeapWord, IsBucketOf}
+use Rattle.persist_model.specs.Shape.{Shape, part_of, words_of_shape, log_words, IsHeapWord}
 use Rattle.persist_model.specs.Chain.{view}
-use Rattle.persist_model.specs.ImageRecords.{cell_address}
 use Rattle.persist_model.specs.State.{State, IsSoundState}
 use Rattle.persist_model.specs.Sound.{HasState}
 use Rattle.log_laws.specs.Moves.{IsDeletionBy, IsChangeBy}
@@ -83,15 +82,12 @@ pub record IsAppending (shape : Shape) (base : Words) (s : State) (h : Words) (f
   pub can : CanAppend shape p (view p (log_words shape base)) chain x.place (record_of_adding x)
   pub ready : IsStored shape p x made → IsReady shape s h flight heap x
 
--- a is the gate of a cell of the partition
-abbrev pub IsGateIn : Shape → ℕ → ℕ → Type 0
-IsGateIn shape p a = (b : ℕ) × (c : ℕ) × IsBucketOf shape p b × (c < shape.cells) × (a ≡ cell_address b c)
-
--- Under force some of an ended transaction's records are closed, with its end all; the owner words that it gave back are 0.
+-- Under force some of an ended transaction's records are closed, which stand in the partition, with its end all; the owner words that it gave
+-- back are 0.
 pub record IsClosingGroup (shape : Shape) (s : State) (heap : Words) (p : ℕ) (gates ends : List ℕ) : Type 0 where
   pub force : shape.policy ≢ 2
   pub groups : AreGroups s.log gates ends []
-  pub gates_in : (a : ℕ) → IsAmong gates a ⊎ IsAmong ends a → IsGateIn shape p a
+  pub here : (r : Record) → IsAmong s.log r → IsListed gates ends [] r → part_of shape r.at ≡ p
   pub ended : (r : Record) → IsAmong s.log r → IsListed gates ends [] r → (r.kind ≢ 5) × IsEnded s.log r.transaction
   pub whole : (e : Record) → IsAmong s.log e → IsListed gates ends [] e → IsEnd e → (r : Record) → IsAmong s.log r → IsOf e.transaction r → IsListed gates ends [] r
   pub zero : (r : Record) → IsAmong s.log r → IsListed gates ends [] r → IsDeletion r → IsCommitted s.log r.transaction → heap r.word ≡ 0

@@ -2,35 +2,9 @@
 //! that do nothing: the clause is the law.
 #![tactic(auto)]
 
-ghost use Rattle.history_laws.specs.Below.{AppendsWait, AppendsSeeOwn, DropsSeeOwn, RoomsFit, GroupsKeep};
 ghost use Rattle.history_laws.specs.Laws.{TrackedImagesReach, ImagesHaveChoices, ImagesStand, RegionsStand};
 ghost use Rattle.history_laws.specs.Growing.{UncoveredAreSettled, HistoryGrows};
 ghost use Rattle.history_laws.specs.Checkpoints.{CheckpointsStand, CheckpointClosingsStand};
-
-/// No image has an append's record before its gate is stored.
-pub fn appends_wait()
-    ensures { AppendsWait }
-{}
-
-/// Whether an append may be made hangs on the partition's own words alone,
-pub fn appends_see_own()
-    ensures { AppendsSeeOwn }
-{}
-
-/// and so does whether a removal may be made.
-pub fn drops_see_own()
-    ensures { DropsSeeOwn }
-{}
-
-/// There are no more free cells than the region has.
-pub fn rooms_fit()
-    ensures { RoomsFit }
-{}
-
-/// At each prefix of a group of a closing each image is sound, with the same standing words, where the owner words of deleted blocks are stored.
-pub fn groups_keep()
-    ensures { GroupsKeep }
-{}
 
 /// What a stop leaves of a region is, in each partition, what its part has reached.
 pub fn tracked_images_reach()

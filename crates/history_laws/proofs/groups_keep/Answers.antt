@@ -1,5 +1,0 @@
-use Rattle.history_laws.proofs.Groups as lemmas
-use Rattle.history_laws.proofs.groups_keep.Goals as goal
-
-pub returns : goal.returns
-returns c = lemmas.groups_keep
