@@ -6,7 +6,7 @@ use Rattle.persist_model.specs.Records.{Record, Log, IsAmong, Has, HasNo, IsOf, 
 use Rattle.persist_model.specs.Standing.{Stands}
 use Rattle.persist_model.specs.Shape.{Shape, part_of, IsHeapWord, heap_words}
 use Rattle.persist_model.specs.State.{State, HasOpen, IsSoundState}
-use Rattle.log_laws.specs.Moves.{IsDeletionBy, IsChangeBy}
+use Rattle.log_laws.specs.Moves.{IsOfRunning, IsDeletionBy, IsChangeBy}
 use Rattle.log_laws.proofs.Deciding.{IsDecided, decide_equal, has_or_none}
 use Rattle.log_laws.proofs.Standings.{latest_some}
 use Rattle.bucket_log.specs.declared.append.Place.{Place}
@@ -21,7 +21,7 @@ use Rattle.plan_records.proofs.Records.{updates_keep, deletions_keep, rollbacks_
 use Rattle.plan_records.proofs.UndoneEnds.{undone_ends_keep}
 use Rattle.history_laws.specs.Histories.{Entry, value_behind, LeavesWord}
 use Rattle.history_laws.specs.Stands.{has_commit, kept_of}
-use Rattle.history_laws.specs.UnderWay.{Added, an_update, a_deletion, a_rollback, a_compensation, an_undone_end, a_commit_end, cell_of, UnderWay, IsAddedIn}
+use Rattle.history_laws.specs.UnderWay.{Added, an_update, a_deletion, a_rollback, a_compensation, an_undone_end, a_commit_end, cell_of, UnderWay, IsAddedIn, IsUnderWayIn}
 use Rattle.history_laws.specs.Choices.{IsChosen}
 use Rattle.history_laws.specs.Moments.{CanAdd, Serves, IsInFlight}
 use Rattle.history_laws.proofs.Folding.{IsCommitEndOf, commit_is, commit_same, value_kept, value_one, in_split}
@@ -79,7 +79,7 @@ left_by shape v s h flight heap x y place number (a_commit_end t) serves k = inr
 -- ---- from the settled state
 
 module _ (shape : Shape) (under : ℕ → UnderWay) (n : ℕ) (s x : State) (c : IsChosen shape under n s x) (place : Place) (number : ℕ) where
-  pub can_there : (added : Added) → let r = appended place number (cell_of added) in part_of shape r.at ≡ n → r.kind ≢ 5 → IsRunning s.log r.transaction →
+  pub can_there : (added : Added) → let r = appended place number (cell_of added) in part_of shape r.at ≡ n → r.kind ≢ 5 → IsOfRunning shape s.log r →
       ((q : ℕ) (y : Record) → q < n → IsAddedIn shape q (under q) y → IsBeside s.log r y) → CanAdd shape s r added → CanAdd shape x r added
   can_there (an_update u) place_is plain running beside can = updates_there shape under n s x c _ place_is plain running beside refl can
   can_there (a_deletion g) place_is plain running beside can = deletions_there shape under n s x c _ place_is plain running beside refl can
@@ -89,7 +89,7 @@ module _ (shape : Shape) (under : ℕ → UnderWay) (n : ℕ) (s x : State) (c :
   can_there (a_commit_end t) place_is plain running beside can = commit_ends_there shape under n s x c _ place_is plain running beside can
 
   pub meets_there : (h : Words) (flight : List Entry) (heap : Words) (added : Added) → let r = appended place number (cell_of added) in
-      part_of shape r.at ≡ n → r.kind ≢ 5 → IsRunning s.log r.transaction → ((q : ℕ) (y : Record) → q < n → IsAddedIn shape q (under q) y → IsBeside s.log r y) →
+      part_of shape r.at ≡ n → r.kind ≢ 5 → IsOfRunning shape s.log r → ((q : ℕ) (y : Record) → q < n → IsAddedIn shape q (under q) y → IsBeside s.log r y) →
       IsSoundState shape x → ((a : ℕ) → IsHeapWord shape a → Stands shape.policy x.log heap a (value_behind (kept_of x.log flight) a (h a))) →
       CanAdd shape x r added → Serves shape s h flight heap r added → HeapMeets shape x heap r added
   meets_there h flight heap (an_update u) place_is plain running beside sound standing can serves =
@@ -141,7 +141,7 @@ decide_deletion_by t a r = elim (decide_equal r.kind 6) [
 
 -- With the end of a commit each word stands at its value behind the commits in flight that are there now.
 module _ (shape : Shape) (under : ℕ → UnderWay) (n : ℕ) (s x : State) (c : IsChosen shape under n s x) (v : Words) (h : Words) (flight : List Entry) (t : ℕ) (r : Record)
-    (own : r.transaction ≡ t) (end : r.kind ≡ 4) (one : r.outcome ≡ 1) (running : IsRunning s.log t) (none : (q : ℕ) (y : Record) → q < n → IsAddedIn shape q (under q) y → IsOf t y → ⊥)
+    (own : r.transaction ≡ t) (end : r.kind ≡ 4) (one : r.outcome ≡ 1) (running : IsRunning s.log t) (none : (q : ℕ) (y : Record) → q < n → IsUnderWayIn shape s.log q (under q) y → IsOf t y → ⊥)
     (going : IsInFlight s.log h flight t) (k : Commits shape v x t (with_record n x r)) where
   abbrev later : Log
   later = inserted r x.log

@@ -19,7 +19,7 @@ use Rattle.plan_records.specs.HeapUpdates.{IsOldIn}
 use Rattle.plan_records.proofs.HeapUpdates.{olds_meet}
 use Rattle.history_laws.specs.Histories.{Entry, value_behind}
 use Rattle.history_laws.specs.Stands.{kept_of}
-use Rattle.history_laws.specs.UnderWay.{Added, an_update, a_deletion, a_rollback, a_compensation, an_undone_end, a_commit_end, cell_of, Adding, record_of_adding, UnderWay, IsAddedIn}
+use Rattle.history_laws.specs.UnderWay.{Added, an_update, a_deletion, a_rollback, a_compensation, an_undone_end, a_commit_end, cell_of, Adding, record_of_adding, UnderWay, IsAddedIn, IsUnderWayIn}
 use Rattle.history_laws.specs.Choices.{IsChosen}
 use Rattle.history_laws.specs.Moments.{CanAdd, IsOldOf, AreTogether}
 use Rattle.history_laws.proofs.Folding.{value_untouched}
@@ -78,29 +78,31 @@ bars_back shape under n s x c runs y ms mx (inr k) = elim (c.from k.1.0 k.1.1) [
 ]
 
 module _ (shape : Shape) (under : ℕ → UnderWay) (n : ℕ) (s x : State) (c : IsChosen shape under n s x) (r : Record) (place_is : part_of shape r.at ≡ n) (plain : r.kind ≢ 5)
-    (running : IsRunning s.log r.transaction) (beside : (q : ℕ) (y : Record) → q < n → IsAddedIn shape q (under q) y → IsBeside s.log r y) where
-  others : (q : ℕ) (y : Record) → q < n → IsAddedIn shape q (under q) y → IsOf r.transaction y → ⊥
-  others q y lt added of = (beside q y lt added).together.transactions of.0
+    (running : IsOfRunning shape s.log r) (beside : (q : ℕ) (y : Record) → q < n → IsAddedIn shape q (under q) y → IsBeside s.log r y) where
+  -- nothing of its transaction is under way in other partitions
+  others : (q : ℕ) (y : Record) → q < n → IsUnderWayIn shape s.log q (under q) y → IsOf r.transaction y → ⊥
+  others q y lt (inl added) of = (beside q y lt added).together.transactions of.0
+  others q y lt (inr k) of = let same = running.one_part y k.0 of in let at = k.2 in omega (arith, same, at, place_is, lt)
 
   pub passes_there : Passes s.log r → Passes x.log r
   passes_there passes = record {
     fresh = λ y m. elim (c.from y m) [ inl k ↦ passes.fresh y k | inr k ↦ (beside k.0 y k.1 k.2).together.numbers ];
     newer = λ y m lt. elim (c.from y m) [
       | inl k ↦ passes.newer y k lt
-      | inr k ↦ record { other = others k.0 y k.1 k.2; no_checkpoint = (beside k.0 y k.1 k.2).plain; word = (beside k.0 y k.1 k.2).together.words }
+      | inr k ↦ record { other = λ of. others k.0 y k.1 (inl k.2) of; no_checkpoint = (beside k.0 y k.1 k.2).plain; word = (beside k.0 y k.1 k.2).together.words }
     ];
     checkpoint = λ check. absurd (plain check);
   }
 
   running_there : IsOfRunning shape s.log r → IsOfRunning shape x.log r
   running_there of = record {
-    running = own_running shape under n s x c r.transaction running others;
-    one_part = λ y m k. of.one_part y (own_back shape under n s x c r.transaction running others y m k) k;
+    running = own_running shape under n s x c r.transaction running.running others;
+    one_part = λ y m k. of.one_part y (own_back shape under n s x c r.transaction running.running others y m k) k;
   }
 
   free_there : NamesWord r → MayName s.log r → MayName x.log r
   free_there names free = record {
-    not_rolled = λ y m k. free.not_rolled y (own_back shape under n s x c r.transaction running others y m k.0) k;
+    not_rolled = λ y m k. free.not_rolled y (own_back shape under n s x c r.transaction running.running others y m k.0) k;
     free = λ y m k. elim (c.from y m) [
       | inl ms ↦ free.free y ms (k.0, k.1, bars_back shape under n s x c (λ q z lt added. (beside q z lt added).runs) y ms m k.2)
       | inr h ↦ (beside h.0 y h.1 h.2).together.words names (bars_names x.log y k.2) k.0
@@ -125,14 +127,14 @@ module _ (shape : Shape) (under : ℕ → UnderWay) (n : ℕ) (s x : State) (c :
   open_there cells h = record {
     transaction = h.transaction;
     kept = elim h.kept [
-      | inl k ↦ inl (k.0, own_forth shape under n s x c r.transaction running others k.0 k.1 k.2, k.2)
+      | inl k ↦ inl (k.0, own_forth shape under n s x c r.transaction running.running others k.0 k.1 k.2, k.2)
       | inr free ↦ inr (cells_there cells free)
     ];
     running = running_there h.running;
   }
 
   same_has_of : has_of r.transaction s.log ≡ has_of r.transaction x.log
-  same_has_of = sym (own_has_of shape under n s x c r.transaction running others)
+  same_has_of = sym (own_has_of shape under n s x c r.transaction running.running others)
 
   pub updates_there : IsUpdate r → CanUpdate shape s r → CanUpdate shape x r
   updates_there is can = record {
@@ -156,7 +158,7 @@ module _ (shape : Shape) (under : ℕ → UnderWay) (n : ℕ) (s x : State) (c :
   pub rollbacks_there : CanRollBack shape s r → CanRollBack shape x r
   rollbacks_there can = record {
     open_one = open_there 2 can.open_one;
-    first = λ y m k. can.first y (own_back shape under n s x c r.transaction running others y m k.0) k;
+    first = λ y m k. can.first y (own_back shape under n s x c r.transaction running.running others y m k.0) k;
   }
 
   pub compensations_there : (u : Record) → CanCompensate shape s r u → CanCompensate shape x r u
@@ -164,11 +166,11 @@ module _ (shape : Shape) (under : ℕ → UnderWay) (n : ℕ) (s x : State) (c :
     transaction = can.transaction;
     running = running_there can.running;
     stack = can.stack;
-    newest = own_to_undo shape under n s x c r.transaction running others ∙ can.newest;
+    newest = own_to_undo shape under n s x c r.transaction running.running others ∙ can.newest;
   }
 
   pub undone_ends_there : CanEndUndone shape s r → CanEndUndone shape x r
-  undone_ends_there can = record { open_one = open_there 1 can.open_one; nothing_left = own_to_undo shape under n s x c r.transaction running others ∙ can.nothing_left }
+  undone_ends_there can = record { open_one = open_there 1 can.open_one; nothing_left = own_to_undo shape under n s x c r.transaction running.running others ∙ can.nothing_left }
 
   pub commit_ends_there : IsOfOpen shape s r 1 → IsOfOpen shape x r 1
   commit_ends_there can = open_there 1 can
@@ -176,11 +178,11 @@ module _ (shape : Shape) (under : ℕ → UnderWay) (n : ℕ) (s x : State) (c :
   -- ---- the heap words
 
   pub last_there : (heap : Words) → AreLast shape s r.transaction heap → AreLast shape x r.transaction heap
-  last_there heap h = λ force a y last. h force a y (latest_back shape under n s x c r.transaction running others a y last)
+  last_there heap h = λ force a y last. h force a y (latest_back shape under n s x c r.transaction running.running others a y last)
 
   pub written_there : (heap : Words) → AreWritten shape s r.transaction heap → AreWritten shape x r.transaction heap
-  written_there heap h = λ force a y none last. h force a y (deletions_back shape under n s x c r.transaction running others a none)
-      (latest_back shape under n s x c r.transaction running others a y last)
+  written_there heap h = λ force a y none last. h force a y (deletions_back shape under n s x c r.transaction running.running others a none)
+      (latest_back shape under n s x c r.transaction running.running others a y last)
 
   -- An update's OLD: where its transaction hasn't changed the word, nobody else's record decides it but one that is to be redone, and the word
   -- stands at its value behind the history.
@@ -194,24 +196,24 @@ module _ (shape : Shape) (under : ℕ → UnderWay) (n : ℕ) (s x : State) (c :
 
     none_deleted : HasNo (IsToDelete x.log r.word) x.log
     none_deleted y m d = elim (decide_equal y.transaction r.transaction) [
-      | inl same ↦ (let e = d.2 in own_running shape under n s x c r.transaction running others e.0 e.1 (e.2.0.0, e.2.0.1 ∙ same))
+      | inl same ↦ (let e = d.2 in own_running shape under n s x c r.transaction running.running others e.0 e.1 (e.2.0.0, e.2.0.1 ∙ same))
       | inr ne ↦ free.free y m (d.1, ne, inr (d.0, d.2))
     ]
 
     -- where its transaction hasn't changed the word, OLD is what it stands at
     is_before : HasNo (IsChangeBy r.transaction r.word) x.log → (v : ℕ) → Stands shape.policy x.log heap r.word v → r.before ≡ v
     is_before none v st =
-        old.plain (changes_back shape under n s x c r.transaction running others r.word none) ∙
+        old.plain (changes_back shape under n s x c r.transaction running.running others r.word none) ∙
         sym (value_untouched flight x.log r.word (h r.word) old.alone) ∙
         stands_one shape.policy x.log heap r.word (value_behind (kept_of x.log flight) r.word (h r.word)) v (numbered (part_of shape) x.log x.log sound.order) (standing r.word word) st
 
     pub old_there : IsOldIn shape x r heap
     old_there = record {
-      own = λ y last. old.own y (latest_back shape under n s x c r.transaction running others r.word y last);
+      own = λ y last. old.own y (latest_back shape under n s x c r.transaction running.running others r.word y last);
       redone = λ none y last. is_before none y.after (redone (none_to_undo none) none_deleted y last refl);
       plain = λ none no_redo. is_before none (heap r.word) (kept (none_to_undo none) none_deleted no_redo refl);
     }
 
     pub update_of_there : IsUpdateOf shape x r heap
-    update_of_there = olds_meet shape x r heap sound (own_running shape under n s x c r.transaction running others) free
-        (old.undo_next ∙ sym (own_undo_point shape under n s x c r.transaction running others)) old_there
+    update_of_there = olds_meet shape x r heap sound (own_running shape under n s x c r.transaction running.running others) free
+        (old.undo_next ∙ sym (own_undo_point shape under n s x c r.transaction running.running others)) old_there

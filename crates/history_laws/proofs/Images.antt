@@ -5,7 +5,7 @@ use Rattle.std.proofs.lemmas.Bool.Decides.{eqb_tells}
 use Rattle.persist_model.specs.Region.{Words}
 use Rattle.persist_model.specs.Progress.{Reaches, Wrote}
 use Rattle.persist_model.specs.Runs.{progress_at}
-use Rattle.persist_model.specs.Records.{IsAmong}
+use Rattle.persist_model.specs.Records.{Record, Log, IsAmong}
 use Rattle.persist_model.proofs.Tracking.{Reaches-image}
 use Rattle.persist_model.specs.Standing.{Stands}
 use Rattle.persist_model.specs.Shape.{Shape, shape_of, heap, log_words, heap_words}
@@ -17,13 +17,15 @@ use Rattle.bucket_log.specs.Appends.{CanAppend, region_append}
 use Rattle.bucket_log.proofs.PartWords.{decide_part_word, appends_are_on_part, own_words_take}
 use Rattle.bucket_log.proofs.Partitions.{part_words_apart, part_word_below, few_parts}
 use Rattle.log_clearing.specs.Plans.{closing_plan}
+use Rattle.log_clearing.specs.Clearing.{AreDeferred}
+use Rattle.log_clearing.specs.Closed.{AreGroups, IsListed}
 use Rattle.log_clearing.specs.Removals.{region_removal}
 use Rattle.log_clearing.proofs.ClearingStates.{sound_with_heap}
 use Rattle.log_clearing.proofs.PartPlans.{removals_are_on_part, closings_are_on_part, own_words_drop}
 use Rattle.plan_records.specs.Appends.{MayStandAt}
 use Rattle.history_laws.specs.Histories.{Entry, fold}
 use Rattle.history_laws.specs.Stands.{has_commit}
-use Rattle.history_laws.specs.UnderWay.{record_of_adding, UnderWay, nothing, appends, closes, drops, plan_of, made_of, IsAddedIn}
+use Rattle.history_laws.specs.UnderWay.{record_of_adding, UnderWay, nothing, appends, closes, takes_back, drops, plan_of, made_of, IsAddedIn}
 use Rattle.history_laws.specs.Choices.{HasChoice}
 use Rattle.history_laws.specs.Moments.{IsRunningIn, IsMoment, IsReached}
 use Rattle.history_laws.specs.Stands.{IsHeader}
@@ -33,7 +35,20 @@ use Rattle.history_laws.proofs.Headers.{header_below, header_is_none's, stands_f
 use Rattle.history_laws.proofs.PartWords.{some_part, replaced, replaced_in, replaced_out, reached_there, view_replaced, heap_words_alike, same_state}
 use Rattle.history_laws.proofs.Conditions.{added_plain}
 use Rattle.history_laws.proofs.Choosing.{chosen_none}
-use Rattle.history_laws.proofs.Stepping.{step_nothing, step_drop, step_close, step_waits, step_stored}
+use Rattle.history_laws.proofs.Stepping.{step_nothing, step_drop, step_close, step_take_back, step_waits, step_stored}
+
+-- deletions of running transactions are a group of a closing
+deferred_groups : (log : Log) (gates : List ℕ) → AreDeferred log gates → AreGroups log gates [] []
+deferred_groups log gates deferred = record {
+  of_gates = λ a m. (let d = deferred a m in let six = d.2.1.0 in (d.0, d.1, (d.2.0, (λ four. absurd (omega (arith, four, six))), (λ five. absurd (omega (arith, five, six))))));
+  of_ends = λ a m. absurd m;
+  of_checkpoints = λ a m. absurd m;
+}
+
+gate_listed : (gates : List ℕ) (d : Record) → IsListed gates [] [] d → IsAmong gates d.at
+gate_listed gates d (inl m) = m
+gate_listed gates d (inr (inl m)) = absurd m
+gate_listed gates d (inr (inr m)) = absurd m
 
 module _ (shape : Shape) (base : Words) (s : State) (h : Words) (flight : List Entry) (under : ℕ → UnderWay) (i : Words)
     (moment : IsMoment shape base s h flight under (heap_words shape i)) (reached : IsReached shape base under i) where
@@ -100,6 +115,9 @@ module _ (shape : Shape) (base : Words) (s : State) (h : Words) (flight : List E
         (reached_there shape n base w (region_removal n r) made (removals_are_on_part shape n (view n (log_words shape base)) r can) there)
     next_choice choice (closes gates ends made) is group there = step_close shape base s h flight under (heap_words shape i) moment n inside before w alike choice gates ends made is group
         (reached_there shape n base w (closing_plan gates ends []) made (closings_are_on_part shape n base s gates ends [] moment.allowed moment.has group.groups group.here) there)
+    next_choice choice (takes_back gates made) is taking there = step_take_back shape base s h flight under (heap_words shape i) moment n inside before w alike choice gates made is taking
+        (reached_there shape n base w (closing_plan gates [] []) made
+        (closings_are_on_part shape n base s gates [] [] moment.allowed moment.has (deferred_groups s.log gates taking.deferred) (λ d m on. taking.here d m (gate_listed gates d on))) there)
     next_choice choice (appends x made) is runs there = elim (cases_lt (length (region_append shape n x.place (record_of_adding x))) (made + 2)) [
       | inr early ↦ step_waits shape base s h flight under (heap_words shape i) moment n inside before w alike choice x.place x.number x.added made runs.chain can early made_there
       | inl stored ↦ (

@@ -14,7 +14,7 @@ use Rattle.plan_records.specs.Passing.{inserted, renumbered, Passes}
 use Rattle.plan_records.proofs.HeapOwn.{change_of, undo_point_stays}
 use Rattle.plan_records.proofs.OwnRecords.{own_in, own_out, to_undo_own}
 use Rattle.plan_records.proofs.PassingNeeds.{need_in_inserted}
-use Rattle.history_laws.specs.UnderWay.{UnderWay, IsAddedIn}
+use Rattle.history_laws.specs.UnderWay.{UnderWay, IsUnderWayIn}
 use Rattle.history_laws.specs.Choices.{IsChosen}
 
 -- ---- whether a transaction has a record
@@ -39,7 +39,7 @@ deletion_of t a r d = (d.2, λ five. (let six = d.0 in omega (arith, six, five))
 -- ---- t runs in s, and has no record under way in the first n partitions
 
 module _ (shape : Shape) (under : ℕ → UnderWay) (n : ℕ) (s x : State) (c : IsChosen shape under n s x) (t : ℕ) (running : IsRunning s.log t)
-    (none : (q : ℕ) (y : Record) → q < n → IsAddedIn shape q (under q) y → IsOf t y → ⊥) where
+    (none : (q : ℕ) (y : Record) → q < n → IsUnderWayIn shape s.log q (under q) y → IsOf t y → ⊥) where
   pub same_own : own_records t x.log ≡ own_records t s.log
   same_own = c.own t running none
 

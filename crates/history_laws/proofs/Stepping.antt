@@ -8,7 +8,11 @@ use Rattle.persist_model.specs.Need.{need_in}
 use Rattle.persist_model.specs.Shape.{Shape, part_of, heap, log_words, heap_words}
 use Rattle.persist_model.specs.Chain.{view}
 use Rattle.persist_model.specs.State.{State, IsSoundState}
+use Rattle.persist_model.specs.Sound.{HasState}
 use Rattle.log_laws.specs.Closing.{IsApplied, MayClear}
+use Rattle.log_laws.specs.Moves.{IsOfRunning}
+use Rattle.log_laws.specs.Recovery.{KeepsStanding}
+use Rattle.log_laws.specs.Recovering.{with_heap}
 use Rattle.log_laws.proofs.Closings.{part_among, part_cases}
 use Rattle.log_laws.proofs.Deciding.{decide_equal, has_or_none, decide_to_undo}
 use Rattle.atomic_list.specs.declared.plans.Remove.{Remove}
@@ -18,10 +22,10 @@ use Rattle.bucket_log.specs.States.{less_room}
 use Rattle.bucket_log.proofs.Appended.{appends_wait, appends_take_cell}
 use Rattle.bucket_log.proofs.PartStates.{less_elsewhere}
 use Rattle.log_clearing.specs.Plans.{closing_plan}
-use Rattle.log_clearing.specs.Clearing.{IsClearing}
+use Rattle.log_clearing.specs.Clearing.{AreDeferred, IsClearing, IsDropping}
 use Rattle.log_clearing.specs.Closed.{AreGroups, IsListed}
 use Rattle.log_clearing.specs.Removals.{CanDrop, region_removal, more_room}
-use Rattle.log_clearing.proofs.ClearingStates.{sound_with_heap, closings_keep}
+use Rattle.log_clearing.proofs.ClearingStates.{sound_with_heap, closings_keep, droppings_keep}
 use Rattle.plan_records.specs.Cells.{appended}
 use Rattle.plan_records.specs.Passing.{inserted, Passes}
 use Rattle.plan_records.specs.Appends.{MayAppend, MayStandAt, Keeps, Commits, seen, with_record}
@@ -29,14 +33,14 @@ use Rattle.plan_records.proofs.Records.{drops_keep}
 use Rattle.plan_records.proofs.RoomBound.{room_is_bounded}
 use Rattle.history_laws.specs.Histories.{Entry, value_behind}
 use Rattle.history_laws.specs.Stands.{has_commit, kept_of}
-use Rattle.history_laws.specs.UnderWay.{Added, cell_of, record_of_adding, UnderWay, nothing, appends, closes, drops, IsAddedIn, IsClosedIn}
+use Rattle.history_laws.specs.UnderWay.{Added, cell_of, record_of_adding, UnderWay, nothing, appends, closes, takes_back, drops, IsAddedIn, IsClosedIn, IsUnderWayIn}
 use Rattle.history_laws.specs.Choices.{IsChosen, HasChoice}
-use Rattle.history_laws.specs.Moments.{CanAdd, Serves, IsInFlight, IsClosingGroup, IsRunningIn, IsMoment}
+use Rattle.history_laws.specs.Moments.{CanAdd, Serves, IsInFlight, IsClosingGroup, IsTakingBack, IsRunningIn, IsMoment}
 use Rattle.history_laws.proofs.Folding.{commit_same, value_kept}
 use Rattle.history_laws.proofs.PartWords.{same_state}
 use Rattle.history_laws.proofs.Owning.{need_passing, own_running, own_back}
 use Rattle.history_laws.proofs.Conditions.{IsBeside, added_plain, added_runs, passes_there}
-use Rattle.history_laws.proofs.Choosing.{chosen_kept, chosen_added, chosen_closed}
+use Rattle.history_laws.proofs.Choosing.{chosen_kept, chosen_added, chosen_closed, chosen_taken_back}
 use Rattle.history_laws.proofs.Appending.{HeapMeets, append_leaves, left_by, can_there, meets_there, opened, commits_beside, stands_committed}
 
 module _ (shape : Shape) (base : Words) (s : State) (h : Words) (flight : List Entry) (under : ℕ → UnderWay) (found : Words)
@@ -45,19 +49,20 @@ module _ (shape : Shape) (base : Words) (s : State) (h : Words) (flight : List E
   Choice k w = HasChoice shape under s h flight found k w
 
   -- an added record of one of the first n partitions
-  ready_in : (q : ℕ) (u : UnderWay) (y : Record) → IsRunningIn shape base s h flight found q u → IsAddedIn shape q u y → (y.kind ≢ 5) × IsRunning s.log y.transaction
+  ready_in : (q : ℕ) (u : UnderWay) (y : Record) → IsRunningIn shape base s h flight found q u → IsAddedIn shape q u y → (y.kind ≢ 5) × IsOfRunning shape s.log y
   ready_in q nothing y runs added = absurd added
   ready_in q (appends a made) y runs added =
       let plain = added_plain a in
-      let running = (added_runs shape s (record_of_adding a) a.added (runs.ready added.0).can).running in
-      (subst (λ (z : Record). z.kind ≢ 5) (sym added.1) plain, subst (λ (z : Record). IsRunning s.log z.transaction) (sym added.1) running)
+      let running = added_runs shape s (record_of_adding a) a.added (runs.ready added.0).can in
+      (subst (λ (z : Record). z.kind ≢ 5) (sym added.1) plain, subst (λ (z : Record). IsOfRunning shape s.log z) (sym added.1) running)
   ready_in q (closes gates ends made) y runs added = absurd added
+  ready_in q (takes_back gates made) y runs added = absurd added
   ready_in q (drops r made) y runs added = absurd added
 
   beside : (r : Record) → IsAddedIn shape n (under n) r → (q : ℕ) (y : Record) → q < n → IsAddedIn shape q (under q) y → IsBeside s.log r y
   beside r added q y lt there =
       let ready = ready_in q (under q) y (moment.runs q (omega (arith, lt, inside))) there in
-      record { together = moment.together n q r y inside (omega (arith, lt, inside)) (λ e. omega (arith, e, lt)) added there; plain = ready.0; runs = ready.1 }
+      record { together = moment.together n q r y inside (omega (arith, lt, inside)) (λ e. omega (arith, e, lt)) added there; plain = ready.0; runs = ready.1.running }
 
   -- w are the words of the next partition's prefix, and before those where it is settled
   module _ (before w : Words) (alike : heap_words shape w ≡ found) (choice : Choice n before) where
@@ -85,6 +90,27 @@ module _ (shape : Shape) (base : Words) (s : State) (h : Words) (flight : List E
     -- the same records
     stays : Keeps shape w x x → Choice (suc n) w
     stays k = keeps x k (λ e me. refl) (chosen_kept shape under n s x choice.chosen (heap_words shape w) x.room (λ q. omega arith))
+
+    -- the same of a state that has w's own heap words
+    keeps_whole : (y : State) → HasState shape w y → IsSoundState shape y → KeepsStanding shape.policy (with_heap x (heap_words shape w)) y →
+        ((e : Entry) → IsAmong flight e → has_commit e.transaction x.log ≡ has_commit e.transaction y.log) → IsChosen shape under (suc n) s y → Choice (suc n) w
+    keeps_whole y has sound standing commits chosen = record {
+      state = y;
+      has = has;
+      sound = sound;
+      chosen = chosen;
+      standing = λ a m. subst (λ u. Stands shape.policy y.log found a u) (value_kept flight x.log y.log a (h a) (λ e me. inl (commits e me)))
+          (heap_back y.log a (value_behind (kept_of x.log flight) a (h a)) (subst (λ ws. Stands shape.policy y.log ws a (value_behind (kept_of x.log flight) a (h a))) has.words
+          (standing a (value_behind (kept_of x.log flight) a (h a)) (same_heap x.log a (value_behind (kept_of x.log flight) a (h a)) (choice.standing a m)))));
+    }
+
+    -- a settled record of the next partition is there
+    stays_there : (r : Record) → IsAmong s.log r → part_of shape r.at ≡ n → IsAmong x.log r
+    stays_there r m here = elim (choice.chosen.stays r m) [ inl k ↦ k | inr k ↦ (let there = k.3 in let lt = k.1 in absurd (omega (arith, here, there, lt))) ]
+
+    -- and a record of it that is there was settled
+    was_there : (r : Record) → IsAmong x.log r → part_of shape r.at ≡ n → IsAmong s.log r
+    was_there r m here = elim (choice.chosen.from r m) [ inl k ↦ k | inr k ↦ (let there = k.3 in let lt = k.1 in absurd (omega (arith, here, there, lt))) ]
 
     -- ---- nothing
 
@@ -122,17 +148,11 @@ module _ (shape : Shape) (base : Words) (s : State) (h : Words) (flight : List E
 
       -- a listed record was there
       listed_back : (r : Record) → IsAmong x.log r → IsListed gates ends [] r → IsAmong s.log r
-      listed_back r m on = elim (choice.chosen.from r m) [
-        | inl k ↦ k
-        | inr k ↦ (let here = listed_part r on in let there = k.3 in let lt = k.1 in absurd (omega (arith, here, there, lt)))
-      ]
+      listed_back r m on = was_there r m (listed_part r on)
 
       -- and is there
       listed_forth : (r : Record) → IsAmong s.log r → IsListed gates ends [] r → IsAmong x.log r
-      listed_forth r m on = elim (choice.chosen.stays r m) [
-        | inl k ↦ k
-        | inr k ↦ (let here = listed_part r on in let there = k.3 in let lt = k.1 in absurd (omega (arith, here, there, lt)))
-      ]
+      listed_forth r m on = stays_there r m (listed_part r on)
 
       -- a record of a transaction that has ended was there
       ended_back : (t : ℕ) → IsEnded s.log t → (r : Record) → IsAmong x.log r → r.transaction ≡ t → IsAmong s.log r
@@ -140,7 +160,7 @@ module _ (shape : Shape) (base : Words) (s : State) (h : Words) (flight : List E
         | inl k ↦ k
         | inr k ↦ (
             let runs = (ready_in k.0 (under k.0) r (moment.runs k.0 (let lt = k.1 in omega (arith, lt, inside))) k.2).1 in
-            absurd (runs e.0 e.1 (e.2.0, e.2.1 ∙ sym own)))
+            absurd (runs.running e.0 e.1 (e.2.0, e.2.1 ∙ sym own)))
       ]
 
       groups_there : AreGroups x.log gates ends []
@@ -193,19 +213,51 @@ module _ (shape : Shape) (base : Words) (s : State) (h : Words) (flight : List E
           (λ k. (k.0, part_among _ g.state.log x.log g.part.part k.0 k.1, k.2))
 
       closed_choice : IsClearing shape w x gates ends [] → Choice (suc n) w
-      closed_choice g = record {
-        state = g.state;
-        has = g.has;
-        sound = g.sound;
-        chosen = chosen_closed shape under n s x choice.chosen w gates ends g group.force listed_here (λ r m on. (group.ended r m on).1);
-        standing = λ a m. subst (λ u. Stands shape.policy g.state.log found a u) (value_kept flight x.log g.state.log a (h a) (λ e me. inl (same_commits g e me)))
-            (heap_back g.state.log a (value_behind (kept_of x.log flight) a (h a))
-            (subst (λ ws. Stands shape.policy g.state.log ws a (value_behind (kept_of x.log flight) a (h a))) g.has.words
-            (g.keeps a (value_behind (kept_of x.log flight) a (h a)) (same_heap x.log a (value_behind (kept_of x.log flight) a (h a)) (choice.standing a m)))));
-      }
+      closed_choice g = keeps_whole g.state g.has g.sound g.keeps (same_commits g)
+          (chosen_closed shape under n s x choice.chosen w gates ends g group.force listed_here (λ r m on. (group.ended r m on).1))
 
       pub step_close : MayStandAt shape before (closing_plan gates ends []) made w → Choice (suc n) w
       step_close reached = closed_choice (closings_keep shape before w x gates ends [] made few choice.has choice.sound groups_there may_clear reached)
+
+    -- ---- deletions that are taken back
+
+    module _ (gates : List ℕ) (made : ℕ) (is : under n ≡ takes_back gates made) (taking : IsTakingBack shape s n gates) where
+      gate_here : (r : Record) → IsAmong gates r.at → part_of shape r.at ≡ n
+      gate_here r on = let k = taking.deferred r.at on in ap (part_of shape) (sym k.2.0) ∙ taking.here k.0 k.1 (subst (IsAmong gates) (sym k.2.0) on)
+
+      -- no end of its transaction has come in another partition
+      runs_there : (d : Record) → IsAmong s.log d → IsDeletion d → IsRunning s.log d.transaction → part_of shape d.at ≡ n → IsRunning x.log d.transaction
+      runs_there d m six running here e me end = elim (choice.chosen.from e me) [
+        | inl k ↦ running e k end
+        | inr k ↦ (
+            let lt = k.1 in
+            let of = (ready_in k.0 (under k.0) e (moment.runs k.0 (omega (arith, lt, inside))) k.2).1 in
+            let same = of.one_part d m (sym end.1, λ five. (omega (arith, six, five))) in
+            let there = k.3 in
+            omega (arith, same, here, there, lt))
+      ]
+
+      deferred_there : AreDeferred x.log gates
+      deferred_there a on =
+          let k = taking.deferred a on in
+          let here = gate_here k.0 (subst (IsAmong gates) (sym k.2.0) on) in
+          (k.0, stays_there k.0 k.1 here, (k.2.0, (k.2.1.0, runs_there k.0 k.1 k.2.1.0 k.2.1.1 here)))
+
+      -- no deletion is a commit
+      ends_stay : (g : IsDropping shape w x gates) (e : Entry) → IsAmong flight e → has_commit e.transaction x.log ≡ has_commit e.transaction g.state.log
+      ends_stay g e me = commit_same e.transaction x.log g.state.log
+          (λ k. elim (part_cases _ g.state.log x.log g.part k.0 k.1) [
+            | inl m ↦ (k.0, m, k.2)
+            | inr gone ↦ absurd (let six = gone.0.0 in let four = k.2.0.0 in omega (arith, six, four))
+          ])
+          (λ k. (k.0, part_among _ g.state.log x.log g.part k.0 k.1, k.2))
+
+      taken_choice : IsDropping shape w x gates → Choice (suc n) w
+      taken_choice g = keeps_whole g.state g.has g.sound g.keeps (ends_stay g)
+          (chosen_taken_back shape under n s x choice.chosen w gates g choice.sound (λ r on. (subst (λ u. IsClosedIn u r) (sym is) on, gate_here r on)) (λ r m on. was_there r m (gate_here r on)))
+
+      pub step_take_back : MayStandAt shape before (closing_plan gates [] []) made w → Choice (suc n) w
+      step_take_back reached = taken_choice (droppings_keep shape before w x gates made moment.allowed.partitions.1 choice.has choice.sound deferred_there reached)
 
     -- ---- an append
 
@@ -223,14 +275,18 @@ module _ (shape : Shape) (base : Words) (s : State) (h : Words) (flight : List E
 
       module _ (can : CanAppend shape n (view n (log_words shape before)) chain place r) (plain : r.kind ≢ 5) (there : IsAddedIn shape n (under n) r)
           (passes : Passes s.log r) (fits : CanAdd shape s r added) (serves : Serves shape s h flight found r added) where
-        running : IsRunning s.log r.transaction
-        running = (added_runs shape s r added fits).running
+        of_running : IsOfRunning shape s.log r
+        of_running = added_runs shape s r added fits
 
-        others : (q : ℕ) (y : Record) → q < n → IsAddedIn shape q (under q) y → IsOf r.transaction y → ⊥
-        others q y lt k of = (beside r there q y lt k).together.transactions of.0
+        running : IsRunning s.log r.transaction
+        running = of_running.running
+
+        others : part_of shape r.at ≡ n → (q : ℕ) (y : Record) → q < n → IsUnderWayIn shape s.log q (under q) y → IsOf r.transaction y → ⊥
+        others here q y lt (inl k) of = (beside r there q y lt k).together.transactions of.0
+        others here q y lt (inr k) of = let same = of_running.one_part y k.0 of in let at = k.2 in omega (arith, same, at, here, lt)
 
         passes_now : part_of shape r.at ≡ n → Passes x.log r
-        passes_now here = passes_there shape under n s x choice.chosen r here plain running (beside r there) passes
+        passes_now here = passes_there shape under n s x choice.chosen r here plain of_running (beside r there) passes
 
         above : (y : Record) → IsAmong x.log y → y.lsn < moment.top
         above y m = elim (choice.chosen.from y m) [ inl k ↦ moment.above y k | inr k ↦ moment.drawn k.0 y (let lt = k.1 in omega (arith, lt, inside)) k.2 ]
@@ -250,14 +306,14 @@ module _ (shape : Shape) (base : Words) (s : State) (h : Words) (flight : List E
         }
 
         in_part : part_of shape r.at ≡ n → (y : Record) → IsAmong x.log y → IsOf r.transaction y → part_of shape y.at ≡ part_of shape r.at
-        in_part here y m of = (added_runs shape s r added fits).one_part y (own_back shape under n s x choice.chosen r.transaction running others y m of) of
+        in_part here y m of = of_running.one_part y (own_back shape under n s x choice.chosen r.transaction running (others here) y m of) of
 
         -- recovery's cell for a checkpoint record stays
         spare : part_of shape r.at ≡ n → IsSoundState shape (seen shape w (with_record n x r)) → shape.policy ≡ 2 →
             need_in (part_of shape) 0 (inserted r x.log) + 1 ≤ less_room n x.room 0
         spare here sound two = elim (decide_equal n 0) [
           | inl first ↦ (sound.room 0 (subst (λ q. q < shape.partitions) first inside)).checkpoint refl two
-              (opened x r plain (passes_now here) (own_running shape under n s x choice.chosen r.transaction running others))
+              (opened x r plain (passes_now here) (own_running shape under n s x choice.chosen r.transaction running (others here)))
           | inr later ↦ (
               let need = need_passing (part_of shape) 0 r x.log (passes_now here) (in_part here) (λ e. later (sym (e ∙ here))) in
               let room = less_elsewhere n x.room 0 (λ e. later (sym e)) in
@@ -277,7 +333,7 @@ module _ (shape : Shape) (base : Words) (s : State) (h : Words) (flight : List E
           sound = k.sound;
           chosen = chosen here k.sound;
           standing = λ a m. heap_back (inserted r x.log) a _ (stands_committed shape under n s x choice.chosen w h flight t r own end one
-              (subst (λ u. IsRunning s.log u) own running) (λ q y lt there' of. others q y lt there' (of.0 ∙ sym own, of.1)) going k a
+              (subst (λ u. IsRunning s.log u) own running) (λ q y lt there' of. others here q y lt there' (of.0 ∙ sym own, of.1)) going k a
               (same_heap x.log a (value_behind (kept_of x.log flight) a (h a)) (choice.standing a m)));
         }
 
@@ -302,8 +358,8 @@ module _ (shape : Shape) (base : Words) (s : State) (h : Words) (flight : List E
           here : part_of shape r.at ≡ n
           here = in_place can
 
-          runs : IsRunning s.log r.transaction
-          runs = running can plain there passes fits serves
+          runs : IsOfRunning shape s.log r
+          runs = of_running can plain there passes fits serves
 
           now : MayAppend shape n before x chain place r
           now = may can plain there passes fits serves here

@@ -10,7 +10,7 @@ use Rattle.persist_model.specs.Sound.{HasState}
 use Rattle.plan_records.specs.Courses.{own_records}
 use Rattle.history_laws.specs.Histories.{Entry, value_behind}
 use Rattle.history_laws.specs.Stands.{kept_of}
-use Rattle.history_laws.specs.UnderWay.{UnderWay, IsAddedIn, IsClosedIn}
+use Rattle.history_laws.specs.UnderWay.{UnderWay, IsAddedIn, IsClosedIn, IsUnderWayIn}
 
 -- Of the first n partitions x has some of the records under way beyond s, and lacks some that are being closed. A transaction without a
 -- record under way there has its records as in s while it runs, and the other partitions have as much room and need no more.
@@ -18,7 +18,7 @@ pub record IsChosen (shape : Shape) (under : ℕ → UnderWay) (n : ℕ) (s x : 
   pub from : (r : Record) → IsAmong x.log r → IsAmong s.log r ⊎ (q : ℕ) × (q < n) × IsAddedIn shape q (under q) r × (part_of shape r.at ≡ q)
   pub stays : (r : Record) → IsAmong s.log r → IsAmong x.log r ⊎ (q : ℕ) × (q < n) × IsClosedIn (under q) r × (part_of shape r.at ≡ q)
   pub whole : (e : Record) → IsAmong s.log e → IsEnd e → IsAmong x.log e ⊎ HasNo (IsOf e.transaction) x.log
-  pub own : (t : ℕ) → IsRunning s.log t → ((q : ℕ) (r : Record) → q < n → IsAddedIn shape q (under q) r → IsOf t r → ⊥) → own_records t x.log ≡ own_records t s.log
+  pub own : (t : ℕ) → IsRunning s.log t → ((q : ℕ) (r : Record) → q < n → IsUnderWayIn shape s.log q (under q) r → IsOf t r → ⊥) → own_records t x.log ≡ own_records t s.log
   pub need : (q : ℕ) → n ≤ q → need_in (part_of shape) q x.log ≤ need_in (part_of shape) q s.log
   pub room : (q : ℕ) → n ≤ q → s.room q ≤ x.room q
   pub spare : shape.policy ≡ 2 → need_in (part_of shape) 0 x.log + 1 ≤ x.room 0

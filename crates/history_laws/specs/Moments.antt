@@ -16,13 +16,14 @@ use Rattle.log_laws.specs.Moves.{IsDeletionBy, IsChangeBy}
 use Rattle.region_layout.specs.Layout.{IsAllowed}
 use Rattle.bucket_log.specs.Words.{IsPartWord}
 use Rattle.bucket_log.specs.Appends.{CanAppend}
+use Rattle.log_clearing.specs.Clearing.{AreDeferred}
 use Rattle.log_clearing.specs.Closed.{AreGroups, IsListed}
 use Rattle.log_clearing.specs.Removals.{CanDrop}
 use Rattle.plan_records.specs.Cells.{IsCellOf}
 use Rattle.plan_records.specs.Passing.{Passes}
 use Rattle.plan_records.specs.Conditions.{CanUpdate, CanDelete, CanRollBack, CanCompensate, CanEndUndone, IsOfOpen, AreLast, AreWritten}
 use Rattle.history_laws.specs.Histories.{Entry, LeavesWord}
-use Rattle.history_laws.specs.UnderWay.{Added, an_update, a_deletion, a_rollback, a_compensation, an_undone_end, a_commit_end, Adding, record_of_adding, UnderWay, nothing, appends, closes, drops, plan_of, made_of, IsStored, IsAddedIn}
+use Rattle.history_laws.specs.UnderWay.{Added, an_update, a_deletion, a_rollback, a_compensation, an_undone_end, a_commit_end, Adding, record_of_adding, UnderWay, nothing, appends, closes, takes_back, drops, plan_of, made_of, IsStored, IsAddedIn}
 
 -- ---- an append whose gate is stored
 
@@ -92,10 +93,16 @@ pub record IsClosingGroup (shape : Shape) (s : State) (heap : Words) (p : ℕ) (
   pub whole : (e : Record) → IsAmong s.log e → IsListed gates ends [] e → IsEnd e → (r : Record) → IsAmong s.log r → IsOf e.transaction r → IsListed gates ends [] r
   pub zero : (r : Record) → IsAmong s.log r → IsListed gates ends [] r → IsDeletion r → IsCommitted s.log r.transaction → heap r.word ≡ 0
 
+-- Deletions of running transactions are closed, which stand in the partition. Nothing is asked of words.
+pub record IsTakingBack (shape : Shape) (s : State) (p : ℕ) (gates : List ℕ) : Type 0 where
+  pub deferred : AreDeferred s.log gates
+  pub here : (d : Record) → IsAmong s.log d → IsAmong gates d.at → part_of shape d.at ≡ p
+
 abbrev pub IsRunningIn : Shape → Words → State → Words → List Entry → Words → ℕ → UnderWay → Type 0
 IsRunningIn shape base s h flight heap p nothing = Unit {0}
 IsRunningIn shape base s h flight heap p (appends x made) = IsAppending shape base s h flight heap p x made
 IsRunningIn shape base s h flight heap p (closes gates ends made) = IsClosingGroup shape s heap p gates ends
+IsRunningIn shape base s h flight heap p (takes_back gates made) = IsTakingBack shape s p gates
 IsRunningIn shape base s h flight heap p (drops r made) = CanDrop shape p (view p (log_words shape base)) r
 
 -- ---- all partitions

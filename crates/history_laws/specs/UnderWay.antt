@@ -1,8 +1,8 @@
 -- What is under way in a partition of the log, as plain data.
-use Rattle.std.specs.Prelude.{◌≡◌, ℕ, ◌+◌, ◌<◌, List, [], length}
+use Rattle.std.specs.Prelude.{◌≡◌, ◌⊎◌, ℕ, ◌+◌, ◌<◌, List, [], length}
 use Rattle.persist_model.specs.declared.event.Event.{Event}
-use Rattle.persist_model.specs.Records.{Record}
-use Rattle.persist_model.specs.Shape.{Shape}
+use Rattle.persist_model.specs.Records.{Record, Log, IsAmong}
+use Rattle.persist_model.specs.Shape.{Shape, part_of}
 use Rattle.atomic_list.specs.declared.plans.Remove.{Remove}
 use Rattle.region_layout.specs.declared.cell.Cell.{Cell}
 use Rattle.bucket_log.specs.declared.append.Place.{Place}
@@ -41,23 +41,27 @@ pub record Adding : Type 0 where
 abbrev pub record_of_adding : Adding → Record
 record_of_adding x = appended x.place x.number (cell_of x.added)
 
--- Nothing, an append, a group of a closing (its gates and ends), or a removal, with the number of its events that were made.
+-- Nothing, an append, a group of a closing (its gates and ends), the closing of deletions that running transactions take back (their gates), or
+-- a removal, with the number of its events that were made.
 pub data UnderWay : Type 0 where
   nothing : UnderWay
   appends : Adding → ℕ → UnderWay
   closes : List ℕ → List ℕ → ℕ → UnderWay
+  takes_back : List ℕ → ℕ → UnderWay
   drops : Remove → ℕ → UnderWay
 
 abbrev pub plan_of : Shape → ℕ → UnderWay → List Event
 plan_of shape p nothing = []
 plan_of shape p (appends x made) = region_append shape p x.place (record_of_adding x)
 plan_of shape p (closes gates ends made) = closing_plan gates ends []
+plan_of shape p (takes_back gates made) = closing_plan gates [] []
 plan_of shape p (drops r made) = region_removal p r
 
 abbrev pub made_of : UnderWay → ℕ
 made_of nothing = 0
 made_of (appends x made) = made
 made_of (closes gates ends made) = made
+made_of (takes_back gates made) = made
 made_of (drops r made) = made
 
 -- the gate is stored: all events are made but for the last fence, or that too
@@ -69,6 +73,7 @@ abbrev pub IsAddedIn : Shape → ℕ → UnderWay → Record → Type 0
 IsAddedIn shape p nothing r = ⊥
 IsAddedIn shape p (appends x made) r = IsStored shape p x made × (r ≡ record_of_adding x)
 IsAddedIn shape p (closes gates ends made) r = ⊥
+IsAddedIn shape p (takes_back gates made) r = ⊥
 IsAddedIn shape p (drops r made) x = ⊥
 
 -- r is to be closed
@@ -76,4 +81,9 @@ abbrev pub IsClosedIn : UnderWay → Record → Type 0
 IsClosedIn nothing r = ⊥
 IsClosedIn (appends x made) r = ⊥
 IsClosedIn (closes gates ends made) r = IsListed gates ends [] r
+IsClosedIn (takes_back gates made) r = IsAmong gates r.at
 IsClosedIn (drops x made) r = ⊥
+
+-- r is under way in the partition: it is added, or it is a settled one that is to be closed
+abbrev pub IsUnderWayIn : Shape → Log → ℕ → UnderWay → Record → Type 0
+IsUnderWayIn shape log p u r = IsAddedIn shape p u r ⊎ IsAmong log r × IsClosedIn u r × (part_of shape r.at ≡ p)

@@ -262,7 +262,7 @@ module _ (log later : Log) (part : IsPart (IsDeferred log) later log) where
 
   -- ---- the room
 
-  needs_left : (which : ℕ → ℕ) (p : ℕ) → IsInOrder which log → need_in which p later ≤ need_in which p log
+  pub needs_left : (which : ℕ → ℕ) (p : ℕ) → IsInOrder which log → need_in which p later ≤ need_in which p log
   needs_left which p order =
       let same : need_in which p later ≡ sum_over which p (need_of log) later = (λ i. sum_over which p (λ t. need_left (IsDeferred log) six t later log part i) later) in
       let less = sum_left which p (need_of log) (IsDeferred log) log six (one_part which log order) [] later log part (λ x m. absurd m) (λ x m. m) in

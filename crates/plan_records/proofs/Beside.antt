@@ -20,7 +20,7 @@ use Rattle.plan_records.proofs.OwnRecords.{own_other, own_either, own_beside}
 
 -- ---- what others do
 
-own_part : (P : Record → Type 0) (t : ℕ) (later log : Log) → ((r : Record) → IsAmong log r → P r → IsOf t r → ⊥) → IsPart P later log → own_records t later ≡ own_records t log
+pub own_part : (P : Record → Type 0) (t : ℕ) (later log : Log) → ((r : Record) → IsAmong log r → P r → IsOf t r → ⊥) → IsPart P later log → own_records t later ≡ own_records t log
 own_part P t _ _ off empty = refl
 own_part P t _ _ off (stays r {later = later} {log = log} part) = own_either t r later log (own_part P t later log (λ x m. off x (inr m)) part)
 own_part P t _ _ off (goes r {later = later} {log = log} p part) = own_part P t later log (λ x m. off x (inr m)) part ∙ sym (own_other t r log (off r (inl refl) p))
