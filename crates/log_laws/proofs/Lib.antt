@@ -34,3 +34,4 @@ pub mod Deferring
 pub mod Moving
 pub mod MoveNeeds
 pub mod MoveRooms
+pub mod Groups

@@ -50,7 +50,7 @@ fits_less shape s r room d h takes opened some fell stays p lt = elim (eqb_tells
 
 -- ---- whether the transaction has a record
 
-some_of : (t : ℕ) (log : Log) → has_of t log ≡ true → Has (IsOf t) log
+pub some_of : (t : ℕ) (log : Log) → has_of t log ≡ true → Has (IsOf t) log
 some_of t [] is = cc
 some_of t (r ∷ log) is = elim (of_test t r) [
   | inl h ↦ (r, inl refl, h.1)
@@ -60,10 +60,10 @@ some_of t (r ∷ log) is = elim (of_test t r) [
     rest_true : is_of t r ≡ false → has_of t log ≡ true
     rest_true off = rw off at is
 
-tells : (t : ℕ) (log : Log) → (has_of t log ≡ true) ⊎ (has_of t log ≡ false)
+pub tells : (t : ℕ) (log : Log) → (has_of t log ≡ true) ⊎ (has_of t log ≡ false)
 tells t log = elim (has_of t log) as (λ b. (b ≡ true) ⊎ (b ≡ false)) [ true ↦ inl refl | false ↦ inr refl ]
 
-running_test : (t : ℕ) (log : Log) → IsRunning log t → has_kind_of t 4 log ≡ false
+pub running_test : (t : ℕ) (log : Log) → IsRunning log t → has_kind_of t 4 log ≡ false
 running_test t log running = has_kind_false t 4 log running
 
 -- where no record of its transaction is there, r's cells are

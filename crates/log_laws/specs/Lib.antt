@@ -7,3 +7,4 @@ pub mod Soundness
 pub mod Naming
 pub mod Moves
 pub mod MoveRoom
+pub mod Groups

@@ -6,6 +6,7 @@ ghost use Rattle.log_laws.specs.Naming.{StackIsUnnamed, UndoPointIsEarlier};
 ghost use Rattle.log_laws.specs.Recovery.{RecoveryKeeps, RunsKeep, RecoveryEnds};
 ghost use Rattle.log_laws.specs.MoveRoom.{UpdateFits, DeletionFits, RollbackFits, CompensationFits, EndFits, CheckpointFits};
 ghost use Rattle.log_laws.specs.Moves.{MovesKeep, CommitsKeep};
+ghost use Rattle.log_laws.specs.Groups.{GroupsKeep};
 ghost use Rattle.log_laws.specs.Recovering.{EachImageKeeps, StoresGoOn, FencesGoOn};
 
 /// Words are a sound image or have a first fault.
@@ -71,6 +72,11 @@ pub fn recovery_ends()
 /// What the plan of a running transaction, a checkpoint or a clearing does keeps a sound state sound, with its standing values.
 pub fn moves_keep()
     ensures { MovesKeep }
+{}
+
+/// So do updates of one transaction that come at once, where the room that is left is enough.
+pub fn groups_keep()
+    ensures { GroupsKeep }
 {}
 
 /// The end of a commit keeps a sound state sound, with the transaction's words standing as it wrote them.
