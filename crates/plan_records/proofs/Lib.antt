@@ -9,6 +9,7 @@ pub mod PassingNeeds
 pub mod PassingLaw
 pub mod Appending
 pub mod RoomBound
+pub mod Groups
 pub mod Records
 pub mod Changes
 pub mod UndoneEnds

@@ -20,7 +20,7 @@ kind_inserted : (t kind : ℕ) (r : Record) (log : Log) → has_kind_of t kind (
 kind_inserted t kind r log =
     inserted_fold (has_kind_of t kind) (λ x b. is_kind_of t kind x || b) (λ x l. refl) r log (λ x m lt z. or_swap (is_kind_of t kind x) (is_kind_of t kind r) z)
 
-of_inserted : (t : ℕ) (r : Record) (log : Log) → has_of t (inserted r log) ≡ has_of t (r ∷ log)
+pub of_inserted : (t : ℕ) (r : Record) (log : Log) → has_of t (inserted r log) ≡ has_of t (r ∷ log)
 of_inserted t r log = inserted_fold (has_of t) (λ x b. is_of t x || b) (λ x l. refl) r log (λ x m lt z. or_swap (is_of t x) (is_of t r) z)
 
 of_other : (t : ℕ) (x : Record) (log : Log) → x.transaction ≢ t → has_of t (x ∷ log) ≡ has_of t log

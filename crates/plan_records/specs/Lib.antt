@@ -10,3 +10,4 @@ pub mod HeapCourses
 pub mod HeapClears
 pub mod HeapUpdates
 pub mod HeapImages
+pub mod Groups

@@ -12,6 +12,7 @@ ghost use Rattle.plan_records.specs.Laws.{
 };
 ghost use Rattle.plan_records.specs.Appends.{RoomIsBounded};
 ghost use Rattle.plan_records.specs.Passing.{PassingsKeep};
+ghost use Rattle.plan_records.specs.Groups.{UpdatesComeAtOnce};
 ghost use Rattle.plan_records.specs.Others.{OthersKeepOwn, AppendsStandInPart, EndsLeaveDeleted, OwnersAreZero};
 ghost use Rattle.plan_records.specs.Courses.{CoursesKeepRecords, WritesGoOn, GivesGoOn, CommitsGoOn, AbortsGoOn};
 ghost use Rattle.plan_records.specs.HeapCourses.{
@@ -33,6 +34,11 @@ ghost use Rattle.plan_records.specs.HeapImages.{UpdatesLeave, CommitsLeave, Abor
 /// A record that was numbered before newer records of other transactions may come behind them.
 pub fn passings_keep()
     ensures { PassingsKeep }
+{}
+
+/// Updates of a transaction that come at once, as those of one bucket, leave a sound state with the same standing words, where the room that is left is enough.
+pub fn updates_come_at_once()
+    ensures { UpdatesComeAtOnce }
 {}
 
 /// At each prefix of an update's append each image is sound, with the standing words before.
