@@ -1,0 +1,5 @@
+pub mod Progressing
+pub mod Passing
+pub mod Ending
+pub mod Groups
+pub mod Ledgers

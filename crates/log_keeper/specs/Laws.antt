@@ -1,0 +1,135 @@
+-- How the keeper goes on, as laws of its plain data.
+use Rattle.std.specs.Prelude.{◌≡◌, ◌≢◌, ℕ, ◌<◌, ◌≤◌, List, ◌∷◌, length, Some, slice_get}
+use Rattle.persist_model.specs.declared.event.Event.{Event}
+use Rattle.persist_model.specs.declared.event.Event.TheVariants.{Store, PStore, WriteBack, Fence}
+use Rattle.persist_model.specs.Region.{Words, Region, MayStand, after}
+use Rattle.persist_model.specs.Progress.{Reaches, AreSettledAt}
+use Rattle.persist_model.specs.Runs.{progress_at}
+use Rattle.persist_model.specs.Records.{Record, Log, IsAmong}
+use Rattle.persist_model.specs.Shape.{Shape, heap, heap_words, log_words, words_of_shape}
+use Rattle.persist_model.specs.Chain.{view}
+use Rattle.persist_model.specs.State.{State}
+use Rattle.persist_model.specs.Sound.{HasState}
+use Rattle.log_laws.specs.Recovering.{with_heap}
+use Rattle.atomic_list.specs.declared.plans.Remove.{Remove}
+use Rattle.atomic_list.specs.Rules.{IsAtRest}
+use Rattle.region_layout.specs.Layout.{IsAllowed}
+use Rattle.bucket_log.specs.declared.append.Place.{Place}
+use Rattle.bucket_log.specs.Words.{IsPartWord}
+use Rattle.bucket_log.specs.Appends.{chain_behind}
+use Rattle.log_clearing.specs.Removals.{with_room, more_room}
+use Rattle.plan_records.specs.Appends.{with_record}
+use Rattle.plan_records.specs.Passing.{inserted}
+use Rattle.log_keeper.specs.Parts.{LogPart, rests, appends, closes, drops, words_behind, CanRun}
+use Rattle.log_keeper.specs.Ledger.{Stage, Drawn, Stored, Settled, Noted, AreNewestFirst, IsUnsettled, settled_log, with_stage, left_open, without}
+use Rattle.log_keeper.specs.Logged.{Keeping, with_chain, advanced, ended, beginning, IsNone's, waiting, plan_in, IsLoggedAt, IsPassing, IsAlone}
+
+-- ---- events
+
+-- an event elsewhere
+abbrev pub EventsPass : Type 0
+EventsPass = (shape : Shape) (base : Words) (s : State) (chains : ℕ → List ℕ) (k : Keeping) (region : Region) (by : ℕ) (e : Event) →
+    IsPassing shape k by e → IsLoggedAt shape base s chains k region → IsLoggedAt shape base s chains k (after region by e)
+
+-- a word of the heap
+abbrev pub IsBehindLog : Shape → Event → Type 0
+IsBehindLog shape (Store a v) = heap shape ≤ a
+IsBehindLog shape (PStore a v) = heap shape ≤ a
+IsBehindLog shape (WriteBack a) = heap shape ≤ a
+IsBehindLog shape Fence = ⊥
+
+-- A store or a write back in the heap passes, and so does a fence of a lane that no partition waits for.
+abbrev pub HeapEventsPass : Type 0
+HeapEventsPass = (shape : Shape) (k : Keeping) (by : ℕ) (e : Event) → IsAllowed shape → IsBehindLog shape e → IsPassing shape k by e
+
+abbrev pub FencesPass : Type 0
+FencesPass = (shape : Shape) (k : Keeping) (by : ℕ) → by < 17 → ((p : ℕ) → p < shape.partitions → waiting k p ≢ by) → IsPassing shape k by Fence
+
+-- the next event of a part, by its holder
+abbrev pub PartsGoOn : Type 0
+PartsGoOn = (shape : Shape) (base : Words) (s : State) (chains : ℕ → List ℕ) (k : Keeping) (region : Region) (p : ℕ) (e : Event) →
+    p < shape.partitions → k.holder p < 17 → IsAlone shape k p → slice_get (plan_in shape k p) (k.runs p).made ≡ Some e →
+    IsLoggedAt shape base s chains k region → IsLoggedAt shape base s chains (advanced p k) (after region (k.holder p) e)
+
+-- ---- parts
+
+-- A part begins in a partition where nothing is under way. The ledger may have records more that aren't settled.
+abbrev pub PartsBegin : Type 0
+PartsBegin = (shape : Shape) (base : Words) (s : State) (chains : ℕ → List ℕ) (k : Keeping) (region : Region) (p lane : ℕ) (part : LogPart) (ledger : List Noted) →
+    p < shape.partitions → (k.runs p).part ≡ rests → CanRun shape p base s (chains p) part → settled_log ledger ≡ settled_log k.ledger →
+    IsLoggedAt shape base s chains k region → IsLoggedAt shape base s chains (beginning p lane part ledger k) region
+
+-- Where all events of an append are made, its words are settled, with the record, and the chain behind it.
+abbrev pub AppendsSettle : Type 0
+AppendsSettle = (shape : Shape) (base : Words) (s : State) (chains : ℕ → List ℕ) (k : Keeping) (region : Region) (p : ℕ) (place : Place) (r : Record) (ledger : List Noted) →
+    p < shape.partitions → (k.runs p).part ≡ appends place r → (k.runs p).made ≡ length (plan_in shape k p) →
+    ((x : Record) → IsAmong s.log x → x.lsn ≢ r.lsn) → settled_log ledger ≡ inserted r (settled_log k.ledger) →
+    IsLoggedAt shape base s chains k region →
+    let later = words_behind shape p (appends place r) base in
+    IsLoggedAt shape later (with_heap (with_record p s r) (heap_words shape later)) (with_chain p (chain_behind place (chains p)) chains) (ended p ledger k) region
+
+-- Where all events of a group of a closing are made, its words are settled, without the listed records, and with no less room.
+pub record HasClosed (shape : Shape) (base : Words) (s : State) (chains : ℕ → List ℕ) (k : Keeping) (region : Region) (log : Log) : Type 0 where
+  pub state : State
+  pub log_is : state.log ≡ log
+  pub no_less : (p : ℕ) → s.room p ≤ state.room p
+  pub logged : IsLoggedAt shape base state chains k region
+
+abbrev pub GroupsSettle : Type 0
+GroupsSettle = (shape : Shape) (base : Words) (s : State) (chains : ℕ → List ℕ) (k : Keeping) (region : Region) (p : ℕ) (gates ends checkpoints : List ℕ) (ledger : List Noted) →
+    p < shape.partitions → (k.runs p).part ≡ closes gates ends checkpoints → (k.runs p).made ≡ length (plan_in shape k p) →
+    settled_log ledger ≡ left_open gates ends checkpoints (settled_log k.ledger) → IsLoggedAt shape base s chains k region →
+    HasClosed shape (words_behind shape p (closes gates ends checkpoints) base) s chains (ended p ledger k) region (left_open gates ends checkpoints s.log)
+
+-- Where all events of a removal are made, its words are settled, with the cells of a bucket more room, and a chain without the bucket.
+pub record HasDropped (shape : Shape) (base : Words) (s : State) (chains : ℕ → List ℕ) (k : Keeping) (region : Region) (p : ℕ) : Type 0 where
+  pub chain : List ℕ
+  pub logged : IsLoggedAt shape base s (with_chain p chain chains) k region
+
+abbrev pub RemovalsSettle : Type 0
+RemovalsSettle = (shape : Shape) (base : Words) (s : State) (chains : ℕ → List ℕ) (k : Keeping) (region : Region) (p : ℕ) (r : Remove) →
+    p < shape.partitions → (k.runs p).part ≡ drops r → (k.runs p).made ≡ length (plan_in shape k p) → IsLoggedAt shape base s chains k region →
+    let later = words_behind shape p (drops r) base in
+    HasDropped shape later (with_room s (more_room p shape.cells s.room) (heap_words shape later)) chains (ended p k.ledger k) region p
+
+-- ---- the beginning
+
+-- a region whose log is settled and at rest, with all records in the ledger settled, and nothing under way
+abbrev pub RegionsStart : Type 0
+RegionsStart = (shape : Shape) (base : Words) (s : State) (chains : ℕ → List ℕ) (k : Keeping) (region : Region) → region.size ≡ words_of_shape shape → IsAllowed shape →
+    HasState shape base s → s.log ≡ settled_log k.ledger → ((p : ℕ) → p < shape.partitions → IsAtRest shape p (view p (log_words shape base)) (chains p)) →
+    AreSettledAt (λ a. a < heap shape) base region → ((p : ℕ) → p < shape.partitions → (k.runs p).part ≡ rests) → IsLoggedAt shape base s chains k region
+
+-- ---- what a stop leaves
+
+-- words of the header are base's, and of each partition's words those that its part has reached
+pub record IsReached (shape : Shape) (base : Words) (k : Keeping) (i : Words) : Type 0 where
+  pub header : (a : ℕ) → IsNone's shape a → i a ≡ base a
+  pub parts : (p : ℕ) → p < shape.partitions → Reaches (IsPartWord shape p) (progress_at base (plan_in shape k p) (k.runs p).made) i
+
+abbrev pub ImagesAreReached : Type 0
+ImagesAreReached = (shape : Shape) (base : Words) (s : State) (chains : ℕ → List ℕ) (k : Keeping) (region : Region) (i : Words) →
+    IsLoggedAt shape base s chains k region → MayStand i region → IsReached shape base k i
+
+-- So whatever a stop leaves of a partition where nothing is under way is settled, and its list is at rest.
+pub record IsAtRestIn (shape : Shape) (base : Words) (chains : ℕ → List ℕ) (p : ℕ) (i : Words) : Type 0 where
+  pub words : (a : ℕ) → IsPartWord shape p a → i a ≡ base a
+  pub list : IsAtRest shape p (view p (log_words shape i)) (chains p)
+
+abbrev pub RestingPartsAreSettled : Type 0
+RestingPartsAreSettled = (shape : Shape) (base : Words) (s : State) (chains : ℕ → List ℕ) (k : Keeping) (region : Region) (i : Words) (p : ℕ) → p < shape.partitions →
+    (k.runs p).part ≡ rests → IsLoggedAt shape base s chains k region → MayStand i region → IsAtRestIn shape base chains p i
+
+-- ---- the ledger
+
+-- What becomes of the settled records as records are drawn, stored, settled and closed.
+pub record LedgersKeep : Type 0 where
+  pub draws : (lane : ℕ) (r : Record) (ledger : List Noted) → settled_log (record { lane = lane; entry = r; stage = Drawn } ∷ ledger) ≡ settled_log ledger
+  pub stores : (r : Record) (ledger : List Noted) → AreNewestFirst ledger → IsUnsettled ledger r → settled_log (with_stage r.lsn Stored ledger) ≡ settled_log ledger
+  pub settles : (r : Record) (ledger : List Noted) → AreNewestFirst ledger → IsUnsettled ledger r →
+      settled_log (with_stage r.lsn Settled ledger) ≡ inserted r (settled_log ledger)
+  pub closes : (gates ends checkpoints : List ℕ) (ledger : List Noted) →
+      settled_log (without gates ends checkpoints ledger) ≡ left_open gates ends checkpoints (settled_log ledger)
+  pub fresh : (r : Record) (ledger : List Noted) → AreNewestFirst ledger → IsUnsettled ledger r → (x : Record) → IsAmong (settled_log ledger) x → x.lsn ≢ r.lsn
+  pub staged_first : (n : ℕ) (stage : Stage) (ledger : List Noted) → AreNewestFirst ledger → AreNewestFirst (with_stage n stage ledger)
+  pub closed_first : (gates ends checkpoints : List ℕ) (ledger : List Noted) → AreNewestFirst ledger → AreNewestFirst (without gates ends checkpoints ledger)

@@ -1,0 +1,4 @@
+pub mod Parts
+pub mod Ledger
+pub mod Logged
+pub mod Laws

@@ -1,0 +1,75 @@
+//! How the keeper's plain data and the region go on together, as functions that do nothing: the clause is the law.
+ghost use Rattle.log_keeper.specs.Laws.{
+  EventsPass,
+  HeapEventsPass,
+  FencesPass,
+  PartsGoOn,
+  PartsBegin,
+  AppendsSettle,
+  GroupsSettle,
+  RemovalsSettle,
+  RegionsStart,
+  ImagesAreReached,
+  RestingPartsAreSettled,
+  LedgersKeep,
+};
+
+/// An event that names no word of the log, and is no fence that a partition waits for, changes nothing.
+pub fn events_pass()
+    ensures { EventsPass }
+{}
+
+/// Such are stores and write backs in the heap,
+pub fn heap_events_pass()
+    ensures { HeapEventsPass }
+{}
+
+/// and fences of lanes that no partition waits for.
+pub fn fences_pass()
+    ensures { FencesPass }
+{}
+
+/// A partition's holder makes the next event of its part.
+pub fn parts_go_on()
+    ensures { PartsGoOn }
+{}
+
+/// A part begins where nothing is under way.
+pub fn parts_begin()
+    ensures { PartsBegin }
+{}
+
+/// Behind the last event of an append the settled words have its record,
+pub fn appends_settle()
+    ensures { AppendsSettle }
+{}
+
+/// behind that of a group of a closing they lack its records,
+pub fn groups_settle()
+    ensures { GroupsSettle }
+{}
+
+/// and behind that of a removal they have more room.
+pub fn removals_settle()
+    ensures { RemovalsSettle }
+{}
+
+/// A region whose log is settled and at rest is where the keeper may start.
+pub fn regions_start()
+    ensures { RegionsStart }
+{}
+
+/// What a stop leaves is, in each partition, what its part has reached;
+pub fn images_are_reached()
+    ensures { ImagesAreReached }
+{}
+
+/// where nothing is under way it is settled, with a list at rest.
+pub fn resting_parts_are_settled()
+    ensures { RestingPartsAreSettled }
+{}
+
+/// The ledger has the settled records, as records are drawn, stored, settled and closed.
+pub fn ledgers_keep()
+    ensures { LedgersKeep }
+{}
