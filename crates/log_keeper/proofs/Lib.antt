@@ -3,3 +3,4 @@ pub mod Passing
 pub mod Ending
 pub mod Groups
 pub mod Ledgers
+pub mod Reading

@@ -9,15 +9,17 @@ use Rattle.persist_model.specs.Records.{Record, Log, IsAmong}
 use Rattle.persist_model.specs.Shape.{Shape, heap, heap_words, log_words, words_of_shape}
 use Rattle.persist_model.specs.Chain.{view}
 use Rattle.persist_model.specs.State.{State}
-use Rattle.persist_model.specs.Sound.{HasState}
+use Rattle.persist_model.specs.Sound.{HasState, room_of}
 use Rattle.log_laws.specs.Recovering.{with_heap}
 use Rattle.atomic_list.specs.declared.plans.Remove.{Remove}
 use Rattle.atomic_list.specs.Rules.{IsAtRest}
 use Rattle.region_layout.specs.Layout.{IsAllowed}
 use Rattle.bucket_log.specs.declared.append.Place.{Place}
 use Rattle.bucket_log.specs.Words.{IsPartWord}
+use Rattle.bucket_log.specs.Plans.{place_address}
+use Rattle.bucket_log.specs.Places.{IsNextPlace}
 use Rattle.bucket_log.specs.Appends.{chain_behind}
-use Rattle.log_clearing.specs.Removals.{with_room, more_room}
+use Rattle.log_clearing.specs.Removals.{CanDrop, with_room, more_room}
 use Rattle.plan_records.specs.Appends.{with_record}
 use Rattle.plan_records.specs.Passing.{inserted}
 use Rattle.log_keeper.specs.Parts.{LogPart, rests, appends, closes, drops, words_behind, CanRun}
@@ -119,6 +121,18 @@ pub record IsAtRestIn (shape : Shape) (base : Words) (chains : ℕ → List ℕ)
 abbrev pub RestingPartsAreSettled : Type 0
 RestingPartsAreSettled = (shape : Shape) (base : Words) (s : State) (chains : ℕ → List ℕ) (k : Keeping) (region : Region) (i : Words) (p : ℕ) → p < shape.partitions →
     (k.runs p).part ≡ rests → IsLoggedAt shape base s chains k region → MayStand i region → IsAtRestIn shape base chains p i
+
+-- What is read in the words that a stop may leave, as in the newest ones, of a partition where nothing is under way: the next place takes a record,
+-- a bucket may be dropped, and the room is that of the settled state, whatever other partitions are in.
+pub record ReadsServe (shape : Shape) (base : Words) (s : State) (chain : List ℕ) (p : ℕ) (i : Words) : Type 0 where
+  pub append : (place : Place) (r : Record) → IsNextPlace shape p (view p (log_words shape i)) chain place → r.at ≡ place_address place → r.lsn ≢ 0 →
+      CanRun shape p base s chain (appends place r)
+  pub removal : (r : Remove) → CanDrop shape p (view p (log_words shape i)) r → CanRun shape p base s chain (drops r)
+  pub room : room_of shape (log_words shape i) p chain ≡ s.room p
+
+abbrev pub RestingPartsAreRead : Type 0
+RestingPartsAreRead = (shape : Shape) (base : Words) (s : State) (chains : ℕ → List ℕ) (k : Keeping) (region : Region) (i : Words) (p : ℕ) → p < shape.partitions →
+    (k.runs p).part ≡ rests → IsLoggedAt shape base s chains k region → MayStand i region → ReadsServe shape base s (chains p) p i
 
 -- ---- the ledger
 

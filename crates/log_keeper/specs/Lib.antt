@@ -2,3 +2,4 @@ pub mod Parts
 pub mod Ledger
 pub mod Logged
 pub mod Laws
+pub mod UnderWay

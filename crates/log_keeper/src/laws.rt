@@ -11,8 +11,10 @@ ghost use Rattle.log_keeper.specs.Laws.{
   RegionsStart,
   ImagesAreReached,
   RestingPartsAreSettled,
+  RestingPartsAreRead,
   LedgersKeep,
 };
+ghost use Rattle.log_keeper.specs.UnderWay.{KeepersTrack};
 
 /// An event that names no word of the log, and is no fence that a partition waits for, changes nothing.
 pub fn events_pass()
@@ -67,6 +69,16 @@ pub fn images_are_reached()
 /// where nothing is under way it is settled, with a list at rest.
 pub fn resting_parts_are_settled()
     ensures { RestingPartsAreSettled }
+{}
+
+/// So what is read there is so of the settled words.
+pub fn resting_parts_are_read()
+    ensures { RestingPartsAreRead }
+{}
+
+/// The region is as the histories of its images ask.
+pub fn keepers_track()
+    ensures { KeepersTrack }
 {}
 
 /// The ledger has the settled records, as records are drawn, stored, settled and closed.
