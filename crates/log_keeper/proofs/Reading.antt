@@ -1,30 +1,28 @@
 -- What is read where nothing is under way, and the region as histories ask of it.
-use Rattle.std.proofs.Common.{◌≡◌, ◌≢◌, inr, ℕ, ◌+◌, ◌*◌, ◌<◌, ◌≤◌, List, [], arith, refl, sym, ap, ◌∙◌, subst}
-use Rattle.persist_model.specs.Region.{Words, Region, MayStand}
+use Rattle.std.proofs.Common.{◌≡◌, ◌≢◌, inr, ℕ, ◌<◌, arith, sym, ap, ◌∙◌, subst}
+use Rattle.persist_model.specs.Region.{Words, Region}
 use Rattle.persist_model.specs.Progress.{Tracks}
 use Rattle.persist_model.specs.Runs.{progress_at}
 use Rattle.persist_model.specs.Shape.{Shape, log_words}
 use Rattle.persist_model.specs.Chain.{view, last_or}
 use Rattle.persist_model.specs.ImageRecords.{cell_address}
-use Rattle.persist_model.specs.State.{State}
 use Rattle.persist_model.specs.Sound.{room_of}
-use Rattle.atomic_list.specs.Rules.{IsAtRest, at_rest}
+use Rattle.atomic_list.specs.Rules.{at_rest}
 use Rattle.atomic_list.proofs.ListChains.{list_has_chain}
 use Rattle.atomic_list.proofs.RulesToCases.{list_of_rules}
 use Rattle.atomic_list.proofs.Unique.{chain_is_one}
 use Rattle.persist_model.specs.Shape.{IsBucketOf}
 use Rattle.bucket_log.specs.Words.{IsLogWord, IsPartWord}
-use Rattle.bucket_log.proofs.Addresses.{cell_word_is_log_word}
 use Rattle.bucket_log.proofs.Appended.{inside_log, next_places_take}
 use Rattle.bucket_log.proofs.Appending.{Each-among, among_last}
 use Rattle.bucket_log.proofs.Partitions.{part_word_below}
 use Rattle.bucket_log.proofs.PartWords.{own_words_take}
 use Rattle.bucket_log.proofs.Rooms.{room_same}
 use Rattle.log_clearing.proofs.PartPlans.{own_words_drop}
-use Rattle.log_keeper.specs.Parts.{rests, waits_for, Running, plan_of}
-use Rattle.log_keeper.specs.Logged.{Keeping, waiting, IsLoggedAt}
-use Rattle.log_keeper.specs.Laws.{IsAtRestIn, ReadsServe, RestingPartsAreRead}
-use Rattle.log_keeper.specs.UnderWay.{UnderWay, nothing, appends, closes, drops, run_of, plan_of as plan_under, made_of, AreTracked, KeepersTrack}
+use Rattle.log_keeper.specs.Parts.{Running, plan_of}
+use Rattle.log_keeper.specs.Logged.{waiting}
+use Rattle.log_keeper.specs.Laws.{IsAtRestIn, RestingPartsAreRead}
+use Rattle.log_keeper.specs.UnderWay.{UnderWay, nothing, appends, closes, drops, run_of, plan_of as plan_under, made_of, KeepersTrack}
 use Rattle.log_keeper.proofs.Passing.{resting_parts_are_settled}
 
 pub resting_parts_are_read : RestingPartsAreRead

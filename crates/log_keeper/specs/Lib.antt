@@ -3,3 +3,5 @@ pub mod Ledger
 pub mod Logged
 pub mod Laws
 pub mod UnderWay
+pub mod Slots
+pub mod Fitting

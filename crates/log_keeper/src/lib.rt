@@ -1,4 +1,7 @@
-//! The keeper of the log for several lanes.
+//! The keeper of the log for several lanes: what is under way in each partition, and what the settled log is meanwhile.
 #![tactic(auto)]
 
 pub mod laws;
+mod slots;
+
+pub use slots::{Part, Slot};
