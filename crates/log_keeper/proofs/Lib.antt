@@ -4,3 +4,4 @@ pub mod Ending
 pub mod Groups
 pub mod Ledgers
 pub mod Reading
+pub mod Noting

@@ -5,3 +5,4 @@ pub mod Laws
 pub mod UnderWay
 pub mod Slots
 pub mod Fitting
+pub mod Noting

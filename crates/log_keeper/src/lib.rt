@@ -2,6 +2,8 @@
 #![tactic(auto)]
 
 pub mod laws;
+mod ledger;
 mod slots;
 
+pub use ledger::{Entry, Progress, come_to, note};
 pub use slots::{Part, Slot};
