@@ -5,3 +5,4 @@ pub mod Groups
 pub mod Ledgers
 pub mod Reading
 pub mod Noting
+pub mod Sounding

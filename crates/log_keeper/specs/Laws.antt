@@ -8,8 +8,9 @@ use Rattle.persist_model.specs.Runs.{progress_at}
 use Rattle.persist_model.specs.Records.{Record, Log, IsAmong}
 use Rattle.persist_model.specs.Shape.{Shape, heap, heap_words, log_words, words_of_shape}
 use Rattle.persist_model.specs.Chain.{view}
-use Rattle.persist_model.specs.State.{State}
+use Rattle.persist_model.specs.State.{State, IsSoundState}
 use Rattle.persist_model.specs.Sound.{HasState, room_of}
+use Rattle.log_laws.specs.Closing.{MayClear}
 use Rattle.log_laws.specs.Recovering.{with_heap}
 use Rattle.atomic_list.specs.declared.plans.Remove.{Remove}
 use Rattle.atomic_list.specs.Rules.{IsAtRest}
@@ -19,6 +20,7 @@ use Rattle.bucket_log.specs.Words.{IsPartWord}
 use Rattle.bucket_log.specs.Plans.{place_address}
 use Rattle.bucket_log.specs.Places.{IsNextPlace}
 use Rattle.bucket_log.specs.Appends.{chain_behind}
+use Rattle.log_clearing.specs.Closed.{AreGroups, IsListed}
 use Rattle.log_clearing.specs.Removals.{CanDrop, with_room, more_room}
 use Rattle.plan_records.specs.Appends.{with_record}
 use Rattle.plan_records.specs.Passing.{inserted}
@@ -82,6 +84,12 @@ GroupsSettle = (shape : Shape) (base : Words) (s : State) (chains : ℕ → List
     p < shape.partitions → (k.runs p).part ≡ closes gates ends checkpoints → (k.runs p).made ≡ length (plan_in shape k p) →
     settled_log ledger ≡ left_open gates ends checkpoints (settled_log k.ledger) → IsLoggedAt shape base s chains k region →
     HasClosed shape (words_behind shape p (closes gates ends checkpoints) base) s chains (ended p ledger k) region (left_open gates ends checkpoints s.log)
+
+-- The state behind a group is sound, where its records may be cleared with some heap words, as those of an image.
+abbrev pub GroupsStaySound : Type 0
+GroupsStaySound = (shape : Shape) (p : ℕ) (base h : Words) (s x : State) (gates ends checkpoints : List ℕ) → shape.partitions ≤ 3 → HasState shape base s → IsSoundState shape s →
+    AreGroups s.log gates ends checkpoints → MayClear shape.policy s.log (heap_words shape h) (IsListed gates ends checkpoints) →
+    HasState shape (words_behind shape p (closes gates ends checkpoints) base) x → IsSoundState shape x
 
 -- Where all events of a removal are made, its words are settled, with the cells of a bucket more room, and a chain without the bucket.
 pub record HasDropped (shape : Shape) (base : Words) (s : State) (chains : ℕ → List ℕ) (k : Keeping) (region : Region) (p : ℕ) : Type 0 where

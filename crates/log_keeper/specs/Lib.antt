@@ -6,3 +6,4 @@ pub mod UnderWay
 pub mod Slots
 pub mod Fitting
 pub mod Noting
+pub mod Making

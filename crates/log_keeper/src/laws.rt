@@ -7,6 +7,7 @@ ghost use Rattle.log_keeper.specs.Laws.{
   PartsBegin,
   AppendsSettle,
   GroupsSettle,
+  GroupsStaySound,
   RemovalsSettle,
   RegionsStart,
   ImagesAreReached,
@@ -51,7 +52,12 @@ pub fn groups_settle()
     ensures { GroupsSettle }
 {}
 
-/// and behind that of a removal they have more room.
+/// and their state is sound where these may be cleared;
+pub fn groups_stay_sound()
+    ensures { GroupsStaySound }
+{}
+
+/// behind that of a removal they have more room.
 pub fn removals_settle()
     ensures { RemovalsSettle }
 {}

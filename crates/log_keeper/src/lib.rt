@@ -3,7 +3,9 @@
 
 pub mod laws;
 mod ledger;
+mod making;
 mod slots;
 
 pub use ledger::{Entry, Progress, come_to, note};
+pub use making::append_made;
 pub use slots::{Part, Slot};
