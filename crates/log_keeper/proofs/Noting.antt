@@ -1,9 +1,10 @@
 -- The code's ledger and the plain one.
-use Rattle.std.proofs.Common.{◌≡◌, ℕ, ◌==◌, Bool, true, false, if◌then◌else◌, List, [], ◌∷◌, ◌++◌, map, refl, sym, ap, ◌∙◌}
+use Rattle.std.proofs.Common.{◌≡◌, ℕ, ◌==◌, ◌||◌, Bool, true, false, not, filter, if◌then◌else◌, List, [], ◌∷◌, ◌++◌, map, refl, sym, ap, ◌∙◌}
+use Rattle.std.specs.List.{list_any}
 use Rattle.log_keeper.specs.declared.ledger.Progress.{Progress}
 use Rattle.log_keeper.specs.declared.ledger.Entry.{Entry}
-use Rattle.log_keeper.specs.Ledger.{Stage, Noted, staged, with_stage}
-use Rattle.log_keeper.specs.Noting.{stage_of, noted_of, ledger_of, staged_entry}
+use Rattle.log_keeper.specs.Ledger.{Stage, Noted, staged, with_stage, is_in, is_listed, without}
+use Rattle.log_keeper.specs.Noting.{stage_of, noted_of, ledger_of, staged_entry, is_kept}
 
 pub ledger-push : (entries : List Entry) (x : Entry) → ledger_of (entries ++ x ∷ []) ≡ noted_of x ∷ ledger_of entries
 ledger-push [] x = refl
@@ -26,3 +27,39 @@ ledger-staged n stage (x ∷ entries) =
     ap (λ l. l ++ noted_of (staged_entry n stage x) ∷ []) (ledger-staged n stage entries)
     ∙ ap (λ y. with_stage n (stage_of stage) (ledger_of entries) ++ y ∷ []) (one_staged n stage x)
     ∙ sym (with_stage-append n (stage_of stage) (ledger_of entries) (noted_of x ∷ []))
+
+any_in : (gates : List ℕ) (a : ℕ) → list_any (λ b. b == a) gates ≡ is_in gates a
+any_in [] a = refl
+any_in (b ∷ gates) a = ap (λ t. (b == a) || t) (any_in gates a)
+
+kept_is : (gates ends checkpoints : List ℕ) (x : Entry) → is_kept gates ends checkpoints x ≡ not (is_listed gates ends checkpoints (noted_of x).entry.at)
+kept_is gates ends checkpoints x = let e = any_in gates x.placed.at in let f = any_in ends x.placed.at in let g = any_in checkpoints x.placed.at in
+    λ i. not (e i || (f i || g i))
+
+without-append : (gates ends checkpoints : List ℕ) (xs ys : List Noted) → without gates ends checkpoints (xs ++ ys) ≡ without gates ends checkpoints xs ++ without gates ends checkpoints ys
+without-append gates ends checkpoints [] ys = refl
+without-append gates ends checkpoints (x ∷ xs) ys = by (is_listed gates ends checkpoints x.entry.at) (without-append gates ends checkpoints xs ys)
+  where
+    by : (t : Bool) → without gates ends checkpoints (xs ++ ys) ≡ without gates ends checkpoints xs ++ without gates ends checkpoints ys →
+        (if t then without gates ends checkpoints (xs ++ ys) else x ∷ without gates ends checkpoints (xs ++ ys)) ≡
+        (if t then without gates ends checkpoints xs else x ∷ without gates ends checkpoints xs) ++ without gates ends checkpoints ys
+    by true e = e
+    by false e = ap (λ l. x ∷ l) e
+
+append_none : (xs : List Noted) → xs ++ [] ≡ xs
+append_none [] = refl
+append_none (x ∷ xs) = ap (λ l. x ∷ l) (append_none xs)
+
+pub ledger-kept : (gates ends checkpoints : List ℕ) (entries : List Entry) → ledger_of (filter (is_kept gates ends checkpoints) entries) ≡ without gates ends checkpoints (ledger_of entries)
+ledger-kept gates ends checkpoints [] = refl
+ledger-kept gates ends checkpoints (x ∷ entries) =
+    by (is_kept gates ends checkpoints x) (is_listed gates ends checkpoints (noted_of x).entry.at) (kept_is gates ends checkpoints x) (ledger-kept gates ends checkpoints entries)
+    ∙ sym (without-append gates ends checkpoints (ledger_of entries) (noted_of x ∷ []))
+  where
+    by : (s t : Bool) → s ≡ not t → ledger_of (filter (is_kept gates ends checkpoints) entries) ≡ without gates ends checkpoints (ledger_of entries) →
+        ledger_of (if s then x ∷ filter (is_kept gates ends checkpoints) entries else filter (is_kept gates ends checkpoints) entries) ≡
+        without gates ends checkpoints (ledger_of entries) ++ (if t then [] else noted_of x ∷ [])
+    by true true e rest = absurd (cc)
+    by true false e rest = ap (λ l. l ++ noted_of x ∷ []) rest
+    by false true e rest = rest ∙ sym (append_none (without gates ends checkpoints (ledger_of entries)))
+    by false false e rest = absurd (cc)

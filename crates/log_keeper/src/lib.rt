@@ -6,6 +6,6 @@ mod ledger;
 mod making;
 mod slots;
 
-pub use ledger::{Entry, Progress, come_to, note};
+pub use ledger::{Entry, Progress, close_listed, come_to, note};
 pub use making::append_made;
 pub use slots::{Part, Slot};
