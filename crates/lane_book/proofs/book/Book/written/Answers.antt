@@ -1,0 +1,9 @@
+use Rattle.lane_types.specs.declared.call.Reply.TheVariants as Reply
+use Rattle.lane_types.specs.declared.call.Stepped.TheVariants as Stepped
+use Rattle.lane_book.proofs.Rows.{steps_if_at}
+use Rattle.lane_book.proofs.WordRows.{written_row}
+use Rattle.lane_book.proofs.book.Book.written.Goals as goal
+
+pub returns-clause-step : goal.returns-clause-step
+returns-clause-step g c = steps_if_at _ g.E.Deed.meaning c.args.self.now _ _ c.args.lane (Stepped.Answered Reply.Written) c.store.ensures
+    (written_row g.E.Deed.meaning c.args.self.now c.args.lane c.args.a c.args.v c.args.touched c.requires.lane c.requires.calling c.requires.doing c.requires.next)

@@ -1,0 +1,6 @@
+pub mod Stocked
+pub mod Lanes
+pub mod FacesOf
+pub mod Steps
+pub mod Locks
+pub mod Refusals

@@ -1,0 +1,298 @@
+ghost use Rattle.std.specs.Prelude.{◌≡◌, ◌≢◌, ◌+◌, ◌-◌, ◌<◌, ◌≤◌, ◌^◌, ◌==◌, ◌++◌, ◌∷◌, [], true, ℕ, length, IsNone, IfSome, IsTrue, OnOk, OnErr, IfErr, Some, None};
+ghost use Rattle.std.specs.List.{range_with_len};
+ghost use Rattle.lane_types.specs.declared.face.Entry.{Entry};
+ghost use Rattle.lane_types.specs.Asks.{has_word};
+ghost use Rattle.lane_book.specs.Lanes.{noted, closed, moved, stored_one, left, saved, entered_lane, with_lane, with_history};
+ghost use Rattle.lane_book.specs.FacesOf.{lane_at, plain_face, front};
+ghost use Rattle.lane_book.specs.Steps.{Steps, StepsIf, AreBehindHistory, HasEntry, HasEntered, IsNextStored, AreStored, CanTake, held_by};
+ghost use Rattle.lane_book.specs.declared.lane.Doing.TheVariants as Doing;
+
+use crate::lane::{Doing, Lane};
+use crate::stock::Stock;
+use lane_types::{Deed, Entry, Face, Phase, Reply, Stepped, What};
+use offset_alloc::Blocks;
+use persist_model::List;
+
+/// What a world keeps of its lanes. It has no device: each answer changes the faces as functions of the book.
+#[derive(Drop)]
+pub struct Book<E> {
+    pub lanes: Vec<Lane<E>>,
+    /// The commits, in order.
+    pub history: Stock<Entry<E>>,
+    /// Whose each block is.
+    pub blocks: Blocks,
+    /// What the deeds of all commits have in common.
+    pub sorts: List<u64>,
+    pub next_transaction: u64,
+    /// A step of this world was answered `Stopped`.
+    pub stopped: bool,
+    /// The data word that the last step changed.
+    pub touched: Option<u32>,
+}
+
+impl<E> Book<E> {
+    pub fn doing(&self, lane: u32) -> Doing
+        requires { lane < length self.now.lanes.items }
+        ensures { result ≡ (lane_at self.now lane).doing }
+    {
+        self.lanes[lane as usize].doing
+    }
+
+    pub fn part(&self, lane: u32) -> u64
+        requires { lane < length self.now.lanes.items }
+        ensures { result ≡ (lane_at self.now lane).part }
+    {
+        self.lanes[lane as usize].part
+    }
+
+    pub fn face(&self, lane: u32) -> Face
+        requires { lane < length self.now.lanes.items }
+        ensures { result ≡ plain_face lane (lane_at self.now lane) }
+    {
+        let kept = &self.lanes[lane as usize];
+        Face {
+            lane,
+            phase: kept.phase,
+            held: kept.held,
+            begun: kept.begun,
+            commits: kept.commits,
+            answer: kept.answer,
+            tally: kept.tally,
+            live: kept.points.len() as u64,
+        }
+    }
+}
+
+impl<E: Deed> Book<E> {
+    // A step was answered so, and nothing else came of it.
+    fn note(&mut self, lane: u32, answer: Stepped)
+        requires { lane < length self.old.lanes.items }
+        ensures { self.new ≡ with_lane self.old lane (noted answer (lane_at self.old lane)) None }
+    {
+        self.lanes[lane as usize].note(answer);
+        self.touched = None;
+    }
+
+    // The call ends with this reply.
+    fn close(&mut self, lane: u32, reply: Reply)
+        requires { lane < length self.old.lanes.items }
+        ensures { self.new ≡ with_lane self.old lane (closed reply (lane_at self.old lane)) None }
+    {
+        self.lanes[lane as usize].close(reply);
+        self.touched = None;
+    }
+
+    // The transaction is over with this reply.
+    fn leave(&mut self, lane: u32, reply: Reply)
+        requires { lane < length self.old.lanes.items }
+        ensures { self.new ≡ with_lane self.old lane (left reply (lane_at self.old lane)) None }
+    {
+        self.lanes[lane as usize].leave(reply);
+        self.touched = None;
+    }
+
+    /// The lane has no call in progress.
+    pub fn idle(&mut self, lane: u32) -> Stepped
+        requires lane { lane < length self.old.lanes.items }
+        requires doing { (lane_at self.old lane).doing ≡ Doing.Nothing }
+        ensures is { self.new ≡ with_lane self.old lane (noted Stepped.Idle (lane_at self.old lane)) None }
+        ensures step { Steps E.meaning self.old self.new lane result }
+    {
+        self.note(lane, Stepped::Idle);
+        Stepped::Idle
+    }
+
+    /// The device has stopped.
+    pub fn stop(&mut self, lane: u32) -> Stepped
+        requires { lane < length self.old.lanes.items }
+        ensures is { self.new ≡ record (with_lane self.old lane (noted Stepped.Stopped (lane_at self.old lane)) None) { stopped = true } }
+        ensures step { Steps E.meaning self.old self.new lane result }
+    {
+        self.note(lane, Stepped::Stopped);
+        self.stopped = true;
+        Stepped::Stopped
+    }
+
+    /// The call waits for what another lane holds.
+    pub fn wait(&mut self, lane: u32, what: What, holder: u32) -> Stepped
+        requires lane { lane < length self.old.lanes.items }
+        requires calling { (lane_at self.old lane).phase ≡ Phase.Calling }
+        ensures is { self.new ≡ with_lane self.old lane (noted (Stepped.Waiting what holder) (lane_at self.old lane)) None }
+        ensures result { result ≡ Stepped.Waiting what holder }
+        ensures step { Steps E.meaning self.old self.new lane result }
+    {
+        let answer = Stepped::Waiting { what, holder };
+        self.note(lane, answer);
+        answer
+    }
+
+    /// The call goes on at this part of its plan.
+    pub fn go_on(&mut self, lane: u32, part: u64) -> Stepped
+        requires lane { lane < length self.old.lanes.items }
+        requires calling { (lane_at self.old lane).phase ≡ Phase.Calling }
+        ensures is { self.new ≡ with_lane self.old lane (moved part (lane_at self.old lane)) None }
+        ensures step { Steps E.meaning self.old self.new lane result }
+    {
+        self.lanes[lane as usize].go_on(part);
+        self.touched = None;
+        Stepped::Moved
+    }
+
+    /// A read is answered with the word.
+    pub fn read(&mut self, lane: u32, a: u32, value: u64) -> Stepped
+        requires lane { lane < length self.old.lanes.items }
+        requires calling { (lane_at self.old lane).phase ≡ Phase.Calling }
+        requires doing { (lane_at self.old lane).doing ≡ Doing.Read a }
+        ensures is { self.new ≡ with_lane self.old lane (closed (Reply.Word value) (lane_at self.old lane)) None }
+        ensures step { StepsIf (λ base. (held_by base self.old lane).word a ≡ Some value)
+            E.meaning self.old self.new lane result }
+    {
+        let reply = Reply::Word(value);
+        self.close(lane, reply);
+        Stepped::Answered(reply)
+    }
+
+    // A write more is stored, and the call ends with this reply.
+    fn store(&mut self, lane: u32, reply: Reply, touched: Option<u32>)
+        requires lane { lane < length self.old.lanes.items }
+        requires few { (lane_at self.old lane).stored < 2 ^ 62 }
+        ensures { self.new ≡ with_lane self.old lane (closed reply (stored_one (lane_at self.old lane))) touched }
+    {
+        self.lanes[lane as usize].store(reply);
+        self.touched = touched;
+    }
+
+    /// A write is answered, whose word is stored. `touched` is the word, where the value is another.
+    pub fn written(&mut self, lane: u32, a: u32, v: u64, touched: Option<u32>) -> Stepped
+        requires lane { lane < length self.old.lanes.items }
+        requires calling { (lane_at self.old lane).phase ≡ Phase.Calling }
+        requires doing { (lane_at self.old lane).doing ≡ Doing.Write a v }
+        requires next { IsNextStored (lane_at self.old lane) (record { address = a; value = v }) }
+        requires few { (lane_at self.old lane).stored < 2 ^ 62 }
+        ensures is { self.new ≡ with_lane self.old lane (closed Reply.Written (stored_one (lane_at self.old lane))) touched }
+        ensures step { StepsIf (λ base. has_word (held_by base self.old lane) a ≡ true) E.meaning self.old self.new lane result }
+    {
+        self.store(lane, Reply::Written, touched);
+        Stepped::Answered(Reply::Written)
+    }
+
+    /// A take is answered, whose owner word at this address is stored.
+    pub fn taken(&mut self, lane: u32, structure: u32, block: u32, a: u32) -> Stepped
+        requires lane { lane < length self.old.lanes.items }
+        requires calling { (lane_at self.old lane).phase ≡ Phase.Calling }
+        requires doing { (lane_at self.old lane).doing ≡ Doing.Take structure block }
+        requires next { IsNextStored (lane_at self.old lane) (record { address = a; value = structure + 1 }) }
+        requires few { (lane_at self.old lane).stored < 2 ^ 62 }
+        ensures is { self.new ≡ with_lane self.old lane (closed (Reply.Block block) (stored_one (lane_at self.old lane))) None }
+        ensures step { StepsIf (CanTake self.old lane structure block a) E.meaning self.old self.new lane result }
+    {
+        self.store(lane, Reply::Block(block), None);
+        Stepped::Answered(Reply::Block(block))
+    }
+
+    /// A give is answered, whose record is in the log.
+    pub fn given(&mut self, lane: u32, block: u32) -> Stepped
+        requires lane { lane < length self.old.lanes.items }
+        requires calling { (lane_at self.old lane).phase ≡ Phase.Calling }
+        requires doing { (lane_at self.old lane).doing ≡ Doing.Give block }
+        requires next { (lane_at self.old lane).gives.items ≡ front 1 (lane_at self.old lane).gives.items ++ block ∷ [] }
+        ensures is { self.new ≡ with_lane self.old lane (closed Reply.Given (lane_at self.old lane)) None }
+        ensures step { Steps E.meaning self.old self.new lane result }
+    {
+        self.close(lane, Reply::Given);
+        Stepped::Answered(Reply::Given)
+    }
+
+    /// A savepoint is made, for which there is room.
+    pub fn save(&mut self, lane: u32) -> Stepped
+        requires lane { lane < length self.old.lanes.items }
+        requires calling { (lane_at self.old lane).phase ≡ Phase.Calling }
+        requires doing { (lane_at self.old lane).doing ≡ Doing.Savepoint }
+        requires stored { AreStored (lane_at self.old lane) }
+        requires room { length (lane_at self.old lane).points.items < (lane_at self.old lane).points.capacity }
+        ensures is { self.new ≡ with_lane self.old lane (saved (lane_at self.old lane)) None }
+        ensures step { Steps E.meaning self.old self.new lane result }
+    {
+        let number = self.lanes[lane as usize].points.len() as u64;
+        self.lanes[lane as usize].save();
+        self.touched = None;
+        Stepped::Answered(Reply::Saved(number))
+    }
+
+    /// A checkpoint is answered.
+    pub fn checkpointed(&mut self, lane: u32) -> Stepped
+        requires lane { lane < length self.old.lanes.items }
+        requires calling { (lane_at self.old lane).phase ≡ Phase.Calling }
+        requires doing { (lane_at self.old lane).doing ≡ Doing.Checkpoint }
+        ensures is { self.new ≡ with_lane self.old lane (closed Reply.Checkpointed (lane_at self.old lane)) None }
+        ensures step { Steps E.meaning self.old self.new lane result }
+    {
+        self.close(lane, Reply::Checkpointed);
+        Stepped::Answered(Reply::Checkpointed)
+    }
+
+    /// An abort is answered.
+    pub fn aborted(&mut self, lane: u32) -> Stepped
+        requires lane { lane < length self.old.lanes.items }
+        requires calling { (lane_at self.old lane).phase ≡ Phase.Calling }
+        requires doing { (lane_at self.old lane).doing ≡ Doing.Abort }
+        ensures is { self.new ≡ with_lane self.old lane (left Reply.Aborted (lane_at self.old lane)) None }
+        ensures step { Steps E.meaning self.old self.new lane result }
+    {
+        self.leave(lane, Reply::Aborted);
+        Stepped::Answered(Reply::Aborted)
+    }
+
+    /// The entry of the commit joins the history, and the commit goes on at this part of its plan.
+    pub fn join(&mut self, lane: u32, part: u64) -> Stepped
+        requires lane { lane < length self.old.lanes.items }
+        requires calling { (lane_at self.old lane).phase ≡ Phase.Calling }
+        requires doing { (lane_at self.old lane).doing ≡ Doing.Commit }
+        requires entry { HasEntry lane (lane_at self.old lane) }
+        requires few { (lane_at self.old lane).commits < 2 ^ 60 }
+        requires room { length self.old.history.items < self.old.history.capacity }
+        requires behind { AreBehindHistory self.old }
+        ensures is { (e : Entry E) → (lane_at self.old lane).entry ≡ Some e
+            → self.new ≡ with_history (self.old.history.items ++ e ∷ []) (with_lane self.old lane (moved part (entered_lane (lane_at self.old lane))) None) }
+        ensures step { Steps E.meaning self.old self.new lane result }
+    {
+        self.touched = None;
+        if let Some(entry) = self.lanes[lane as usize].join(part) {
+            self.history.push(entry);
+        }
+        Stepped::Moved
+    }
+
+    /// A commit whose entry has joined is answered.
+    pub fn committed(&mut self, lane: u32) -> Stepped
+        requires lane { lane < length self.old.lanes.items }
+        requires calling { (lane_at self.old lane).phase ≡ Phase.Calling }
+        requires doing { (lane_at self.old lane).doing ≡ Doing.Commit }
+        requires entered { HasEntered self.old lane }
+        ensures is { self.new ≡ with_lane self.old lane (left Reply.Committed (lane_at self.old lane)) None }
+        ensures step { Steps E.meaning self.old self.new lane result }
+    {
+        self.leave(lane, Reply::Committed);
+        Stepped::Answered(Reply::Committed)
+    }
+
+    /// The entry of a commit joins the history in the step that answers it.
+    pub fn commit(&mut self, lane: u32) -> Stepped
+        requires lane { lane < length self.old.lanes.items }
+        requires calling { (lane_at self.old lane).phase ≡ Phase.Calling }
+        requires doing { (lane_at self.old lane).doing ≡ Doing.Commit }
+        requires entry { HasEntry lane (lane_at self.old lane) }
+        requires few { (lane_at self.old lane).commits < 2 ^ 60 }
+        requires room { length self.old.history.items < self.old.history.capacity }
+        requires behind { AreBehindHistory self.old }
+        ensures is { (e : Entry E) → (lane_at self.old lane).entry ≡ Some e
+            → self.new ≡ with_history (self.old.history.items ++ e ∷ []) (with_lane self.old lane (left Reply.Committed (entered_lane (lane_at self.old lane))) None) }
+        ensures step { Steps E.meaning self.old self.new lane result }
+    {
+        self.touched = None;
+        if let Some(entry) = self.lanes[lane as usize].commit() {
+            self.history.push(entry);
+        }
+        Stepped::Answered(Reply::Committed)
+    }
+}
