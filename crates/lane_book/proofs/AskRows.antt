@@ -1,5 +1,5 @@
 -- What the book refuses, and admits, is what the lane's whole face says.
-use Rattle.std.proofs.Common.{◌≡◌, ℕ, ◌-◌, ◌/◌, ◌<◌, Bool, true, false, not, ◌&&◌, nat_lt, if◌then◌else◌, List, [], ◌∷◌, refl, sym, ◌∙◌, ap, subst, arith, Some, None}
+use Rattle.std.proofs.Common.{Option, Some, None, ◌≡◌, ℕ, ◌-◌, ◌/◌, ◌<◌, Bool, true, false, not, ◌&&◌, nat_lt, if◌then◌else◌, List, [], ◌∷◌, refl, sym, ◌∙◌, ap, subst, arith, Some, None}
 use Rattle.std.proofs.lemmas.Bool.Decides.{nat_tests}
 use Rattle.lane_traits.specs.declared.draft.WordWrite.{WordWrite}
 use Rattle.lane_types.specs.declared.call.Call.{Call}
@@ -12,7 +12,7 @@ use Rattle.region_layout.specs.declared.layout.Layout.{Layout}
 use Rattle.lane_book.specs.declared.book.Book.{Book}
 use Rattle.lane_book.specs.FacesOf.{lane_at, faces_of}
 use Rattle.lane_book.specs.Steps.{held_by}
-use Rattle.lane_book.specs.Refusals.{is_mine, are_mine, block_in, names_mine, IsRefusedBy, Passes, ShowsBlocks, NamesData}
+use Rattle.lane_book.specs.Refusals.{is_mine, are_mine, block_in, names_mine, IsRefusedBy, Passes, ShowsBlocks, NamesData, Decides, Told}
 
 -- a data word is held where its block is
 word_by_block : (d o : Bool) (v s : ℕ) → d ≡ true → is_there (if o then Some s else None) ≡ is_there (if d && o then Some v else None)
@@ -71,3 +71,8 @@ module _ {E : Type 0} (layout : Layout) (book : Book E) (l : ℕ) (base : Base) 
     short = short;
   }
   why_of room need call _ inside (IsRefusedBy.by_heap passes takes full) = record { fits = fits_of room need call inside passes; takes = takes }
+
+  pub told_of : (room need : ℕ) (call : Call E) (refusal : Option Refusal) → NamesData base layout call →
+      Decides layout room need book.blocks (lane_at book l) call refusal → Told (faces_of base book l) call refusal
+  told_of room need call None inside decides = fits_of room need call inside decides.passes
+  told_of room need call (Some refusal) inside decides = why_of room need call refusal inside decides

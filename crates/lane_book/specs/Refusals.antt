@@ -6,8 +6,8 @@ use Rattle.lane_traits.specs.declared.draft.WordWrite.{WordWrite}
 use Rattle.lane_types.specs.declared.call.Call.{Call}
 use Rattle.lane_types.specs.declared.call.Refusal.{Refusal}
 use Rattle.lane_types.specs.Heaps.{has_bit, names_in, is_data}
-use Rattle.lane_types.specs.Faces.{Base}
-use Rattle.lane_types.specs.Asks.{is_there, is_logged, is_take, wanted}
+use Rattle.lane_types.specs.Faces.{Base, WholeFace}
+use Rattle.lane_types.specs.Asks.{is_there, is_logged, is_take, wanted, Fits, Why}
 use Rattle.lane_types.specs.May.{AreData}
 use Rattle.region_layout.specs.declared.layout.Layout.{Layout}
 use Rattle.region_layout.specs.Layout.{layout_shape}
@@ -154,3 +154,8 @@ NamesData base layout Call.Checkpoint = Unit {0}
 NamesData base layout (Call.Batch writes) = AreData base.heap writes
 NamesData base layout Call.Savepoint = Unit {0}
 NamesData base layout (Call.RollbackTo n) = Unit {0}
+
+-- the lane's whole face says why, or that the call fits it
+abbrev pub Told : {E : Type 0} → WholeFace E → Call E → Option Refusal → Type 0
+Told f call None = Fits f call
+Told f call (Some refusal) = Why refusal f call

@@ -4,8 +4,9 @@ ghost use Rattle.persist_model.specs.Shape.{IsHeapWord};
 ghost use Rattle.region_layout.specs.Layout.{layout_shape};
 ghost use Rattle.lane_types.specs.Asks as Asks;
 ghost use Rattle.lane_types.specs.Heaps.{names_in};
-ghost use Rattle.lane_book.specs.FacesOf.{lane_at};
-ghost use Rattle.lane_book.specs.Refusals.{owner_seen, is_mine, are_mine, first_owner, block_in, names_mine, owner_told, Tells, AreStructures, AreHeapWords, NamesInside, NoneIsFree, Decides};
+ghost use Rattle.lane_types.specs.Faces.{Base};
+ghost use Rattle.lane_book.specs.FacesOf.{lane_at, faces_of};
+ghost use Rattle.lane_book.specs.Refusals.{owner_seen, is_mine, are_mine, first_owner, block_in, names_mine, owner_told, Tells, AreStructures, AreHeapWords, NamesInside, NoneIsFree, Decides, ShowsBlocks, NamesData, Told};
 
 use crate::book::Book;
 use crate::lane::Lane;
@@ -208,6 +209,8 @@ impl<E> Book<E> {
         requires structures { AreStructures self.now.blocks }
         requires inside { NamesInside layout call.now }
         ensures decides { Decides layout room need self.now.blocks (lane_at self.now lane) call.now result }
+        ensures told { (base : Base) → ShowsBlocks layout self.now lane base → NamesData base layout call.now
+            → Told (faces_of base self.now lane) call.now result }
     {
         refusal_of(
             layout,
