@@ -6,3 +6,4 @@ pub mod Begins
 pub mod AskRows
 pub mod Asking
 pub mod Strange
+pub mod Reserving

@@ -4,3 +4,4 @@ pub mod FacesOf
 pub mod Steps
 pub mod Locks
 pub mod Refusals
+pub mod Reserved

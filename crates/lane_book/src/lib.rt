@@ -6,6 +6,7 @@ mod book;
 mod lane;
 mod locks;
 mod refusals;
+mod reserved;
 mod stock;
 
 pub use book::Book;

@@ -27,7 +27,7 @@ fn wanted<E>(call: &Call<E>) -> Phase
 }
 
 /// Whether the log may be too full for the call.
-fn is_logged<E>(call: &Call<E>) -> bool
+pub fn is_logged<E>(call: &Call<E>) -> bool
     ensures { result ≡ Asks.is_logged call.now }
 {
     matches!(
