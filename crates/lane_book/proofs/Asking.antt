@@ -1,5 +1,5 @@
 -- An ask changes the asking lane's face alone.
-use Rattle.std.proofs.Common.{◌≡◌, ℕ, ◌-◌, ◌<◌, List, [], ◌∷◌, ◌++◌, length, take, map, refl, sym, ◌∙◌, ap, subst, arith, Option, Some}
+use Rattle.std.proofs.Common.{◌≡◌, ℕ, zero, suc, ◌-◌, drop, ◌<◌, List, [], ◌∷◌, ◌++◌, length, take, map, refl, sym, ◌∙◌, ap, subst, arith, Option, Some}
 use Rattle.std.specs.Prelude.{Result, Ok, Err, OnOk, OnErr}
 use Rattle.std.proofs.Math.ListN.{length-append}
 use Rattle.std.specs.List.{filter}
@@ -7,6 +7,7 @@ use Rattle.lane_traits.specs.declared.draft.WordWrite.{WordWrite}
 use Rattle.lane_types.specs.declared.call.Call.{Call}
 use Rattle.lane_types.specs.declared.call.Refusal.{Refusal}
 use Rattle.lane_types.specs.declared.face.Entry.{Entry}
+use Rattle.offset_alloc.specs.declared.Standing.{Standing}
 use Rattle.lane_types.specs.Heaps.{Heap}
 use Rattle.lane_types.specs.Faces.{Base, WholeFace}
 use Rattle.lane_types.specs.Asks.{asked, refused}
@@ -14,7 +15,7 @@ use Rattle.lane_book.specs.declared.lane.Lane.{Lane}
 use Rattle.lane_book.specs.declared.lane.Point.{Point}
 use Rattle.lane_book.specs.declared.lane.Doing.{Doing}
 use Rattle.lane_book.specs.declared.book.Book.{Book}
-use Rattle.lane_book.specs.Lanes.{asked_lane, refused_lane, IsRoomier, with_lane}
+use Rattle.lane_book.specs.Lanes.{asked_lane, refused_lane, IsRoomier, with_more, with_lane}
 use Rattle.lane_book.specs.FacesOf.{lane_at, face_of, call_of, front, waiting_writes, waiting_gives, held_after, point_of, begun_heap, is_of}
 use Rattle.lane_book.specs.Steps.{Asks, AreWithin, IsReady, AsksFor, IsPlain}
 use Rattle.lane_book.proofs.Faces.{lane_at-same, lane_at-other, take_before}
@@ -91,8 +92,8 @@ points_stay set begun writes more gives given (p ∷ points) within =
     let g = take_before p.gives gives given within.1 in
     λ i. held_after set begun (w i) (g i) (w i) ∷ points_stay set begun writes more gives given points within.2 i
 
-module _ {E : Type 0} (base : Base) (history : List (Entry E)) (l : ℕ) (lane later : Lane E) (call : Call E) (writes : List WordWrite) (gives : List ℕ)
-    (ready : IsReady lane) (asks : AsksFor lane call writes gives later) where
+module _ {E : Type 0} (base : Base) (history : List (Entry E)) (l : ℕ) (lane later : Lane E) (call : Call E) (writes : List WordWrite) (gives : List ℕ) (promised : ℕ)
+    (ready : IsReady lane) (asks : AsksFor lane call writes gives promised later) where
   abbrev begun : Heap
   begun = begun_heap base history lane
 
@@ -123,18 +124,18 @@ module _ {E : Type 0} (base : Base) (history : List (Entry E)) (l : ℕ) (lane l
     call = asks.told (filter (is_of l) history) i;
   })
 
-pub ask_row : {E : Type 0} (book : Book E) (l : ℕ) (later : Lane E) (touched : Option ℕ) (call : Call E) (writes : List WordWrite) (gives : List ℕ) →
-    l < length book.lanes.items → IsReady (lane_at book l) → AsksFor (lane_at book l) call writes gives later →
+pub ask_row : {E : Type 0} (book : Book E) (l : ℕ) (later : Lane E) (touched : Option ℕ) (call : Call E) (writes : List WordWrite) (gives : List ℕ) (promised : ℕ) →
+    l < length book.lanes.items → IsReady (lane_at book l) → AsksFor (lane_at book l) call writes gives promised later →
     Asks (asked call) book (with_lane book l later touched) l
-ask_row book l later touched call writes gives lt ready asks = ask_of_lane (asked call) book l later touched lt
-    (λ base. asked_face base book.history.items l (lane_at book l) later call writes gives ready asks)
+ask_row book l later touched call writes gives promised lt ready asks = ask_of_lane (asked call) book l later touched lt
+    (λ base. asked_face base book.history.items l (lane_at book l) later call writes gives promised ready asks)
 
 -- what the lane's own call promises, of the lane as it was read
-pub asked_book : {E : Type 0} (book : Book E) (l : ℕ) (read later : Lane E) (touched : Option ℕ) (call : Call E) (writes : List WordWrite) (gives : List ℕ) →
-    l < length book.lanes.items → read ≡ lane_at book l → IsReady (lane_at book l) → AsksFor read call writes gives later →
+pub asked_book : {E : Type 0} (book : Book E) (l : ℕ) (read later : Lane E) (touched : Option ℕ) (call : Call E) (writes : List WordWrite) (gives : List ℕ) (promised : ℕ) →
+    l < length book.lanes.items → read ≡ lane_at book l → IsReady (lane_at book l) → AsksFor read call writes gives promised later →
     Asks (asked call) book (with_lane book l later touched) l
-asked_book book l read later touched call writes gives lt is ready asks =
-    ask_row book l later touched call writes gives lt ready (subst (λ (x : Lane _). AsksFor x call writes gives later) is asks)
+asked_book book l read later touched call writes gives promised lt is ready asks =
+    ask_row book l later touched call writes gives promised lt ready (subst (λ (x : Lane _). AsksFor x call writes gives promised later) is asks)
 
 pub roomier_book : {E : Type 0} (book : Book E) (l : ℕ) (read later : Lane E) (touched : Option ℕ) → l < length book.lanes.items → read ≡ lane_at book l →
     IsRoomier read later → Asks (λ face. face) book (with_lane book l later touched) l
@@ -173,10 +174,10 @@ plain_told mine entry writes _ _ IsPlain.savepoint = refl
 plain_told mine entry writes _ _ IsPlain.rollback = refl
 
 pub plain_asks : {E : Type 0} (lane mid later : Lane E) (call : Call E) (doing : Doing) → IsPlain call doing → IsRoomier lane mid →
-    later ≡ asked_lane call doing mid → AsksFor lane call [] [] later
+    later ≡ asked_lane call doing 0 mid → AsksFor lane call [] [] 0 later
 plain_asks lane mid later call doing plain roomier is =
-    subst (λ (x : Lane _). AsksFor lane call [] [] x) (sym is)
-    (subst (λ (x : Lane _). AsksFor lane call [] [] (asked_lane call doing x)) (sym roomier.is) record {
+    subst (λ (x : Lane _). AsksFor lane call [] [] 0 x) (sym is)
+    (subst (λ (x : Lane _). AsksFor lane call [] [] 0 (asked_lane call doing 0 x)) (sym roomier.is) record {
       is = refl;
       writes_more = roomier.writes ∙ append_nil lane.writes.items;
       gives_more = roomier.gives ∙ append_nil lane.gives.items;
@@ -185,3 +186,56 @@ plain_asks lane mid later call doing plain roomier is =
       waiting_given = no_gives call doing plain;
       told = λ mine. plain_told mine lane.entry mid.writes.items call doing plain;
     })
+
+-- ---- a take, a batch and a commit
+
+-- the block that a take picks is set, which no face sees
+pub asks_beside : {E : Type 0} (change : WholeFace E → WholeFace E) (book later : Book E) (l : ℕ) (blocks : List Standing) → Asks change book later l →
+    Asks change book (record later { blocks = blocks }) l
+asks_beside change book later l blocks asks = asks
+
+drop_before : {X : Type 0} (n : ℕ) (xs ys : List X) → n ≡ length xs → drop n (xs ++ ys) ≡ ys
+drop_before zero [] ys is = refl
+drop_before zero (x ∷ xs) ys is = absurd (omega (arith, is))
+drop_before (suc n) [] ys is = absurd (omega (arith, is))
+drop_before (suc n) (x ∷ xs) ys is = drop_before n xs ys (omega (arith, is))
+
+-- the last writes are those of the batch
+last_of : (xs ys all : List WordWrite) → all ≡ xs ++ ys → drop (length all - length ys) all ≡ ys
+last_of xs ys all is =
+    ap (λ (zs : List WordWrite). drop (length zs - length ys) zs) is ∙
+    drop_before (length (xs ++ ys) - length ys) xs ys (let l = length-append xs ys in omega (arith, l))
+
+pub batch_told : {E : Type 0} (mine : List (Entry E)) (entry : Option (Entry E)) (xs ys all : List WordWrite) → all ≡ xs ++ ys →
+    call_of mine entry all (Doing.Batch (length ys)) ≡ Some (Call.Batch ys)
+batch_told mine entry xs ys all is = ap (λ (zs : List WordWrite). Some (Call.Batch zs)) (last_of xs ys all is)
+
+-- a commit makes no room and adds nothing to the lists but its entry
+pub commit_asks : {E : Type 0} (lane : Lane E) (e : Entry E) →
+    AsksFor lane (Call.Commit e.deed) [] [] 0 (record (asked_lane (Call.Commit e.deed) Doing.Commit 0 lane) { entry = Some e })
+commit_asks lane e = record {
+  is = refl;
+  writes_more = append_nil lane.writes.items;
+  gives_more = append_nil lane.gives.items;
+  points_stay = refl;
+  waiting = refl;
+  waiting_given = refl;
+  told = λ mine. refl;
+}
+
+pub batch_asks : {E : Type 0} (lane mid later : Lane E) (call : Call E) (writes : List WordWrite) (promised : ℕ) → call ≡ Call.Batch writes → IsRoomier lane mid →
+    later ≡ asked_lane call (Doing.Batch (length writes)) promised (with_more writes mid) → AsksFor lane call writes [] promised later
+batch_asks lane mid later call writes promised batch roomier is =
+    subst (λ (x : Lane _). AsksFor lane call writes [] promised x) (sym is)
+    (subst (λ (x : Lane _). AsksFor lane call writes [] promised (asked_lane call (Doing.Batch (length writes)) promised (with_more writes x))) (sym roomier.is) record {
+      is = refl;
+      writes_more = more;
+      gives_more = roomier.gives ∙ append_nil lane.gives.items;
+      points_stay = roomier.points;
+      waiting = refl;
+      waiting_given = refl;
+      told = λ mine. batch_told mine lane.entry lane.writes.items writes (mid.writes.items ++ writes) more ∙ ap (λ (x : Call _). Some x) (sym batch);
+    })
+  where
+    more : mid.writes.items ++ writes ≡ lane.writes.items ++ writes
+    more = ap (λ (ws : List WordWrite). ws ++ writes) roomier.writes

@@ -7,3 +7,4 @@ pub mod AskRows
 pub mod Asking
 pub mod Strange
 pub mod Reserving
+pub mod Pushing

@@ -53,7 +53,7 @@ left_found layout blocks lane writes i block told d left lt is off = (
     here : is_mine blocks lane (block_in layout (get_or writes i d).address) ≡ false
     here = ap (is_mine blocks lane) (sym is) ∙ off.0
 
-drop_past : {X : Type 0} (i : ℕ) (xs : List X) → length xs ≤ i → drop i xs ≡ []
+pub drop_past : {X : Type 0} (i : ℕ) (xs : List X) → length xs ≤ i → drop i xs ≡ []
 drop_past zero [] le = refl
 drop_past zero (x ∷ xs) le = absurd (omega arith)
 drop_past (suc i) [] le = refl

@@ -1,6 +1,7 @@
 -- What becomes of a lane, and of the book with it.
 use Rattle.std.specs.Prelude.{◌≡◌, ℕ, ◌+◌, ◌≤◌, true, false, Option, Some, None, List, [], ◌∷◌, ◌++◌, length}
 use Rattle.std.specs.Vec.{with_item}
+use Rattle.lane_traits.specs.declared.draft.WordWrite.{WordWrite}
 use Rattle.lane_types.specs.declared.face.Entry.{Entry}
 use Rattle.lane_types.specs.declared.call.Phase.TheVariants.{Calling}
 use Rattle.lane_types.specs.declared.call.Reply.{Reply}
@@ -86,9 +87,9 @@ saved lane = record (closed (Saved (length lane.points.items)) lane) {
   points = with_items (lane.points.items ++ record { writes = length lane.writes.items; gives = length lane.gives.items } ∷ []) lane.points;
 }
 
--- the call is in progress
-abbrev pub asked_lane : {E : Type 0} → Call E → Doing → Lane E → Lane E
-asked_lane call doing lane = record lane { phase = Calling; doing = doing; part = 0; tally = accepted_tally call lane.tally }
+-- the call is in progress, and so many cells of the log are promised to it
+abbrev pub asked_lane : {E : Type 0} → Call E → Doing → ℕ → Lane E → Lane E
+asked_lane call doing promised lane = record lane { phase = Calling; doing = doing; part = 0; promised = promised; tally = accepted_tally call lane.tally }
 
 abbrev pub refused_lane : {E : Type 0} → Call E → Refusal → Lane E → Lane E
 refused_lane call refusal lane = record lane { tally = refused_tally call refusal lane.tally }
@@ -114,6 +115,10 @@ pub record IsRoomier {E : Type 0} (lane later : Lane E) : Type 0 where
 
 abbrev pub has_room : {T : Type 0} → ℕ → Stocked T → Type 0
 has_room n stock = length stock.items + n ≤ stock.capacity
+
+-- these writes more are the lane's
+abbrev pub with_more : {E : Type 0} → List WordWrite → Lane E → Lane E
+with_more writes lane = record lane { writes = with_items (lane.writes.items ++ writes) lane.writes }
 
 -- there is room for so many writes, gives, takes and savepoints
 pub record HasRoom {E : Type 0} (writes gives takes points : ℕ) (lane : Lane E) : Type 0 where

@@ -104,9 +104,10 @@ pub record IsReady {E : Type 0} (lane : Lane E) : Type 0 where
   pub stored : AreStored lane
   pub points : AreWithin (length lane.writes.items) (length lane.gives.items) lane.points.items
 
--- The call is the lane's: so many writes and gives more are of it, and what the lists have room for may be more.
-pub record AsksFor {E : Type 0} (lane : Lane E) (call : Call E) (writes : List WordWrite) (gives : List ℕ) (later : Lane E) : Type 0 where
-  pub is : later ≡ record (asked_lane call later.doing lane) {
+-- The call is the lane's: so many writes and gives more are of it, so many cells are promised to it, and what the lists have
+-- room for may be more.
+pub record AsksFor {E : Type 0} (lane : Lane E) (call : Call E) (writes : List WordWrite) (gives : List ℕ) (promised : ℕ) (later : Lane E) : Type 0 where
+  pub is : later ≡ record (asked_lane call later.doing promised lane) {
     writes = later.writes;
     updates = later.updates;
     gives = later.gives;

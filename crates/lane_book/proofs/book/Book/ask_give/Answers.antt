@@ -7,7 +7,7 @@ use Rattle.lane_book.proofs.book.Book.ask_give.Goals as goal
 pub returns-clause-ok : goal.returns-clause-ok
 returns-clause-ok g c =
     let book = c.args.self.now in
-    on_ok c.ask_give.result (λ asks. asked_book book c.args.lane c.index_mut.result.now _ book.touched (Call.Give c.args.block) [] _ c.requires.lane
+    on_ok c.ask_give.result (λ asks. asked_book book c.args.lane c.index_mut.result.now _ book.touched (Call.Give c.args.block) [] _ 1 c.requires.lane
     (lane_read book c.args.lane c.index_mut.result.now c.requires.lane c.index_mut.ensures.value) c.requires.ready asks) c.ask_give.ensures.ok
 
 pub returns-clause-err : goal.returns-clause-err

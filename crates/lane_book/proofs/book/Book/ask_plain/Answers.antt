@@ -6,7 +6,7 @@ use Rattle.lane_book.proofs.book.Book.ask_plain.Goals as goal
 pub returns-clause-ok : goal.returns-clause-ok
 returns-clause-ok g c =
     let book = c.args.self.now in
-    on_ok c.ask_plain.result (λ asks. asked_book book c.args.lane c.index_mut.result.now _ book.touched c.args.call.now [] [] c.requires.lane
+    on_ok c.ask_plain.result (λ asks. asked_book book c.args.lane c.index_mut.result.now _ book.touched c.args.call.now [] [] 0 c.requires.lane
     (lane_read book c.args.lane c.index_mut.result.now c.requires.lane c.index_mut.ensures.value) c.requires.ready asks) c.ask_plain.ensures.ok
 
 pub returns-clause-err : goal.returns-clause-err

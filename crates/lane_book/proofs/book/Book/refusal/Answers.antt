@@ -9,5 +9,5 @@ pub returns-clause-told : goal.returns-clause-told
 returns-clause-told g c = λ base shows inside.
     let book = c.args.self.now in
     told_of c.args.layout book c.args.lane base shows c.args.room c.args.need c.args.call.now c.refusal_of.result inside
-        (subst (λ (x : Lane _). Decides c.args.layout c.args.room c.args.need book.blocks x c.args.call.now c.refusal_of.result)
-            (lane_read book c.args.lane c.index.result.now c.requires.lane c.index.ensures) c.refusal_of.ensures)
+    (subst (λ (x : Lane _). Decides c.args.layout c.args.room c.args.need book.blocks x c.args.call.now c.refusal_of.result)
+    (lane_read book c.args.lane c.index.result.now c.requires.lane c.index.ensures) c.refusal_of.ensures)
