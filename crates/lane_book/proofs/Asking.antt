@@ -75,7 +75,7 @@ roomier_row book l lane touched lt roomier = ask_of_lane (λ face. face) book l 
 
 -- ---- a call in progress
 
-front_append : {X : Type 0} (n : ℕ) (xs ys : List X) → n ≡ length ys → front n (xs ++ ys) ≡ xs
+pub front_append : {X : Type 0} (n : ℕ) (xs ys : List X) → n ≡ length ys → front n (xs ++ ys) ≡ xs
 front_append n xs ys is =
     ap (λ (m : ℕ). take m (xs ++ ys)) (let l = length-append xs ys in omega (arith, l, is)) ∙
     take_before (length xs) xs ys (omega arith) ∙ take_whole (length xs) xs (omega arith)
@@ -92,19 +92,19 @@ points_stay set begun writes more gives given (p ∷ points) within =
     let g = take_before p.gives gives given within.1 in
     λ i. held_after set begun (w i) (g i) (w i) ∷ points_stay set begun writes more gives given points within.2 i
 
-module _ {E : Type 0} (base : Base) (history : List (Entry E)) (l : ℕ) (lane later : Lane E) (call : Call E) (writes : List WordWrite) (gives : List ℕ) (promised : ℕ)
-    (ready : IsReady lane) (asks : AsksFor lane call writes gives promised later) where
+module _ {E : Type 0} (base : Base) (history : List (Entry E)) (l : ℕ) (lane later : Lane E) (call : Call E) (doing : Doing) (writes : List WordWrite) (gives : List ℕ) (promised : ℕ)
+    (ready : IsReady lane) (asks : AsksFor lane call doing writes gives promised later) where
   abbrev begun : Heap
   begun = begun_heap base history lane
 
-  standing : front (waiting_writes later.doing) later.writes.items ≡ front (waiting_writes lane.doing) lane.writes.items
+  standing : front (waiting_writes doing) later.writes.items ≡ front (waiting_writes lane.doing) lane.writes.items
   standing =
-      ap (front (waiting_writes later.doing)) asks.writes_more ∙ front_append (waiting_writes later.doing) lane.writes.items writes asks.waiting ∙
+      ap (front (waiting_writes doing)) asks.writes_more ∙ front_append (waiting_writes doing) lane.writes.items writes asks.waiting ∙
       sym (ap (λ (d : Doing). front (waiting_writes d) lane.writes.items) ready.nothing ∙ front_none lane.writes.items)
 
-  given : front (waiting_gives later.doing) later.gives.items ≡ front (waiting_gives lane.doing) lane.gives.items
+  given : front (waiting_gives doing) later.gives.items ≡ front (waiting_gives lane.doing) lane.gives.items
   given =
-      ap (front (waiting_gives later.doing)) asks.gives_more ∙ front_append (waiting_gives later.doing) lane.gives.items gives asks.waiting_given ∙
+      ap (front (waiting_gives doing)) asks.gives_more ∙ front_append (waiting_gives doing) lane.gives.items gives asks.waiting_given ∙
       sym (ap (λ (d : Doing). front (waiting_gives d) lane.gives.items) ready.nothing ∙ front_none lane.gives.items)
 
   stored : take lane.stored later.writes.items ≡ take lane.stored lane.writes.items
@@ -124,18 +124,18 @@ module _ {E : Type 0} (base : Base) (history : List (Entry E)) (l : ℕ) (lane l
     call = asks.told (filter (is_of l) history) i;
   })
 
-pub ask_row : {E : Type 0} (book : Book E) (l : ℕ) (later : Lane E) (touched : Option ℕ) (call : Call E) (writes : List WordWrite) (gives : List ℕ) (promised : ℕ) →
-    l < length book.lanes.items → IsReady (lane_at book l) → AsksFor (lane_at book l) call writes gives promised later →
+pub ask_row : {E : Type 0} (book : Book E) (l : ℕ) (later : Lane E) (touched : Option ℕ) (call : Call E) (doing : Doing) (writes : List WordWrite) (gives : List ℕ) (promised : ℕ) →
+    l < length book.lanes.items → IsReady (lane_at book l) → AsksFor (lane_at book l) call doing writes gives promised later →
     Asks (asked call) book (with_lane book l later touched) l
-ask_row book l later touched call writes gives promised lt ready asks = ask_of_lane (asked call) book l later touched lt
-    (λ base. asked_face base book.history.items l (lane_at book l) later call writes gives promised ready asks)
+ask_row book l later touched call doing writes gives promised lt ready asks = ask_of_lane (asked call) book l later touched lt
+    (λ base. asked_face base book.history.items l (lane_at book l) later call doing writes gives promised ready asks)
 
 -- what the lane's own call promises, of the lane as it was read
-pub asked_book : {E : Type 0} (book : Book E) (l : ℕ) (read later : Lane E) (touched : Option ℕ) (call : Call E) (writes : List WordWrite) (gives : List ℕ) (promised : ℕ) →
-    l < length book.lanes.items → read ≡ lane_at book l → IsReady (lane_at book l) → AsksFor read call writes gives promised later →
+pub asked_book : {E : Type 0} (book : Book E) (l : ℕ) (read later : Lane E) (touched : Option ℕ) (call : Call E) (doing : Doing) (writes : List WordWrite) (gives : List ℕ) (promised : ℕ) →
+    l < length book.lanes.items → read ≡ lane_at book l → IsReady (lane_at book l) → AsksFor read call doing writes gives promised later →
     Asks (asked call) book (with_lane book l later touched) l
-asked_book book l read later touched call writes gives promised lt is ready asks =
-    ask_row book l later touched call writes gives promised lt ready (subst (λ (x : Lane _). AsksFor x call writes gives promised later) is asks)
+asked_book book l read later touched call doing writes gives promised lt is ready asks =
+    ask_row book l later touched call doing writes gives promised lt ready (subst (λ (x : Lane _). AsksFor x call doing writes gives promised later) is asks)
 
 pub roomier_book : {E : Type 0} (book : Book E) (l : ℕ) (read later : Lane E) (touched : Option ℕ) → l < length book.lanes.items → read ≡ lane_at book l →
     IsRoomier read later → Asks (λ face. face) book (with_lane book l later touched) l
@@ -174,10 +174,10 @@ plain_told mine entry writes _ _ IsPlain.savepoint = refl
 plain_told mine entry writes _ _ IsPlain.rollback = refl
 
 pub plain_asks : {E : Type 0} (lane mid later : Lane E) (call : Call E) (doing : Doing) → IsPlain call doing → IsRoomier lane mid →
-    later ≡ asked_lane call doing 0 mid → AsksFor lane call [] [] 0 later
+    later ≡ asked_lane call doing 0 mid → AsksFor lane call doing [] [] 0 later
 plain_asks lane mid later call doing plain roomier is =
-    subst (λ (x : Lane _). AsksFor lane call [] [] 0 x) (sym is)
-    (subst (λ (x : Lane _). AsksFor lane call [] [] 0 (asked_lane call doing 0 x)) (sym roomier.is) record {
+    subst (λ (x : Lane _). AsksFor lane call doing [] [] 0 x) (sym is)
+    (subst (λ (x : Lane _). AsksFor lane call doing [] [] 0 (asked_lane call doing 0 x)) (sym roomier.is) record {
       is = refl;
       writes_more = roomier.writes ∙ append_nil lane.writes.items;
       gives_more = roomier.gives ∙ append_nil lane.gives.items;
@@ -212,7 +212,7 @@ batch_told mine entry xs ys all is = ap (λ (zs : List WordWrite). Some (Call.Ba
 
 -- a commit makes no room and adds nothing to the lists but its entry
 pub commit_asks : {E : Type 0} (lane : Lane E) (e : Entry E) →
-    AsksFor lane (Call.Commit e.deed) [] [] 0 (record (asked_lane (Call.Commit e.deed) Doing.Commit 0 lane) { entry = Some e })
+    AsksFor lane (Call.Commit e.deed) Doing.Commit [] [] 0 (record (asked_lane (Call.Commit e.deed) Doing.Commit 0 lane) { entry = Some e })
 commit_asks lane e = record {
   is = refl;
   writes_more = append_nil lane.writes.items;
@@ -224,10 +224,10 @@ commit_asks lane e = record {
 }
 
 pub batch_asks : {E : Type 0} (lane mid later : Lane E) (call : Call E) (writes : List WordWrite) (promised : ℕ) → call ≡ Call.Batch writes → IsRoomier lane mid →
-    later ≡ asked_lane call (Doing.Batch (length writes)) promised (with_more writes mid) → AsksFor lane call writes [] promised later
+    later ≡ asked_lane call (Doing.Batch (length writes)) promised (with_more writes mid) → AsksFor lane call (Doing.Batch (length writes)) writes [] promised later
 batch_asks lane mid later call writes promised batch roomier is =
-    subst (λ (x : Lane _). AsksFor lane call writes [] promised x) (sym is)
-    (subst (λ (x : Lane _). AsksFor lane call writes [] promised (asked_lane call (Doing.Batch (length writes)) promised (with_more writes x))) (sym roomier.is) record {
+    subst (λ (x : Lane _). AsksFor lane call (Doing.Batch (length writes)) writes [] promised x) (sym is)
+    (subst (λ (x : Lane _). AsksFor lane call (Doing.Batch (length writes)) writes [] promised (asked_lane call (Doing.Batch (length writes)) promised (with_more writes x))) (sym roomier.is) record {
       is = refl;
       writes_more = more;
       gives_more = roomier.gives ∙ append_nil lane.gives.items;

@@ -8,3 +8,4 @@ pub mod Asking
 pub mod Strange
 pub mod Reserving
 pub mod Pushing
+pub mod Keeps

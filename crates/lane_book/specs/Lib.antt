@@ -3,6 +3,7 @@ pub mod Lanes
 pub mod FacesOf
 pub mod Entries
 pub mod Steps
+pub mod Books
 pub mod Locks
 pub mod Refusals
 pub mod Reserved

@@ -106,8 +106,8 @@ pub record IsReady {E : Type 0} (lane : Lane E) : Type 0 where
 
 -- The call is the lane's: so many writes and gives more are of it, so many cells are promised to it, and what the lists have
 -- room for may be more.
-pub record AsksFor {E : Type 0} (lane : Lane E) (call : Call E) (writes : List WordWrite) (gives : List ℕ) (promised : ℕ) (later : Lane E) : Type 0 where
-  pub is : later ≡ record (asked_lane call later.doing promised lane) {
+pub record AsksFor {E : Type 0} (lane : Lane E) (call : Call E) (doing : Doing) (writes : List WordWrite) (gives : List ℕ) (promised : ℕ) (later : Lane E) : Type 0 where
+  pub is : later ≡ record (asked_lane call doing promised lane) {
     writes = later.writes;
     updates = later.updates;
     gives = later.gives;
@@ -120,9 +120,9 @@ pub record AsksFor {E : Type 0} (lane : Lane E) (call : Call E) (writes : List W
   pub writes_more : later.writes.items ≡ lane.writes.items ++ writes
   pub gives_more : later.gives.items ≡ lane.gives.items ++ gives
   pub points_stay : later.points.items ≡ lane.points.items
-  pub waiting : waiting_writes later.doing ≡ length writes
-  pub waiting_given : waiting_gives later.doing ≡ length gives
-  pub told : (mine : List (Entry E)) → call_of mine later.entry later.writes.items later.doing ≡ Some call
+  pub waiting : waiting_writes doing ≡ length writes
+  pub waiting_given : waiting_gives doing ≡ length gives
+  pub told : (mine : List (Entry E)) → call_of mine later.entry later.writes.items doing ≡ Some call
 
 -- the call, and what the lane is about in it, where it adds no write and no give
 pub data IsPlain {E : Type 0} : Call E → Doing → Type 0 where

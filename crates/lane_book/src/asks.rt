@@ -4,7 +4,8 @@ ghost use Rattle.lane_types.specs.Asks as Asks;
 ghost use Rattle.lane_book.specs.Lanes.{asked_lane, refused_lane, IsRoomier, HasRoom, has_room, with_more, with_lane};
 ghost use Rattle.lane_book.specs.Entries.{entry_of, committing, disowned, writes_of_entry, AreBlocks};
 ghost use Rattle.lane_book.specs.FacesOf.{lane_at};
-ghost use Rattle.lane_book.specs.Steps.{Asks, AsksFor, IsReady, IsPlain};
+ghost use Rattle.lane_book.specs.Steps.{Asks, AsksFor, IsPlain};
+ghost use Rattle.lane_book.specs.Books.{IsBook};
 ghost use Rattle.lane_book.specs.declared.lane.Doing.TheVariants as Doing;
 ghost use Rattle.lane_types.specs.declared.call.Call.TheVariants as Call;
 
@@ -164,7 +165,7 @@ impl<E: Deed> Lane<E> {
     /// A call that adds no write and no give.
     fn ask_plain(&mut self, call: &Call<E>, doing: Doing) -> Result<(), NoMemory>
         requires { IsPlain call.now doing }
-        ensures ok { OnOk result (AsksFor self.old call.now [] [] 0 self.new) }
+        ensures ok { OnOk result (AsksFor self.old call.now doing [] [] 0 self.new) }
         ensures err { OnErr result (IsRoomier self.old self.new) }
     {
         self.reserve(0, 0, 0, 1)?;
@@ -173,7 +174,7 @@ impl<E: Deed> Lane<E> {
     }
 
     fn ask_write(&mut self, a: u32, v: u64) -> Result<(), NoMemory>
-        ensures ok { OnOk result (AsksFor self.old (Call.Write a v) (record { address = a; value = v } ∷ []) [] 2 self.new) }
+        ensures ok { OnOk result (AsksFor self.old (Call.Write a v) (Doing.Write a v) (record { address = a; value = v } ∷ []) [] 2 self.new) }
         ensures err { OnErr result (IsRoomier self.old self.new) }
     {
         self.reserve(1, 0, 0, 0)?;
@@ -188,7 +189,7 @@ impl<E: Deed> Lane<E> {
     /// The block that was picked, whose owner word stands at this address.
     fn ask_take(&mut self, structure: u32, block: u32, a: u32) -> Result<(), NoMemory>
         requires { structure < 8 }
-        ensures ok { OnOk result (AsksFor self.old (Call.Take structure) (record { address = a; value = structure + 1 } ∷ []) [] 2 self.new) }
+        ensures ok { OnOk result (AsksFor self.old (Call.Take structure) (Doing.Take structure block) (record { address = a; value = structure + 1 } ∷ []) [] 2 self.new) }
         ensures err { OnErr result (IsRoomier self.old self.new) }
     {
         self.reserve(1, 0, 1, 0)?;
@@ -202,7 +203,7 @@ impl<E: Deed> Lane<E> {
     }
 
     fn ask_give(&mut self, block: u32) -> Result<(), NoMemory>
-        ensures ok { OnOk result (AsksFor self.old (Call.Give block) [] (block ∷ []) 1 self.new) }
+        ensures ok { OnOk result (AsksFor self.old (Call.Give block) (Doing.Give block) [] (block ∷ []) 1 self.new) }
         ensures err { OnErr result (IsRoomier self.old self.new) }
     {
         self.reserve(0, 1, 0, 0)?;
@@ -226,7 +227,7 @@ impl<E: Deed> Lane<E> {
         requires call { call.now ≡ Call.Batch writes.now }
         requires few { k ≤ 16 }
         requires short { length writes.now < 2 ^ 32 }
-        ensures ok { OnOk result (AsksFor self.old call.now writes.now [] (2 * length writes.now + k) self.new) }
+        ensures ok { OnOk result (AsksFor self.old call.now (Doing.Batch (length writes.now)) writes.now [] (2 * length writes.now + k) self.new) }
         ensures err { OnErr result (IsRoomier self.old self.new) }
     {
         let count = writes.len();
@@ -255,9 +256,11 @@ impl<E: Deed> Lane<E> {
 impl<E: Deed> Book<E> {
     /// The lane's call is refused: only its tally changes.
     pub fn refuse(&mut self, lane: u32, call: &Call<E>, refusal: Refusal)
-        requires { lane < length self.old.lanes.items }
+        requires lane { lane < length self.old.lanes.items }
+        requires book { IsBook self.old }
         ensures is { self.new ≡ with_lane self.old lane (refused_lane call.now refusal (lane_at self.old lane)) self.old.touched }
         ensures ask { Asks (Asks.refused call.now refusal) self.old self.new lane }
+        ensures book { IsBook self.new }
     {
         self.lanes[lane as usize].refuse(call, refusal);
     }
@@ -265,10 +268,13 @@ impl<E: Deed> Book<E> {
     /// A call that adds no write and no give is the lane's. A savepoint has room made for it.
     pub fn ask_plain(&mut self, lane: u32, call: &Call<E>, doing: Doing) -> Result<(), NoMemory>
         requires lane { lane < length self.old.lanes.items }
-        requires ready { IsReady (lane_at self.old lane) }
+        requires nothing { (lane_at self.old lane).doing ≡ Doing.Nothing }
+        requires book { IsBook self.old }
         requires plain { IsPlain call.now doing }
+        requires phase { (lane_at self.old lane).phase ≡ Asks.wanted call.now }
         ensures ok { OnOk result (Asks (Asks.asked call.now) self.old self.new lane) }
         ensures err { OnErr result (Asks (λ face. face) self.old self.new lane) }
+        ensures book { IsBook self.new }
     {
         self.lanes[lane as usize].ask_plain(call, doing)
     }
@@ -276,9 +282,11 @@ impl<E: Deed> Book<E> {
     /// A write is the lane's call.
     pub fn ask_write(&mut self, lane: u32, a: u32, v: u64) -> Result<(), NoMemory>
         requires lane { lane < length self.old.lanes.items }
-        requires ready { IsReady (lane_at self.old lane) }
+        requires nothing { (lane_at self.old lane).doing ≡ Doing.Nothing }
+        requires book { IsBook self.old }
         ensures ok { OnOk result (Asks (Asks.asked (Call.Write a v)) self.old self.new lane) }
         ensures err { OnErr result (Asks (λ face. face) self.old self.new lane) }
+        ensures book { IsBook self.new }
     {
         self.lanes[lane as usize].ask_write(a, v)
     }
@@ -286,9 +294,11 @@ impl<E: Deed> Book<E> {
     /// A give is the lane's call.
     pub fn ask_give(&mut self, lane: u32, block: u32) -> Result<(), NoMemory>
         requires lane { lane < length self.old.lanes.items }
-        requires ready { IsReady (lane_at self.old lane) }
+        requires nothing { (lane_at self.old lane).doing ≡ Doing.Nothing }
+        requires book { IsBook self.old }
         ensures ok { OnOk result (Asks (Asks.asked (Call.Give block)) self.old self.new lane) }
         ensures err { OnErr result (Asks (λ face. face) self.old self.new lane) }
+        ensures book { IsBook self.new }
     {
         self.lanes[lane as usize].ask_give(block)
     }
@@ -302,13 +312,15 @@ impl<E: Deed> Book<E> {
         a: u32,
     ) -> Result<(), NoMemory>
         requires lane { lane < length self.old.lanes.items }
-        requires ready { IsReady (lane_at self.old lane) }
+        requires nothing { (lane_at self.old lane).doing ≡ Doing.Nothing }
+        requires book { IsBook self.old }
         requires structure { structure < 8 }
         requires block { block < length self.old.blocks }
         ensures ok { OnOk result (Asks (Asks.asked (Call.Take structure)) self.old self.new lane) }
         ensures err { OnErr result (Asks (λ face. face) self.old self.new lane) }
         ensures blocks { OnOk result (self.new.blocks ≡ slice_set self.old.blocks block (Standing.Owned structure)) }
         ensures stay { OnErr result (self.new.blocks ≡ self.old.blocks) }
+        ensures book { IsBook self.new }
     {
         match self.lanes[lane as usize].ask_take(structure, block, a) {
             Ok(()) => {
@@ -328,12 +340,14 @@ impl<E: Deed> Book<E> {
         k: u64,
     ) -> Result<(), NoMemory>
         requires lane { lane < length self.old.lanes.items }
-        requires ready { IsReady (lane_at self.old lane) }
+        requires nothing { (lane_at self.old lane).doing ≡ Doing.Nothing }
+        requires book { IsBook self.old }
         requires call { call.now ≡ Call.Batch writes.now }
         requires few { k ≤ 16 }
         requires short { length writes.now < 2 ^ 32 }
         ensures ok { OnOk result (Asks (Asks.asked call.now) self.old self.new lane) }
         ensures err { OnErr result (Asks (λ face. face) self.old self.new lane) }
+        ensures book { IsBook self.new }
     {
         self.lanes[lane as usize].ask_batch(call, writes, k)
     }
@@ -358,10 +372,12 @@ impl<E: Deed> Book<E> {
     /// A commit is the lane's call. Its entry has these writes.
     pub fn ask_commit(&mut self, lane: u32, deed: E, writes: List<WordWrite>)
         requires lane { lane < length self.old.lanes.items }
-        requires ready { IsReady (lane_at self.old lane) }
+        requires nothing { (lane_at self.old lane).doing ≡ Doing.Nothing }
+        requires book { IsBook self.old }
         requires begun { 1 ≤ (lane_at self.old lane).begun }
         ensures is { self.new ≡ with_lane self.old lane (committing lane deed writes (lane_at self.old lane)) self.old.touched }
         ensures ask { Asks (Asks.asked (Call.Commit deed)) self.old self.new lane }
+        ensures book { IsBook self.new }
     {
         self.lanes[lane as usize].ask_commit(lane, deed, writes);
     }

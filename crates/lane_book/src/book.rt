@@ -3,8 +3,9 @@ ghost use Rattle.std.specs.List.{range_with_len};
 ghost use Rattle.lane_types.specs.declared.face.Entry.{Entry};
 ghost use Rattle.lane_types.specs.Asks.{has_word};
 ghost use Rattle.lane_book.specs.Lanes.{noted, closed, moved, stored_one, left, saved, entered_lane, with_lane, with_history};
-ghost use Rattle.lane_book.specs.FacesOf.{lane_at, plain_face, front};
-ghost use Rattle.lane_book.specs.Steps.{Steps, StepsIf, AreBehindHistory, HasEntry, HasEntered, IsNextStored, AreStored, CanTake, held_by};
+ghost use Rattle.lane_book.specs.FacesOf.{lane_at, plain_face};
+ghost use Rattle.lane_book.specs.Steps.{Steps, StepsIf, HasEntry, HasEntered, IsNextStored, AreStored, CanTake, held_by};
+ghost use Rattle.lane_book.specs.Books.{IsBook};
 ghost use Rattle.lane_book.specs.declared.lane.Doing.TheVariants as Doing;
 
 use crate::lane::{Doing, Lane};
@@ -95,8 +96,10 @@ impl<E: Deed> Book<E> {
     pub fn idle(&mut self, lane: u32) -> Stepped
         requires lane { lane < length self.old.lanes.items }
         requires doing { (lane_at self.old lane).doing ≡ Doing.Nothing }
+        requires book { IsBook self.old }
         ensures is { self.new ≡ with_lane self.old lane (noted Stepped.Idle (lane_at self.old lane)) None }
         ensures step { Steps E.meaning self.old self.new lane result }
+        ensures book { IsBook self.new }
     {
         self.note(lane, Stepped::Idle);
         Stepped::Idle
@@ -104,9 +107,11 @@ impl<E: Deed> Book<E> {
 
     /// The device has stopped.
     pub fn stop(&mut self, lane: u32) -> Stepped
-        requires { lane < length self.old.lanes.items }
+        requires lane { lane < length self.old.lanes.items }
+        requires book { IsBook self.old }
         ensures is { self.new ≡ record (with_lane self.old lane (noted Stepped.Stopped (lane_at self.old lane)) None) { stopped = true } }
         ensures step { Steps E.meaning self.old self.new lane result }
+        ensures book { IsBook self.new }
     {
         self.note(lane, Stepped::Stopped);
         self.stopped = true;
@@ -117,9 +122,11 @@ impl<E: Deed> Book<E> {
     pub fn wait(&mut self, lane: u32, what: What, holder: u32) -> Stepped
         requires lane { lane < length self.old.lanes.items }
         requires calling { (lane_at self.old lane).phase ≡ Phase.Calling }
+        requires book { IsBook self.old }
         ensures is { self.new ≡ with_lane self.old lane (noted (Stepped.Waiting what holder) (lane_at self.old lane)) None }
         ensures result { result ≡ Stepped.Waiting what holder }
         ensures step { Steps E.meaning self.old self.new lane result }
+        ensures book { IsBook self.new }
     {
         let answer = Stepped::Waiting { what, holder };
         self.note(lane, answer);
@@ -130,8 +137,10 @@ impl<E: Deed> Book<E> {
     pub fn go_on(&mut self, lane: u32, part: u64) -> Stepped
         requires lane { lane < length self.old.lanes.items }
         requires calling { (lane_at self.old lane).phase ≡ Phase.Calling }
+        requires book { IsBook self.old }
         ensures is { self.new ≡ with_lane self.old lane (moved part (lane_at self.old lane)) None }
         ensures step { Steps E.meaning self.old self.new lane result }
+        ensures book { IsBook self.new }
     {
         self.lanes[lane as usize].go_on(part);
         self.touched = None;
@@ -143,9 +152,11 @@ impl<E: Deed> Book<E> {
         requires lane { lane < length self.old.lanes.items }
         requires calling { (lane_at self.old lane).phase ≡ Phase.Calling }
         requires doing { (lane_at self.old lane).doing ≡ Doing.Read a }
+        requires book { IsBook self.old }
         ensures is { self.new ≡ with_lane self.old lane (closed (Reply.Word value) (lane_at self.old lane)) None }
         ensures step { StepsIf (λ base. (held_by base self.old lane).word a ≡ Some value)
             E.meaning self.old self.new lane result }
+        ensures book { IsBook self.new }
     {
         let reply = Reply::Word(value);
         self.close(lane, reply);
@@ -167,10 +178,11 @@ impl<E: Deed> Book<E> {
         requires lane { lane < length self.old.lanes.items }
         requires calling { (lane_at self.old lane).phase ≡ Phase.Calling }
         requires doing { (lane_at self.old lane).doing ≡ Doing.Write a v }
-        requires next { IsNextStored (lane_at self.old lane) (record { address = a; value = v }) }
         requires few { (lane_at self.old lane).stored < 2 ^ 62 }
+        requires book { IsBook self.old }
         ensures is { self.new ≡ with_lane self.old lane (closed Reply.Written (stored_one (lane_at self.old lane))) touched }
         ensures step { StepsIf (λ base. has_word (held_by base self.old lane) a ≡ true) E.meaning self.old self.new lane result }
+        ensures book { IsBook self.new }
     {
         self.store(lane, Reply::Written, touched);
         Stepped::Answered(Reply::Written)
@@ -183,8 +195,10 @@ impl<E: Deed> Book<E> {
         requires doing { (lane_at self.old lane).doing ≡ Doing.Take structure block }
         requires next { IsNextStored (lane_at self.old lane) (record { address = a; value = structure + 1 }) }
         requires few { (lane_at self.old lane).stored < 2 ^ 62 }
+        requires book { IsBook self.old }
         ensures is { self.new ≡ with_lane self.old lane (closed (Reply.Block block) (stored_one (lane_at self.old lane))) None }
         ensures step { StepsIf (CanTake self.old lane structure block a) E.meaning self.old self.new lane result }
+        ensures book { IsBook self.new }
     {
         self.store(lane, Reply::Block(block), None);
         Stepped::Answered(Reply::Block(block))
@@ -195,9 +209,10 @@ impl<E: Deed> Book<E> {
         requires lane { lane < length self.old.lanes.items }
         requires calling { (lane_at self.old lane).phase ≡ Phase.Calling }
         requires doing { (lane_at self.old lane).doing ≡ Doing.Give block }
-        requires next { (lane_at self.old lane).gives.items ≡ front 1 (lane_at self.old lane).gives.items ++ block ∷ [] }
+        requires book { IsBook self.old }
         ensures is { self.new ≡ with_lane self.old lane (closed Reply.Given (lane_at self.old lane)) None }
         ensures step { Steps E.meaning self.old self.new lane result }
+        ensures book { IsBook self.new }
     {
         self.close(lane, Reply::Given);
         Stepped::Answered(Reply::Given)
@@ -210,8 +225,10 @@ impl<E: Deed> Book<E> {
         requires doing { (lane_at self.old lane).doing ≡ Doing.Savepoint }
         requires stored { AreStored (lane_at self.old lane) }
         requires room { length (lane_at self.old lane).points.items < (lane_at self.old lane).points.capacity }
+        requires book { IsBook self.old }
         ensures is { self.new ≡ with_lane self.old lane (saved (lane_at self.old lane)) None }
         ensures step { Steps E.meaning self.old self.new lane result }
+        ensures book { IsBook self.new }
     {
         let number = self.lanes[lane as usize].points.len() as u64;
         self.lanes[lane as usize].save();
@@ -224,8 +241,10 @@ impl<E: Deed> Book<E> {
         requires lane { lane < length self.old.lanes.items }
         requires calling { (lane_at self.old lane).phase ≡ Phase.Calling }
         requires doing { (lane_at self.old lane).doing ≡ Doing.Checkpoint }
+        requires book { IsBook self.old }
         ensures is { self.new ≡ with_lane self.old lane (closed Reply.Checkpointed (lane_at self.old lane)) None }
         ensures step { Steps E.meaning self.old self.new lane result }
+        ensures book { IsBook self.new }
     {
         self.close(lane, Reply::Checkpointed);
         Stepped::Answered(Reply::Checkpointed)
@@ -236,8 +255,10 @@ impl<E: Deed> Book<E> {
         requires lane { lane < length self.old.lanes.items }
         requires calling { (lane_at self.old lane).phase ≡ Phase.Calling }
         requires doing { (lane_at self.old lane).doing ≡ Doing.Abort }
+        requires book { IsBook self.old }
         ensures is { self.new ≡ with_lane self.old lane (left Reply.Aborted (lane_at self.old lane)) None }
         ensures step { Steps E.meaning self.old self.new lane result }
+        ensures book { IsBook self.new }
     {
         self.leave(lane, Reply::Aborted);
         Stepped::Answered(Reply::Aborted)
@@ -251,10 +272,11 @@ impl<E: Deed> Book<E> {
         requires entry { HasEntry lane (lane_at self.old lane) }
         requires few { (lane_at self.old lane).commits < 2 ^ 60 }
         requires room { length self.old.history.items < self.old.history.capacity }
-        requires behind { AreBehindHistory self.old }
+        requires book { IsBook self.old }
         ensures is { (e : Entry E) → (lane_at self.old lane).entry ≡ Some e
             → self.new ≡ with_history (self.old.history.items ++ e ∷ []) (with_lane self.old lane (moved part (entered_lane (lane_at self.old lane))) None) }
         ensures step { Steps E.meaning self.old self.new lane result }
+        ensures book { IsBook self.new }
     {
         self.touched = None;
         if let Some(entry) = self.lanes[lane as usize].join(part) {
@@ -269,8 +291,10 @@ impl<E: Deed> Book<E> {
         requires calling { (lane_at self.old lane).phase ≡ Phase.Calling }
         requires doing { (lane_at self.old lane).doing ≡ Doing.Commit }
         requires entered { HasEntered self.old lane }
+        requires book { IsBook self.old }
         ensures is { self.new ≡ with_lane self.old lane (left Reply.Committed (lane_at self.old lane)) None }
         ensures step { Steps E.meaning self.old self.new lane result }
+        ensures book { IsBook self.new }
     {
         self.leave(lane, Reply::Committed);
         Stepped::Answered(Reply::Committed)
@@ -284,10 +308,11 @@ impl<E: Deed> Book<E> {
         requires entry { HasEntry lane (lane_at self.old lane) }
         requires few { (lane_at self.old lane).commits < 2 ^ 60 }
         requires room { length self.old.history.items < self.old.history.capacity }
-        requires behind { AreBehindHistory self.old }
+        requires book { IsBook self.old }
         ensures is { (e : Entry E) → (lane_at self.old lane).entry ≡ Some e
             → self.new ≡ with_history (self.old.history.items ++ e ∷ []) (with_lane self.old lane (left Reply.Committed (entered_lane (lane_at self.old lane))) None) }
         ensures step { Steps E.meaning self.old self.new lane result }
+        ensures book { IsBook self.new }
     {
         self.touched = None;
         if let Some(entry) = self.lanes[lane as usize].commit() {

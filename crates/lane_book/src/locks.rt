@@ -2,7 +2,8 @@ ghost use Rattle.std.specs.Prelude.{◌≡◌, ◌+◌, ◌<◌, ◌≤◌, ◌^
 ghost use Rattle.lane_types.specs.Heaps.{has_bit};
 ghost use Rattle.lane_book.specs.FacesOf.{lane_at};
 ghost use Rattle.lane_book.specs.Lanes.{begun_lane, with_lane};
-ghost use Rattle.lane_book.specs.Steps.{StepsIf, IsCleared, IsLawfulFrom};
+ghost use Rattle.lane_book.specs.Steps.{StepsIf, IsLawfulFrom};
+ghost use Rattle.lane_book.specs.Books.{IsBook};
 ghost use Rattle.lane_book.specs.Locks.{is_held_by, IsLoose, IsLeastHeld, AreLoose, BeginEnds};
 ghost use Rattle.lane_book.specs.declared.lane.Doing.TheVariants as Doing;
 
@@ -83,11 +84,12 @@ impl<E: Deed> Book<E> {
         requires lanes { length self.old.lanes.items ≤ 16 }
         requires calling { (lane_at self.old lane).phase ≡ Phase.Calling }
         requires doing { (lane_at self.old lane).doing ≡ Doing.Begin set }
-        requires cleared { IsCleared (lane_at self.old lane) }
         requires few { (lane_at self.old lane).begun < 2 ^ 59 }
         requires numbers { self.old.next_transaction < 2 ^ 63 }
+        requires book { IsBook self.old }
         ensures ends { BeginEnds self.old self.new lane set result }
         ensures step { StepsIf (IsLawfulFrom E.meaning self.old.history.items) E.meaning self.old self.new lane result }
+        ensures book { IsBook self.new }
     {
         match self.holder(set) {
             Some(held) => self.wait(lane, What::Structure(held.structure), held.lane),

@@ -1,17 +1,29 @@
+use Rattle.lane_book.specs.FacesOf.{lane_at}
 use Rattle.std.proofs.Common.{[]}
 use Rattle.lane_types.specs.declared.call.Call.TheVariants as Call
 use Rattle.lane_book.proofs.Faces.{lane_read}
 use Rattle.lane_book.proofs.Asking.{on_ok, on_err, asked_book, roomier_book}
+use Rattle.lane_book.proofs.Keeps.{ready_of, by_result, keeps_asked, keeps_roomier, write_about}
 use Rattle.lane_book.proofs.book.Book.ask_write.Goals as goal
 
 pub returns-clause-ok : goal.returns-clause-ok
 returns-clause-ok g c =
     let book = c.args.self.now in
-    on_ok c.ask_write.result (λ asks. asked_book book c.args.lane c.index_mut.result.now _ book.touched (Call.Write c.args.a c.args.v) _ [] 2 c.requires.lane
-    (lane_read book c.args.lane c.index_mut.result.now c.requires.lane c.index_mut.ensures.value) c.requires.ready asks) c.ask_write.ensures.ok
+    on_ok c.ask_write.result (λ asks. asked_book book c.args.lane c.index_mut.result.now _ book.touched (Call.Write c.args.a c.args.v) _ _ [] 2 c.requires.lane
+    (lane_read book c.args.lane c.index_mut.result.now c.requires.lane c.index_mut.ensures.value) (ready_of _ _ c.requires.nothing (c.requires.book c.args.lane)) asks) c.ask_write.ensures.ok
 
 pub returns-clause-err : goal.returns-clause-err
 returns-clause-err g c =
     let book = c.args.self.now in
     on_err c.ask_write.result (λ roomier. roomier_book book c.args.lane c.index_mut.result.now _ book.touched c.requires.lane
     (lane_read book c.args.lane c.index_mut.result.now c.requires.lane c.index_mut.ensures.value) roomier) c.ask_write.ensures.err
+
+pub returns-clause-book : goal.returns-clause-book
+returns-clause-book g c =
+    let book = c.args.self.now in
+    let read = (lane_read book c.args.lane c.index_mut.result.now c.requires.lane c.index_mut.ensures.value) in
+    by_result c.ask_write.result
+    (λ asks. keeps_asked book c.args.lane c.index_mut.result.now _ book.touched (Call.Write c.args.a c.args.v) _ _ [] 2 c.requires.lane read c.requires.nothing c.requires.book
+    (λ ready here. write_about (lane_at book c.args.lane) _ _ _ _ 2 ready here) asks)
+    (λ roomier. keeps_roomier book c.args.lane c.index_mut.result.now _ book.touched c.requires.lane read c.requires.book roomier)
+    c.ask_write.ensures.ok c.ask_write.ensures.err

@@ -1,4 +1,5 @@
-use Rattle.std.proofs.Common.{◌≡◌, ◌∙◌, ap, sym, ◌++◌, ◌∷◌, []}
+use Rattle.lane_book.specs.FacesOf.{lane_at}
+use Rattle.std.proofs.Common.{◌≡◌, ◌∙◌, ap, sym, ◌++◌, ◌∷◌, [], None, Option}
 use Rattle.lane_types.specs.declared.face.Entry.{Entry}
 use Rattle.lane_types.specs.declared.call.Reply.TheVariants as Reply
 use Rattle.lane_book.specs.Stocked.{with_items}
@@ -6,6 +7,7 @@ use Rattle.lane_book.specs.declared.lane.Lane.{Lane}
 use Rattle.lane_book.specs.Lanes.{left, entered_lane}
 use Rattle.lane_book.proofs.Faces.{lane_read}
 use Rattle.lane_book.proofs.Rows.{commit_row, entered_book}
+use Rattle.lane_book.proofs.Keeps.{keeps_entered, left_keeps}
 use Rattle.lane_book.proofs.book.Book.commit.Goals as goal
 
 pub returns-in-Some-clause-is : goal.returns-in-Some-clause-is
@@ -19,5 +21,13 @@ returns-in-Some-clause-is g c =
     (c.push.ensures ∙ ap (λ (x : Entry _). with_items (book.history.items ++ x ∷ []) book.history) is)
 
 pub returns-in-Some-clause-step : goal.returns-in-Some-clause-step
-returns-in-Some-clause-step g c = commit_row g.E.Deed.meaning c.args.self.now _ c.args.lane c.requires.lane c.requires.calling c.requires.doing c.requires.entry c.requires.behind
+returns-in-Some-clause-step g c = commit_row g.E.Deed.meaning c.args.self.now _ c.args.lane c.requires.lane c.requires.calling c.requires.doing c.requires.entry (λ l. (c.requires.book l).behind)
     (returns-in-Some-clause-is g c)
+
+pub returns-in-Some-clause-book : goal.returns-in-Some-clause-book
+returns-in-Some-clause-book g c =
+    let book = c.args.self.now in
+    let read = lane_read book c.args.lane c.index_mut.result.now c.requires.lane c.index_mut.ensures.value in
+    keeps_entered book _ c.args.lane _ c.in-Some.entry c.requires.lane
+    (returns-in-Some-clause-is g c c.in-Some.entry (sym (ap (λ (x : Lane _). x.entry) read) ∙ sym c.commit.ensures.entry ∙ c.in-Some.is)) c.requires.book
+    (λ is. left_keeps _ _ (entered_lane (lane_at book c.args.lane)))

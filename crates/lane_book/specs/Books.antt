@@ -1,0 +1,65 @@
+-- What holds of the book between its calls.
+use Rattle.std.specs.Prelude.{◌≡◌, ℕ, ◌+◌, ◌≤◌, List, [], ◌∷◌, ◌++◌, length}
+use Rattle.lane_traits.specs.declared.draft.WordWrite.{WordWrite}
+use Rattle.lane_types.specs.declared.call.Phase.TheVariants.{Out}
+use Rattle.lane_book.specs.declared.lane.Lane.{Lane}
+use Rattle.lane_book.specs.declared.lane.Doing.{Doing}
+use Rattle.lane_book.specs.declared.lane.Point.{Point}
+use Rattle.lane_book.specs.declared.book.Book.{Book}
+use Rattle.lane_book.specs.FacesOf.{lane_at, front, standing_writes, standing_gives}
+use Rattle.lane_book.specs.Steps.{AreWithin}
+
+-- nothing is left of an earlier transaction
+pub record AreEmptied (stored : ℕ) (writes : List WordWrite) (gives : List ℕ) (points : List Point) : Type 0 where
+  pub writes_gone : writes ≡ []
+  pub stored_gone : stored ≡ 0
+  pub gives_gone : gives ≡ []
+  pub points_gone : points ≡ []
+
+-- so many of the last writes may wait to be stored
+pub record AreStoredBut (n stored : ℕ) (writes : List WordWrite) : Type 0 where
+  pub some : n ≤ length writes
+  pub most : stored ≤ length writes
+  pub others : length writes ≤ stored + n
+
+-- the last write is this, and it alone waits
+pub record IsLastOf (w : WordWrite) (stored : ℕ) (writes : List WordWrite) : Type 0 where
+  pub last : writes ≡ front 1 writes ++ w ∷ []
+  pub others : stored + 1 ≡ length writes
+
+pub record IsGiving (block stored : ℕ) (writes : List WordWrite) (gives : List ℕ) : Type 0 where
+  pub all : stored ≡ length writes
+  pub last : gives ≡ front 1 gives ++ block ∷ []
+
+-- what is so of the lists of a lane that is about this
+abbrev pub IsAbout : ℕ → List WordWrite → List ℕ → List Point → Doing → Type 0
+IsAbout stored writes gives points Doing.Nothing = stored ≡ length writes
+IsAbout stored writes gives points (Doing.Begin set) = AreEmptied stored writes gives points
+IsAbout stored writes gives points (Doing.Read a) = stored ≡ length writes
+IsAbout stored writes gives points (Doing.Write a v) = IsLastOf (record { address = a; value = v }) stored writes
+IsAbout stored writes gives points (Doing.Take s block) = AreStoredBut 1 stored writes
+IsAbout stored writes gives points (Doing.Give block) = IsGiving block stored writes gives
+IsAbout stored writes gives points Doing.Commit = stored ≡ length writes
+IsAbout stored writes gives points Doing.Abort = stored ≤ length writes
+IsAbout stored writes gives points Doing.Checkpoint = AreEmptied stored writes gives points
+IsAbout stored writes gives points (Doing.Batch n) = AreStoredBut n stored writes
+IsAbout stored writes gives points Doing.Savepoint = stored ≡ length writes
+IsAbout stored writes gives points (Doing.RollbackTo n) = stored ≤ length writes
+
+-- as the lane is
+abbrev pub IsAboutIt : {E : Type 0} → Lane E → Doing → Type 0
+IsAboutIt lane doing = IsAbout lane.stored lane.writes.items lane.gives.items lane.points.items doing
+
+abbrev pub IsEmptied : {E : Type 0} → Lane E → Type 0
+IsEmptied lane = AreEmptied lane.stored lane.writes.items lane.gives.items lane.points.items
+
+-- The transaction began behind some of so many entries, its savepoints are of writes and gives that stand, and its lists are
+-- as the call in progress has them. Outside of one they are empty.
+pub record IsLane {E : Type 0} (entries : ℕ) (lane : Lane E) : Type 0 where
+  pub behind : lane.joined ≤ entries
+  pub points : AreWithin (length (standing_writes lane)) (length (standing_gives lane)) lane.points.items
+  pub about : IsAboutIt lane lane.doing
+  pub out : lane.phase ≡ Out → IsEmptied lane
+
+abbrev pub IsBook : {E : Type 0} → Book E → Type 0
+IsBook book = (l : ℕ) → IsLane (length book.history.items) (lane_at book l)
