@@ -23,11 +23,11 @@ data_isnt_owner start k a above inside same = eq_not ((start + 16 * k - start) %
     eq_not : (n : ℕ) → n ≡ 0 → (n == 0) ≡ false → ⊥
     eq_not n e off = let on = subst (λ (m : ℕ). (m == 0) ≡ false) e off in cc
 
-is_true_left : (s t : Bool) → (s && t) ≡ true → s ≡ true
+pub is_true_left : (s t : Bool) → (s && t) ≡ true → s ≡ true
 is_true_left true t e = refl
 is_true_left false t e = cc
 
-is_true_right : (s t : Bool) → (s && t) ≡ true → t ≡ true
+pub is_true_right : (s t : Bool) → (s && t) ≡ true → t ≡ true
 is_true_right true t e = e
 is_true_right false t e = cc
 
@@ -49,7 +49,7 @@ same_block start k b = grind (arith, nat_tests)
 -- ---- one write more
 
 -- the owner words stay
-owners_stay : (heap : Heap) (writes : List WordWrite) (w : WordWrite) (gives : List ℕ) (k : ℕ) → is_data heap w.address ≡ true →
+pub owners_stay : (heap : Heap) (writes : List WordWrite) (w : WordWrite) (gives : List ℕ) (k : ℕ) → is_data heap w.address ≡ true →
     owners_after heap (writes ++ w ∷ []) gives k ≡ owners_after heap writes gives k
 owners_stay heap writes w gives k data_word = ap (λ (n : ℕ). if is_among gives k then 0 else n)
     (ap (λ (u : Words). u (block_address heap k)) (after_writes-last writes w heap.at) ∙
@@ -66,7 +66,7 @@ by_tests false false v x e = refl
 abbrev pub has_at : ℕ → Heap → (ℕ → ℕ) → ℕ → Bool
 has_at set heap owners a = is_data heap a && is_owned set heap owners (block_of heap a)
 
-values_put : (set : ℕ) (heap : Heap) (owners values : ℕ → ℕ) (gives : List ℕ) (a v : ℕ) → has_at set heap owners a ≡ true →
+pub values_put : (set : ℕ) (heap : Heap) (owners values : ℕ → ℕ) (gives : List ℕ) (a v : ℕ) → has_at set heap owners a ≡ true →
     holding set heap owners (put_word a v values) gives ≡ put_held a v (holding set heap owners values gives)
 values_put set heap owners values gives a v has = λ i. record (holding set heap owners values gives) { word = λ b. word_at b i }
   where

@@ -9,3 +9,4 @@ pub mod Strange
 pub mod Reserving
 pub mod Pushing
 pub mod Keeps
+pub mod BatchRows

@@ -16,7 +16,7 @@ pub record ArePushed {E : Type 0} (first lane : Lane E) (writes : List WordWrite
   pub whole : with_more (drop i writes) lane ≡ with_more writes first
   pub room : has_room (length (drop i writes)) lane.writes
 
-one_first : {X : Type 0} (xs ys : List X) (x : X) → xs ++ (x ∷ ys) ≡ (xs ++ x ∷ []) ++ ys
+pub one_first : {X : Type 0} (xs ys : List X) (x : X) → xs ++ (x ∷ ys) ≡ (xs ++ x ∷ []) ++ ys
 one_first [] ys x = refl
 one_first (z ∷ xs) ys x = ap (λ (zs : List _). z ∷ zs) (one_first xs ys x)
 

@@ -32,7 +32,7 @@ take_whole (suc n) [] le = refl
 take_whole (suc n) (x ∷ xs) le = ap (λ (ys : List _). x ∷ ys) (take_whole n xs (omega arith))
 
 -- a lane of whose writes n are waiting, or stand all
-words_are : {E : Type 0} (begun : Heap) (lane : Lane E) (xs ys : List WordWrite) (gs : List ℕ) → front (waiting_writes lane.doing) lane.writes.items ≡ xs →
+pub words_are : {E : Type 0} (begun : Heap) (lane : Lane E) (xs ys : List WordWrite) (gs : List ℕ) → front (waiting_writes lane.doing) lane.writes.items ≡ xs →
     take lane.stored lane.writes.items ≡ ys → front (waiting_gives lane.doing) lane.gives.items ≡ gs →
     words_of begun lane ≡ held_after lane.held begun xs gs ys
 words_are begun lane xs ys gs standing stored given = λ i. held_after lane.held begun (standing i) (given i) (stored i)
@@ -59,12 +59,12 @@ module _ {E : Type 0} (begun : Heap) (lane : Lane E) (reply : Reply) (w : WordWr
       (all_writes (length lane.writes.items - 0) (omega arith)) (all_writes (lane.stored + 1) (let s = next.stored in omega arith)) refl
 
 -- a word that is held is a data word of a block that is owned
-held_is_data : (d o : Bool) (v : ℕ) → is_there (if d && o then Some v else None) ≡ true → (d ≡ true) × (o ≡ true)
+pub held_is_data : (d o : Bool) (v : ℕ) → is_there (if d && o then Some v else None) ≡ true → (d ≡ true) × (o ≡ true)
 held_is_data true true v e = (refl, refl)
 held_is_data true false v e = (refl, cc)
 held_is_data false o v e = (cc, cc)
 
-both : (d o : Bool) → d ≡ true → o ≡ true → (d && o) ≡ true
+pub both : (d o : Bool) → d ≡ true → o ≡ true → (d && o) ≡ true
 both d o on own = ap (λ (t : Bool). t && o) on ∙ own
 
 pub written_row : {E : Type 0} (deeds : Deeds E) (book : Book E) (l a v : ℕ) (touched : Option ℕ) → l < length book.lanes.items →

@@ -52,6 +52,10 @@ waiting_gives (Doing.RollbackTo n) = 0
 abbrev pub front : {X : Type 0} → ℕ → List X → List X
 front n xs = take (length xs - n) xs
 
+-- the last n of the writes
+abbrev pub batch_of : {E : Type 0} → ℕ → Lane E → List WordWrite
+batch_of n lane = drop (length lane.writes.items - n) lane.writes.items
+
 abbrev pub standing_writes : {E : Type 0} → Lane E → List WordWrite
 standing_writes lane = front (waiting_writes lane.doing) lane.writes.items
 

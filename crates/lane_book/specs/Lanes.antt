@@ -42,6 +42,10 @@ moved part lane = record (noted Moved lane) { part = part }
 abbrev pub stored_one : {E : Type 0} → Lane E → Lane E
 stored_one lane = record lane { stored = lane.stored + 1 }
 
+-- all of the writes stand in the device
+abbrev pub stored_all : {E : Type 0} → Lane E → Lane E
+stored_all lane = record lane { stored = length lane.writes.items }
+
 -- the entry of the commit is handed out
 abbrev pub entered_lane : {E : Type 0} → Lane E → Lane E
 entered_lane lane = record lane { commits = lane.commits + 1; entered = true; entry = None }

@@ -1,9 +1,9 @@
 ghost use Rattle.std.specs.Prelude.{◌≡◌, ◌≢◌, ◌+◌, ◌-◌, ◌<◌, ◌≤◌, ◌^◌, ◌==◌, ◌++◌, ◌∷◌, [], true, ℕ, length, IsNone, IfSome, IsTrue, OnOk, OnErr, IfErr, Some, None};
 ghost use Rattle.std.specs.List.{range_with_len};
 ghost use Rattle.lane_types.specs.declared.face.Entry.{Entry};
-ghost use Rattle.lane_types.specs.Asks.{has_word};
-ghost use Rattle.lane_book.specs.Lanes.{noted, closed, moved, stored_one, left, saved, entered_lane, with_lane, with_history};
-ghost use Rattle.lane_book.specs.FacesOf.{lane_at, plain_face};
+ghost use Rattle.lane_types.specs.Asks.{has_word, has_all};
+ghost use Rattle.lane_book.specs.Lanes.{noted, closed, moved, stored_one, stored_all, left, saved, entered_lane, with_lane, with_history};
+ghost use Rattle.lane_book.specs.FacesOf.{lane_at, plain_face, batch_of};
 ghost use Rattle.lane_book.specs.Steps.{Steps, StepsIf, HasEntry, HasEntered, IsNextStored, AreStored, CanTake, held_by};
 ghost use Rattle.lane_book.specs.Books.{IsBook};
 ghost use Rattle.lane_book.specs.declared.lane.Doing.TheVariants as Doing;
@@ -185,6 +185,23 @@ impl<E: Deed> Book<E> {
         ensures book { IsBook self.new }
     {
         self.store(lane, Reply::Written, touched);
+        Stepped::Answered(Reply::Written)
+    }
+
+    /// A batch of so many writes is answered, all of which are stored. `touched` is the word of the one that was stored last,
+    /// where the value is another.
+    pub fn batched(&mut self, lane: u32, count: u64, touched: Option<u32>) -> Stepped
+        requires lane { lane < length self.old.lanes.items }
+        requires calling { (lane_at self.old lane).phase ≡ Phase.Calling }
+        requires doing { (lane_at self.old lane).doing ≡ Doing.Batch count }
+        requires book { IsBook self.old }
+        ensures is { self.new ≡ with_lane self.old lane (closed Reply.Written (stored_all (lane_at self.old lane))) touched }
+        ensures step { StepsIf (λ base. has_all (held_by base self.old lane) (batch_of count (lane_at self.old lane)) ≡ true)
+            E.meaning self.old self.new lane result }
+        ensures book { IsBook self.new }
+    {
+        self.lanes[lane as usize].store_all(Reply::Written);
+        self.touched = touched;
         Stepped::Answered(Reply::Written)
     }
 

@@ -1,6 +1,6 @@
 ghost use Rattle.std.specs.Prelude.{◌≡◌, ◌<◌, ◌^◌, length};
 ghost use Rattle.lane_types.specs.Faces as Faces;
-ghost use Rattle.lane_book.specs.Lanes.{noted, closed, moved, stored_one, left, begun_lane, saved, entered_lane};
+ghost use Rattle.lane_book.specs.Lanes.{noted, closed, moved, stored_one, stored_all, left, begun_lane, saved, entered_lane};
 
 use crate::stock::Stock;
 use lane_traits::WordWrite;
@@ -150,6 +150,14 @@ impl<E> Lane<E> {
         ensures { self.new ≡ closed reply (stored_one self.old) }
     {
         self.stored += 1;
+        self.close(reply);
+    }
+
+    /// All of the writes stand in the device, and the call ends with this reply.
+    pub fn store_all(&mut self, reply: Reply)
+        ensures { self.new ≡ closed reply (stored_all self.old) }
+    {
+        self.stored = self.writes.len() as u64;
         self.close(reply);
     }
 
