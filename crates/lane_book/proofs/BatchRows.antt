@@ -118,7 +118,7 @@ held_batch set heap xs ys gives m le has =
 
 -- ---- the row
 
-take_and_drop : {X : Type 0} (m : ℕ) (xs : List X) → xs ≡ take m xs ++ drop m xs
+pub take_and_drop : {X : Type 0} (m : ℕ) (xs : List X) → xs ≡ take m xs ++ drop m xs
 take_and_drop zero xs = refl
 take_and_drop (suc m) [] = refl
 take_and_drop (suc m) (x ∷ xs) = ap (λ (ys : List _). x ∷ ys) (take_and_drop m xs)

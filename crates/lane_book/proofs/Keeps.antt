@@ -55,7 +55,7 @@ take_short zero xs = omega arith
 take_short (suc m) [] = omega arith
 take_short (suc m) (x ∷ xs) = let l = take_short m xs in omega (arith, l)
 
-front_whole : {X : Type 0} (xs : List X) → front 0 xs ≡ xs
+pub front_whole : {X : Type 0} (xs : List X) → front 0 xs ≡ xs
 front_whole xs = take_whole (length xs - 0) xs (omega arith)
 
 pub front_short : {X : Type 0} (n : ℕ) (xs : List X) → length (front n xs) ≤ length (front 0 xs)
@@ -98,7 +98,7 @@ begun_keeps n number set lane doing is =
       out = λ e. cc;
     }
 
-within_last : (w g : ℕ) (points : List Point) (p : Point) → AreWithin w g points → p.writes ≤ w → p.gives ≤ g → AreWithin w g (points ++ p ∷ [])
+pub within_last : (w g : ℕ) (points : List Point) (p : Point) → AreWithin w g points → p.writes ≤ w → p.gives ≤ g → AreWithin w g (points ++ p ∷ [])
 within_last w g [] p within a b = (a, b, tt)
 within_last w g (q ∷ points) p within a b = (within.0, within.1, within_last w g points p within.2 a b)
 

@@ -10,3 +10,4 @@ pub mod Reserving
 pub mod Pushing
 pub mod Keeps
 pub mod BatchRows
+pub mod BackRows

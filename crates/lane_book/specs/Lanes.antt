@@ -1,11 +1,11 @@
 -- What becomes of a lane, and of the book with it.
-use Rattle.std.specs.Prelude.{◌≡◌, ℕ, ◌+◌, ◌≤◌, true, false, Option, Some, None, List, [], ◌∷◌, ◌++◌, length}
+use Rattle.std.specs.Prelude.{◌≡◌, ℕ, ◌+◌, ◌≤◌, true, false, Option, Some, None, List, [], ◌∷◌, ◌++◌, length, take, get_or}
 use Rattle.std.specs.Vec.{with_item}
 use Rattle.lane_traits.specs.declared.draft.WordWrite.{WordWrite}
 use Rattle.lane_types.specs.declared.face.Entry.{Entry}
 use Rattle.lane_types.specs.declared.call.Phase.TheVariants.{Calling}
 use Rattle.lane_types.specs.declared.call.Reply.{Reply}
-use Rattle.lane_types.specs.declared.call.Reply.TheVariants.{Begun, Saved}
+use Rattle.lane_types.specs.declared.call.Reply.TheVariants.{Begun, Saved, RolledBack}
 use Rattle.lane_types.specs.declared.call.Stepped.{Stepped}
 use Rattle.lane_types.specs.declared.call.Stepped.TheVariants.{Answered, Moved}
 use Rattle.lane_types.specs.declared.call.Call.{Call}
@@ -14,6 +14,7 @@ use Rattle.lane_types.specs.Faces.{stepped_tally, phase_after}
 use Rattle.lane_types.specs.Asks.{accepted_tally, refused_tally}
 use Rattle.lane_book.specs.declared.lane.Lane.{Lane}
 use Rattle.lane_book.specs.declared.lane.Doing.{Doing}
+use Rattle.lane_book.specs.declared.lane.Point.{Point}
 use Rattle.lane_book.specs.declared.book.Book.{Book}
 use Rattle.lane_book.specs.Stocked.{Stocked, with_items}
 
@@ -89,6 +90,23 @@ begun_lane n set joined lane = record (closed (Begun n) lane) {
 abbrev pub saved : {E : Type 0} → Lane E → Lane E
 saved lane = record (closed (Saved (length lane.points.items)) lane) {
   points = with_items (lane.points.items ++ record { writes = length lane.writes.items; gives = length lane.gives.items } ∷ []) lane.points;
+}
+
+abbrev pub no_point : Point
+no_point = record { writes = 0; gives = 0 }
+
+-- the savepoint with this number
+abbrev pub point_at : {E : Type 0} → ℕ → Lane E → Point
+point_at n lane = get_or lane.points.items n no_point
+
+-- back at savepoint n, which stays: what was written and given since is gone
+abbrev pub rolled_back : {E : Type 0} → ℕ → Lane E → Lane E
+rolled_back n lane = record (closed RolledBack lane) {
+  writes = with_items (take (point_at n lane).writes lane.writes.items) lane.writes;
+  updates = with_items (take (point_at n lane).writes lane.updates.items) lane.updates;
+  gives = with_items (take (point_at n lane).gives lane.gives.items) lane.gives;
+  gates = with_items (take (point_at n lane).gives lane.gates.items) lane.gates;
+  points = with_items (take (n + 1) lane.points.items) lane.points;
 }
 
 -- the call is in progress, and so many cells of the log are promised to it

@@ -1,5 +1,5 @@
 -- A step of one lane, over the faces of all, and what the book's calls ask for it.
-use Rattle.std.specs.Prelude.{◌≡◌, ◌≢◌, ℕ, ◌+◌, ◌<◌, ◌≤◌, true, false, List, [], ◌∷◌, ◌++◌, length, Option, Some, None}
+use Rattle.std.specs.Prelude.{◌≡◌, ◌≢◌, ℕ, ◌+◌, ◌<◌, ◌≤◌, true, false, List, [], ◌∷◌, ◌++◌, length, take, Option, Some, None}
 use Rattle.std.specs.List.{filter}
 use Rattle.lane_types.specs.declared.call.Call.{Call}
 use Rattle.lane_types.specs.declared.call.Stepped.{Stepped}
@@ -14,7 +14,7 @@ use Rattle.lane_book.specs.declared.lane.Lane.{Lane}
 use Rattle.lane_book.specs.declared.lane.Doing.{Doing}
 use Rattle.lane_book.specs.declared.lane.Point.{Point}
 use Rattle.lane_book.specs.declared.book.Book.{Book}
-use Rattle.lane_book.specs.Lanes.{asked_lane}
+use Rattle.lane_book.specs.Lanes.{asked_lane, point_at}
 use Rattle.lane_book.specs.FacesOf.{lane_at, faces_of, is_of, front, begun_heap, words_of, waiting_writes, waiting_gives, call_of}
 
 -- The lane's face changes by the row of the answer, and no other does.
@@ -97,6 +97,14 @@ Asks change book later lane = (base : Base) → IsAsk change (faces_of base book
 abbrev pub AreWithin : ℕ → ℕ → List Point → Type 0
 AreWithin writes gives [] = Unit {0}
 AreWithin writes gives (p ∷ points) = (p.writes ≤ writes) × (p.gives ≤ gives) × AreWithin writes gives points
+
+-- The savepoint is there, those below it are of no more than it is, and just its writes are stored.
+pub record CanGoBack {E : Type 0} (n : ℕ) (lane : Lane E) : Type 0 where
+  pub inside : n < length lane.points.items
+  pub below : AreWithin (point_at n lane).writes (point_at n lane).gives (take n lane.points.items)
+  pub writes : (point_at n lane).writes ≤ length lane.writes.items
+  pub gives : (point_at n lane).gives ≤ length lane.gives.items
+  pub stored : lane.stored ≡ (point_at n lane).writes
 
 -- the lane is ready for a call: none is in progress, and all of its writes are stored
 pub record IsReady {E : Type 0} (lane : Lane E) : Type 0 where

@@ -1,6 +1,6 @@
 ghost use Rattle.std.specs.Prelude.{◌≡◌, ◌<◌, ◌^◌, length};
 ghost use Rattle.lane_types.specs.Faces as Faces;
-ghost use Rattle.lane_book.specs.Lanes.{noted, closed, moved, stored_one, stored_all, left, begun_lane, saved, entered_lane};
+ghost use Rattle.lane_book.specs.Lanes.{noted, closed, moved, stored_one, stored_all, rolled_back, left, begun_lane, saved, entered_lane};
 
 use crate::stock::Stock;
 use lane_traits::WordWrite;
@@ -159,6 +159,20 @@ impl<E> Lane<E> {
     {
         self.stored = self.writes.len() as u64;
         self.close(reply);
+    }
+
+    /// Back at the savepoint, which stays: what was written and given since is gone.
+    pub fn roll_back(&mut self, n: u64)
+        requires { n < length self.old.points.items }
+        ensures { self.new ≡ rolled_back n self.old }
+    {
+        let point = self.points.as_slice()[n as usize];
+        self.close(Reply::RolledBack);
+        self.writes.truncate(point.writes as usize);
+        self.updates.truncate(point.writes as usize);
+        self.gives.truncate(point.gives as usize);
+        self.gates.truncate(point.gives as usize);
+        self.points.truncate(n as usize + 1);
     }
 
     /// The entry of the commit is handed out, to join the history.
