@@ -19,7 +19,7 @@ use Rattle.lane_book.specs.declared.lane.Point.{Point}
 use Rattle.lane_book.specs.declared.lane.Doing.{Doing}
 use Rattle.lane_book.specs.declared.book.Book.{Book}
 use Rattle.lane_book.specs.Lanes.{noted, moved, closed, stored_one, left, begun_lane, saved, entered_lane, refused_lane, IsRoomier, with_lane, with_history}
-use Rattle.lane_book.specs.FacesOf.{lane_at, front, waiting_writes, waiting_gives, standing_writes, standing_gives}
+use Rattle.lane_book.specs.FacesOf.{lane_at, idle_lane, front, waiting_writes, waiting_gives, standing_writes, standing_gives}
 use Rattle.lane_book.specs.Steps.{AreWithin, AreStored, IsNextStored, IsCleared, IsReady, AsksFor, IsPlain}
 use Rattle.lane_book.specs.Books.{IsAbout, IsAboutIt, IsEmptied, IsLane, IsBook, AreStoredBut, IsLastOf, IsGiving}
 use Rattle.lane_book.proofs.Faces.{lane_at-same, lane_at-other}
@@ -315,3 +315,17 @@ giving_of n lane block doing is =
 
 pub stored_of : {E : Type 0} (n : ℕ) (lane : Lane E) → lane.doing ≡ Doing.Savepoint → IsLane n lane → AreStored lane
 stored_of n lane doing is = subst (IsAboutIt lane) doing is.about
+
+-- ---- before the first call
+
+pub idle_is : {E : Type 0} (n : ℕ) → IsLane n (idle_lane {E = E})
+idle_is n = record {
+  behind = omega arith;
+  points = tt;
+  about = refl;
+  out = λ e. record { writes_gone = refl; stored_gone = refl; gives_gone = refl; points_gone = refl };
+}
+
+-- a book of idle lanes alone
+pub idle_book : {E : Type 0} (book : Book E) → ((l : ℕ) → lane_at book l ≡ idle_lane {E = E}) → IsBook book
+idle_book book idle l = subst (IsLane (length book.history.items)) (sym (idle l)) (idle_is (length book.history.items))
