@@ -11,7 +11,7 @@ use Rattle.atomic_list.specs.Walk.{chain_of}
 use Rattle.atomic_list.specs.Reads.{HasList, SameLog}
 use Rattle.atomic_list.proofs.Splits.{Each-left, Each-right}
 use Rattle.atomic_list.proofs.Preparing.{register, link_word, last_link}
-use Rattle.atomic_list.proofs.Appending.{appending-linking}
+use Rattle.atomic_list.proofs.LinkingWords.{appending-linking}
 use Rattle.atomic_list.proofs.Removing.{back_word, removing-unlinking}
 use Rattle.atomic_list.proofs.Removals.{words_apart}
 use Rattle.atomic_list.proofs.Repairs.{still}

@@ -18,7 +18,7 @@ use Rattle.atomic_list.specs.ListPlans.{IsListPlan}
 use Rattle.atomic_list.proofs.Chains.{bucket_shape, word_behind-last}
 use Rattle.atomic_list.proofs.Cases.{no_bucket_is_0}
 use Rattle.atomic_list.proofs.Preparing.{IsLinkWord, last_link, last_is_link, register, next_word, prev_word, link_word, preparing, prepared3, prepared4, prepared5, prepared6, at_rest-prepared, appending-prepared}
-use Rattle.atomic_list.proofs.Appending.{linking, linking_at, linking5}
+use Rattle.atomic_list.proofs.LinkingWords.{linking, linking_at, linking5}
 use Rattle.atomic_list.proofs.OnList.{list_plan}
 
 -- the insertion's events, with the word that names the bucket given

@@ -3,7 +3,7 @@ pub mod Splits
 pub mod Unique
 pub mod Cases
 pub mod Preparing
-pub mod Appending
+pub mod LinkingWords
 pub mod OnList
 pub mod Insertions
 pub mod Removing

@@ -23,7 +23,7 @@ use Rattle.atomic_list.proofs.Removing.{back_word, first_of_links}
 use Rattle.atomic_list.proofs.Removals.{AreApart, unlinking, unlinking_at, unlinking5, word_before-first, words_apart, ends_apart, unlinked-link, unlinked-back, unlinked-others}
 use Rattle.atomic_list.proofs.Preparing.{last_link, register, link_word}
 use Rattle.atomic_list.proofs.OnList.{list_plan}
-use Rattle.atomic_list.proofs.Appending.{linking, linking_at, linking5}
+use Rattle.atomic_list.proofs.LinkingWords.{linking, linking_at, linking5}
 
 -- what is asked in each case
 pub asked-at_rest : (shape : Shape) (part : ℕ) (w : Words) (xs : List ℕ) → IsAtRest shape part w xs → repair_asked w ≡ Nothing

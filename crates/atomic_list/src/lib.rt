@@ -9,5 +9,5 @@ mod repairing;
 pub use plans::{
     HEAD, Insert, LAST_TAIL, Remove, TAIL, TO_APPEND, TO_REMOVE, insert_event, remove_event,
 };
-pub use reads::after;
+pub use reads::next_bucket;
 pub use repairing::{Repair, repair_event, repair_of};

@@ -35,7 +35,7 @@ fn linked_after<W: Look>(words: &W, node: u32) -> u32
 }
 
 // The chain's next bucket.
-fn read_after<W: Look>(words: &W, node: u32) -> u32
+fn read_next<W: Look>(words: &W, node: u32) -> u32
     requires list { HasList (length (W.words words.now)) (slice_index (W.words words.now)) }
     requires node { IsInChain (slice_index (W.words words.now)) node }
     ensures { result ≡ next_in (chain_of (shape_of (slice_index (W.words words.now))) (slice_index (W.words words.now))) node }
@@ -54,11 +54,11 @@ fn read_after<W: Look>(words: &W, node: u32) -> u32
 }
 
 /// The chain's next bucket, the first for 0, and 0 at the end, in all words that have the same log.
-pub fn after<W: Look>(words: &W, node: u32) -> u32
+pub fn next_bucket<W: Look>(words: &W, node: u32) -> u32
     requires list { HasList (length (W.words words.now)) (slice_index (W.words words.now)) }
     requires node { IsInChain (slice_index (W.words words.now)) node }
     ensures next { (w : Words) → SameLog (slice_index (W.words words.now)) w → result ≡ next_in (chain_of (shape_of w) w) node }
     ensures in_chain { IsInChain (slice_index (W.words words.now)) result }
 {
-    read_after(words, node)
+    read_next(words, node)
 }

@@ -19,7 +19,7 @@ use Rattle.persist_model.proofs.Running.{Tracks-run}
 use Rattle.persist_model.proofs.Projecting.{advance_all-append, AreAway-take, IsFixed-start, IsFixed-aways, Reaches-fixed, SameOn, SameOn-events, Reaches-same}
 use Rattle.log_laws.specs.Recovering.{with_heap, IsOnLog, AreOnLog}
 use Rattle.log_laws.specs.Parts.{AreDurable}
-use Rattle.log_laws.specs.Appending.{IsAppend}
+use Rattle.log_laws.specs.StateAppends.{IsAppend}
 use Rattle.log_laws.specs.MoveRoom.{TakesCell}
 use Rattle.log_laws.proofs.Views.{IsStoreOn, AreStoresOn, AreStoresOn-out, AreAway-stores, view_reaches, view_behind}
 use Rattle.atomic_list.specs.Plans.{insertion}
@@ -40,7 +40,7 @@ use Rattle.bucket_log.proofs.Partitions.{few_parts, log_word_out, log_word_own, 
 use Rattle.bucket_log.proofs.RecordSets.{same_cell}
 use Rattle.bucket_log.proofs.Rooms.{room_same}
 use Rattle.bucket_log.proofs.PartStates.{less_here, less_elsewhere, part_kept, part_gained}
-use Rattle.bucket_log.proofs.Appending.{Each-among, among_last, append_images, append_waits, append_end, append_rests, append_stores}
+use Rattle.bucket_log.proofs.AppendImages.{Each-among, among_last, append_images, append_waits, append_end, append_rests, append_stores}
 
 -- ---- the events
 

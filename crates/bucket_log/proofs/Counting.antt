@@ -13,7 +13,7 @@ use Rattle.atomic_list.proofs.Chains.{Each-weaker, without-absent}
 use Rattle.atomic_list.proofs.Walks.{Each-without, HasNoRepeats-without_one}
 use Rattle.region_layout.specs.declared.layout.Layout.{Layout}
 use Rattle.region_layout.specs.declared.layout.Buckets.{Buckets}
-use Rattle.region_layout.specs.Layout.{layout_shape, IsPart}
+use Rattle.region_layout.specs.Layout.{layout_shape, IsPartition}
 use Rattle.bucket_log.specs.Reads.{IsLogOfPart, IsInPart, IsLeastOutside, HasAllTo, IsFirstPart, count_to}
 use Rattle.bucket_log.proofs.Walking.{good_chain}
 
@@ -206,7 +206,7 @@ module _ (shape : Shape) (part : Buckets) (chain : List ℕ) (once : HasNoRepeat
   count_tells = (counted_all, all_counted)
 
 -- the buckets of p are those of the part
-pub of_part : (shape : Shape) (part : Buckets) (p : ℕ) → IsPart shape p part → (b : ℕ) → IsBucketOf shape p b → (j : ℕ) × IsInPart part j × (b ≡ bucket shape j)
+pub of_part : (shape : Shape) (part : Buckets) (p : ℕ) → IsPartition shape p part → (b : ℕ) → IsBucketOf shape p b → (j : ℕ) × IsInPart part j × (b ≡ bucket shape j)
 of_part shape part p is b h = let first = is.0 in let count = is.1 in let low = h.1 in let high = h.2 in (h.0, (omega (arith, low, first), omega (arith, high, first, count)), h.3)
 
 test_tells : {P : Type 0} (a b n : ℕ) → a ≡ n → (n ≡ b) ↔ P → IsTrue (a == b) ↔ P

@@ -3,7 +3,7 @@ pub mod Addresses
 pub mod RecordSets
 pub mod Rooms
 pub mod Bodies
-pub mod Appending
+pub mod AppendImages
 pub mod Partitions
 pub mod PartStates
 pub mod Appended

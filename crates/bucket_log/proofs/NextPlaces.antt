@@ -14,11 +14,11 @@ use Rattle.atomic_list.proofs.Parts.{whole_bucket_fits}
 use Rattle.atomic_list.proofs.Walks.{few_buckets}
 use Rattle.region_layout.specs.declared.layout.Layout.{Layout}
 use Rattle.region_layout.specs.declared.layout.Buckets.{Buckets}
-use Rattle.region_layout.specs.Layout.{layout_shape, IsPart}
+use Rattle.region_layout.specs.Layout.{layout_shape, IsPartition}
 use Rattle.bucket_log.specs.declared.append.Place.{Place}
 use Rattle.bucket_log.specs.Places.{IsPlaceBy, IsNextPlace}
 use Rattle.bucket_log.specs.Reads.{IsLogOfPart, room_in, IsInPart, IsLeastOutside, IsUsedIn, IsFreshIn, IsNextIn}
-use Rattle.bucket_log.proofs.Appending.{Each-among, among_last}
+use Rattle.bucket_log.proofs.AppendImages.{Each-among, among_last}
 use Rattle.bucket_log.proofs.Counting.{covered_few, bucket_one, bucket_order, of_part}
 use Rattle.bucket_log.proofs.Rooms.{room_same, room_full, room-last, closed_some}
 use Rattle.bucket_log.proofs.Walking.{IsGoodChain, good_chain, same_chain, same_below}
@@ -32,7 +32,7 @@ absent_from b (x ∷ xs) off = ((λ e. off (inl e)), absent_from b xs (λ m. off
 
 -- ---- what is read in w is so in all words v with the same log
 
-module _ (layout : Layout) (part : Buckets) (size : ℕ) (w : Words) (log : IsLogOfPart layout part size w) (v : Words) (same : SameLog w v) (p : ℕ) (is : IsPart (layout_shape layout) p part) where
+module _ (layout : Layout) (part : Buckets) (size : ℕ) (w : Words) (log : IsLogOfPart layout part size w) (v : Words) (same : SameLog w v) (p : ℕ) (is : IsPartition (layout_shape layout) p part) where
   abbrev shape : Shape
   shape = layout_shape layout
 
@@ -60,7 +60,7 @@ module _ (layout : Layout) (part : Buckets) (size : ℕ) (w : Words) (log : IsLo
   count_is : count_buckets shape p ≡ part.count
   count_is = sym is.1
 
-  to_part : (q j : ℕ) → IsPart shape q part → IsInPart part j → IsBucketOf shape q (bucket shape j)
+  to_part : (q j : ℕ) → IsPartition shape q part → IsInPart part j → IsBucketOf shape q (bucket shape j)
   to_part q j k h = let first = k.0 in let count = k.1 in let low = h.0 in let high = h.1 in (j, omega (arith, low, first), omega (arith, high, first, count), refl)
 
   pub room_is : room_in layout.cells w part chain ≡ room_of shape v p (chain_of shape v)

@@ -18,7 +18,7 @@ use Rattle.bucket_log.specs.States.{less_room, Gains, with_log}
 use Rattle.bucket_log.proofs.Partitions.{part_words_apart}
 use Rattle.bucket_log.proofs.RecordSets.{same_cell}
 use Rattle.bucket_log.proofs.Rooms.{room_same}
-use Rattle.bucket_log.proofs.Appending.{Each-among, among_last}
+use Rattle.bucket_log.proofs.AppendImages.{Each-among, among_last}
 
 -- a word of the log that isn't stored to is the same in the log words
 pub log_words_same : (shape : Shape) (z v : Words) (a : ℕ) → (a < heap shape → v a ≡ z a) → log_words shape v a ≡ log_words shape z a

@@ -25,7 +25,7 @@ use Rattle.bucket_log.specs.Places.{IsFull, IsUsedPlace, IsPlaceBy}
 use Rattle.bucket_log.specs.PartWords.{is_part_word, IsOnPart, AreOnPart, IsJoined, PartWordsAreTold, AppendsAreOnPart, PartsReach, OwnWordsTake}
 use Rattle.bucket_log.proofs.Addresses.{list_word_is_log_word, cell_word_is_log_word}
 use Rattle.bucket_log.proofs.Partitions.{log_word_out, part_word_below}
-use Rattle.bucket_log.proofs.Appending.{Each-among, among_last, append_stores}
+use Rattle.bucket_log.proofs.AppendImages.{Each-among, among_last, append_stores}
 use Rattle.bucket_log.proofs.Appended.{inside_log}
 
 -- ---- the test

@@ -18,7 +18,7 @@ use Rattle.region_layout.specs.Layout.{layout_shape}
 use Rattle.bucket_log.specs.declared.scanning.Placed.{Placed}
 use Rattle.bucket_log.specs.Reads.{IsLogOf}
 use Rattle.bucket_log.specs.Scans.{record_of_placed, IsLogIn, chain_cells, IsSortedOf, ViewsHaveLogs, LogsAreStates}
-use Rattle.bucket_log.proofs.Appending.{Each-among}
+use Rattle.bucket_log.proofs.AppendImages.{Each-among}
 use Rattle.bucket_log.proofs.Appended.{view_records}
 use Rattle.bucket_log.proofs.RecordSets.{same_cell}
 use Rattle.bucket_log.proofs.Scans.{sorted_is_log, log_same}

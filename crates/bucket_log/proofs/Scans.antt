@@ -20,7 +20,7 @@ use Rattle.region_layout.specs.Cell.{cell_at}
 use Rattle.bucket_log.specs.declared.scanning.Placed.{Placed}
 use Rattle.bucket_log.specs.Scans.{record_of_placed, IsLogIn, placed_at, open_cell, open_cells, chain_cells, ComesBefore, IsSortedOf}
 use Rattle.bucket_log.proofs.Addresses.{cells_apart}
-use Rattle.bucket_log.proofs.Appending.{Each-among}
+use Rattle.bucket_log.proofs.AppendImages.{Each-among}
 use Rattle.bucket_log.proofs.RecordSets.{gate_of}
 
 pub chain_cells-push : (w : Words) (cells : ℕ) (front : List ℕ) (b : ℕ) → chain_cells w cells (front ++ b ∷ []) ≡ chain_cells w cells front ++ open_cells w b cells
@@ -188,19 +188,19 @@ comes_trans x y z (inr a) (inl b) = let e = a.0 in inl (omega (arith, e, b))
 comes_trans x y z (inr a) (inr b) = let e = a.1 in let f = b.1 in inr (a.0 ∙ b.0, omega (arith, e, f))
 
 -- each comes before all that are behind it
-abbrev pub IsAscending : List Placed → Type 0
-IsAscending [] = Unit {0}
-IsAscending (x ∷ xs) = ((y : Placed) → IsAmong xs y → ComesBefore x y) × IsAscending xs
+abbrev pub ArePlacedAscending : List Placed → Type 0
+ArePlacedAscending [] = Unit {0}
+ArePlacedAscending (x ∷ xs) = ((y : Placed) → IsAmong xs y → ComesBefore x y) × ArePlacedAscending xs
 
-ascends : (xs : List Placed) → ((k : ℕ) (d : Placed) → suc k < length xs → ComesBefore (slice_index_or xs k d) (slice_index_or xs (suc k) d)) → IsAscending xs
+ascends : (xs : List Placed) → ((k : ℕ) (d : Placed) → suc k < length xs → ComesBefore (slice_index_or xs k d) (slice_index_or xs (suc k) d)) → ArePlacedAscending xs
 ascends [] h = tt
 ascends (x ∷ []) h = ((λ y m. absurd m), tt)
 ascends (x ∷ z ∷ zs) h =
-    let rest : IsAscending (z ∷ zs) = ascends (z ∷ zs) (λ k d lt. h (suc k) d (omega (arith, lt))) in
+    let rest : ArePlacedAscending (z ∷ zs) = ascends (z ∷ zs) (λ k d lt. h (suc k) d (omega (arith, lt))) in
     let first : ComesBefore x z = h 0 x (omega arith) in
     ((λ y m. elim m [ inl e ↦ subst (ComesBefore x) (sym e) first | inr k ↦ comes_trans x z y first (rest.0 y k) ]), rest)
 
-pub ascending : (found sorted : List Placed) → IsSortedOf found sorted → IsAscending sorted
+pub ascending : (found sorted : List Placed) → IsSortedOf found sorted → ArePlacedAscending sorted
 ascending found sorted h = ascends sorted (λ k d lt. (let e : k + 1 ≡ suc k = omega arith in
     subst (λ n. ComesBefore (slice_index_or sorted k d) (slice_index_or sorted n d)) e (h.ascending k d (omega (arith, lt)))))
 
@@ -224,11 +224,11 @@ pair_order a b c d h =
     clash on off = cc
 
 abbrev pub key_of : Placed → ℕ × ℕ
-key_of placed = (placed.cell.gate, placed.at)
+key_of placed = (placed.cell.lsn, placed.at)
 
 pub sorted_pairs : (xs : List Placed) → IsSortedByKey key_of (λ x y. ordering_then (nat_cmp x.0 y.0) (nat_cmp x.1 y.1)) xs →
     (k : ℕ) (d : Placed) → k + 1 < length xs → ComesBefore (slice_index_or xs k d) (slice_index_or xs (k + 1) d)
-sorted_pairs xs h k d lt = pair_order (slice_index_or xs (k + 1) d).cell.gate (slice_index_or xs (k + 1) d).at (slice_index_or xs k d).cell.gate (slice_index_or xs k d).at (h k d (omega arith) lt)
+sorted_pairs xs h k d lt = pair_order (slice_index_or xs (k + 1) d).cell.lsn (slice_index_or xs (k + 1) d).at (slice_index_or xs k d).cell.lsn (slice_index_or xs k d).at (h k d (omega arith) lt)
 
 -- ---- membership
 
@@ -297,7 +297,7 @@ newer_of : (x y : Placed) → ComesBefore x y → x.at ≢ y.at → IsNewer (rec
 newer_of x y (inl lt) ne = inl lt
 newer_of x y (inr h) ne = let le = h.1 in inr (h.0, omega (arith, le, ne))
 
-pub newest : (xs : List Placed) → IsAscending xs → ((a : ℕ) → count_at a xs ≤ 1) → IsNewestFirst (reverse (map record_of_placed xs))
+pub newest : (xs : List Placed) → ArePlacedAscending xs → ((a : ℕ) → count_at a xs ≤ 1) → IsNewestFirst (reverse (map record_of_placed xs))
 newest [] h once = tt
 newest (x ∷ xs) h once = subst IsNewestFirst (sym (reverse-cons (record_of_placed x) (map record_of_placed xs)))
     (newest-push (reverse (map record_of_placed xs)) (record_of_placed x)

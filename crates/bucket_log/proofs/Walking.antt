@@ -19,7 +19,7 @@ use Rattle.region_layout.specs.declared.layout.Layout.{Layout}
 use Rattle.region_layout.specs.declared.layout.Buckets.{Buckets}
 use Rattle.region_layout.specs.Layout.{layout_shape}
 use Rattle.bucket_log.specs.Reads.{IsLogOf, IsLogOfPart}
-use Rattle.bucket_log.proofs.Appending.{Each-among, among_last}
+use Rattle.bucket_log.proofs.AppendImages.{Each-among, among_last}
 
 -- ---- the chain of sound words
 

@@ -9,7 +9,7 @@ use Rattle.persist_model.specs.Sound.{closed_cells}
 use Rattle.atomic_list.specs.Reads.{HasList}
 use Rattle.region_layout.specs.declared.layout.Layout.{Layout}
 use Rattle.region_layout.specs.declared.layout.Buckets.{Buckets}
-use Rattle.region_layout.specs.Layout.{layout_shape, IsPart}
+use Rattle.region_layout.specs.Layout.{layout_shape, IsPartition}
 use Rattle.bucket_log.specs.declared.append.Place.{Place}
 
 -- These many words are those of a region of this layout, or of a partition's view of it, and the list is sound.
@@ -20,7 +20,7 @@ pub record IsLogOf (layout : Layout) (size : ℕ) (w : Words) : Type 0 where
 -- and the part is the list's partition
 pub record IsLogOfPart (layout : Layout) (part : Buckets) (size : ℕ) (w : Words) : Type 0 where
   pub log : IsLogOf layout size w
-  pub is_part : IsPart (layout_shape layout) log.has_list.part part
+  pub is_part : IsPartition (layout_shape layout) log.has_list.part part
 
 -- the closed cells of the chain's last bucket, and all cells of each bucket of the part that isn't in the chain
 abbrev pub room_in : ℕ → Words → Buckets → List ℕ → ℕ

@@ -24,7 +24,7 @@ placed_at w at = record { at = at; cell = cell_at w at }
 
 -- the cell with its address, or nothing where it is closed
 abbrev pub open_cell : ℕ → Cell → List Placed
-open_cell at cell = if cell.gate == 0 then [] else record { at = at; cell = cell } ∷ []
+open_cell at cell = if cell.lsn == 0 then [] else record { at = at; cell = cell } ∷ []
 
 -- the open cells among the first n of a bucket, in order
 abbrev pub open_cells : Words → ℕ → ℕ → List Placed
@@ -37,7 +37,7 @@ chain_cells w cells [] = []
 chain_cells w cells (b ∷ chain) = open_cells w b cells ++ chain_cells w cells chain
 
 abbrev pub ComesBefore : Placed → Placed → Type 0
-ComesBefore x y = (x.cell.gate < y.cell.gate) ⊎ ((x.cell.gate ≡ y.cell.gate) × (x.at ≤ y.at))
+ComesBefore x y = (x.cell.lsn < y.cell.lsn) ⊎ ((x.cell.lsn ≡ y.cell.lsn) × (x.at ≤ y.at))
 
 -- the same cells, ascending by gate, then by address
 pub record IsSortedOf (found sorted : List Placed) : Type 0 where

@@ -10,7 +10,7 @@ use Rattle.persist_model.specs.Chain.{view}
 use Rattle.persist_model.specs.State.{State}
 use Rattle.persist_model.specs.Sound.{HasState}
 use Rattle.log_laws.specs.Recovering.{with_heap}
-use Rattle.log_laws.specs.Appending.{IsAppend}
+use Rattle.log_laws.specs.StateAppends.{IsAppend}
 use Rattle.log_laws.specs.MoveRoom.{TakesCell}
 use Rattle.region_layout.specs.Layout.{IsAllowed}
 use Rattle.bucket_log.specs.declared.append.Place.{Place}

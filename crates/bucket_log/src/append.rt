@@ -30,12 +30,12 @@ fn cell_event(at: u32, cell: &Cell, i: u32) -> Option<Event>
     let event = match i {
         0 => Event::PStore(at + 1, cell.transaction),
         1 => Event::PStore(at + 2, cell.kind),
-        2 => Event::PStore(at + 3, cell.address),
+        2 => Event::PStore(at + 3, cell.word),
         3 => Event::PStore(at + 4, cell.before),
         4 => Event::PStore(at + 5, cell.after),
         5 => Event::PStore(at + 6, cell.undo_next),
         6 => Event::PStore(at + 7, cell.outcome),
-        8 => Event::PStore(at, cell.gate),
+        8 => Event::PStore(at, cell.lsn),
         7 | 9 => Event::Fence,
         _ => return None,
     };

@@ -5,7 +5,7 @@ ghost use Rattle.atomic_list.specs.Walk.{chain_of};
 ghost use Rattle.region_layout.specs.Layout.{layout_shape};
 ghost use Rattle.bucket_log.specs.Reads.{IsLogOf, count_to};
 
-use atomic_list::{TAIL, TO_APPEND, TO_REMOVE, after};
+use atomic_list::{TAIL, TO_APPEND, TO_REMOVE, next_bucket};
 use persist_model::Look;
 use region_layout::Layout;
 
@@ -24,7 +24,7 @@ pub(crate) fn chain_end<W: Look>(words: &W, layout: Layout) -> ChainEnd
     let mut last = 0;
     let mut count = 0;
     for _ in 0..layout.buckets {
-        let next = after(words, last);
+        let next = next_bucket(words, last);
         if next == 0 {
             break;
         }
@@ -55,7 +55,7 @@ pub(crate) fn count_buckets_to<W: Look>(words: &W, layout: Layout, bucket: u32) 
     let mut last = 0;
     let mut count = 0;
     for _ in 0..layout.buckets {
-        let next = after(words, last);
+        let next = next_bucket(words, last);
         if next == 0 {
             break;
         }

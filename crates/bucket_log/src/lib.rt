@@ -6,13 +6,11 @@ mod append;
 mod chain;
 pub mod laws;
 mod next_place;
-mod parts;
 mod room_count;
 mod scanning;
 
 pub use address::part_of;
 pub use append::{Place, append_event};
 pub use next_place::{place, place_with};
-pub use parts::{Closing, Giving, Part, Undoing, Update};
 pub use room_count::room;
 pub use scanning::{Placed, scan, sort_placed};

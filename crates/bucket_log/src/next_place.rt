@@ -6,7 +6,7 @@ ghost use Rattle.persist_model.specs.Shape.{Shape};
 ghost use Rattle.persist_model.specs.Sound.{room_of};
 ghost use Rattle.atomic_list.specs.Reads.{SameLog};
 ghost use Rattle.atomic_list.specs.Walk.{chain_of};
-ghost use Rattle.region_layout.specs.Layout.{layout_shape, IsPart};
+ghost use Rattle.region_layout.specs.Layout.{layout_shape, IsPartition};
 ghost use Rattle.bucket_log.specs.Places.{IsNextPlace};
 ghost use Rattle.bucket_log.specs.Reads.{IsLogOf, IsLogOfPart, IsFirstClosed, IsInPart, HasAllTo, IsFirstPart, IsLeastOutside, IsUsedIn, IsFreshIn, IsNextIn};
 
@@ -150,9 +150,9 @@ fn read_place_with<W: Look>(
 /// least bucket of the part that isn't in the chain. There is none where the room is 0. It is the same in all words that have the same log.
 pub fn place<W: Look>(words: &W, layout: Layout, part: Buckets) -> Option<Place>
     requires { IsLogOfPart layout part (length (W.words words.now)) (slice_index (W.words words.now)) }
-    ensures none { (w : Words) (p : ℕ) → SameLog (slice_index (W.words words.now)) w → IsPart (layout_shape layout) p part
+    ensures none { (w : Words) (p : ℕ) → SameLog (slice_index (W.words words.now)) w → IsPartition (layout_shape layout) p part
         → (result ≡ None) ↔ (room_of (layout_shape layout) w p (chain_of (layout_shape layout) w) ≡ 0) }
-    ensures next { (w : Words) (p : ℕ) → SameLog (slice_index (W.words words.now)) w → IsPart (layout_shape layout) p part
+    ensures next { (w : Words) (p : ℕ) → SameLog (slice_index (W.words words.now)) w → IsPartition (layout_shape layout) p part
         → IfSome result (λ place. IsNextPlace (layout_shape layout) p w (chain_of (layout_shape layout) w) place) }
 {
     read_place(words, layout, part)
@@ -167,9 +167,9 @@ pub fn place_with<W: Look>(
 ) -> Option<Place>
     requires log { IsLogOfPart layout part (length (W.words words.now)) (slice_index (W.words words.now)) }
     requires least { IsLeastOutside (layout_shape layout) part (chain_of (layout_shape layout) (slice_index (W.words words.now))) least }
-    ensures none { (w : Words) (p : ℕ) → SameLog (slice_index (W.words words.now)) w → IsPart (layout_shape layout) p part
+    ensures none { (w : Words) (p : ℕ) → SameLog (slice_index (W.words words.now)) w → IsPartition (layout_shape layout) p part
         → (result ≡ None) ↔ (room_of (layout_shape layout) w p (chain_of (layout_shape layout) w) ≡ 0) }
-    ensures next { (w : Words) (p : ℕ) → SameLog (slice_index (W.words words.now)) w → IsPart (layout_shape layout) p part
+    ensures next { (w : Words) (p : ℕ) → SameLog (slice_index (W.words words.now)) w → IsPartition (layout_shape layout) p part
         → IfSome result (λ place. IsNextPlace (layout_shape layout) p w (chain_of (layout_shape layout) w) place) }
 {
     read_place_with(words, layout, part, least)

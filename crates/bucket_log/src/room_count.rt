@@ -4,7 +4,7 @@ ghost use Rattle.persist_model.specs.Region.{Words};
 ghost use Rattle.persist_model.specs.Sound.{closed_cells, room_of};
 ghost use Rattle.atomic_list.specs.Reads.{SameLog};
 ghost use Rattle.atomic_list.specs.Walk.{chain_of};
-ghost use Rattle.region_layout.specs.Layout.{layout_shape, IsPart};
+ghost use Rattle.region_layout.specs.Layout.{layout_shape, IsPartition};
 ghost use Rattle.bucket_log.specs.Reads.{IsLogOfPart, room_in};
 
 use crate::chain::chain_end;
@@ -43,7 +43,7 @@ fn read_room<W: Look>(words: &W, layout: Layout, part: Buckets) -> u64
 /// of the part that isn't in the chain. It is the same in all words that have the same log.
 pub fn room<W: Look>(words: &W, layout: Layout, part: Buckets) -> u64
     requires { IsLogOfPart layout part (length (W.words words.now)) (slice_index (W.words words.now)) }
-    ensures { (w : Words) (p : ℕ) → SameLog (slice_index (W.words words.now)) w → IsPart (layout_shape layout) p part
+    ensures { (w : Words) (p : ℕ) → SameLog (slice_index (W.words words.now)) w → IsPartition (layout_shape layout) p part
         → result ≡ room_of (layout_shape layout) w p (chain_of (layout_shape layout) w) }
 {
     read_room(words, layout, part)

@@ -7,7 +7,7 @@ ghost use Rattle.region_layout.specs.Layout.{layout_shape};
 ghost use Rattle.bucket_log.specs.Reads.{IsLogOf};
 ghost use Rattle.bucket_log.specs.Scans.{record_of_placed, open_cell, open_cells, chain_cells, IsLogIn, IsSortedOf};
 
-use atomic_list::after;
+use atomic_list::next_bucket;
 use persist_model::{List, Look, NoMemory};
 use region_layout::{Cell, Layout, read_cell};
 use std::alloc::{AllocError, Global};
@@ -23,7 +23,7 @@ pub struct Placed {
 fn keep_open(found: &mut Vec<Placed>, at: u32, cell: Cell) -> Result<(), NoMemory>
     ensures { OnOk result (found.new.items ≡ found.old.items ++ open_cell at cell) }
 {
-    if cell.gate == 0 {
+    if cell.lsn == 0 {
         return Ok(());
     }
     match found.push(Placed { at, cell }) {
@@ -58,7 +58,7 @@ fn scan_chain<W: Look>(alloc: Global, words: &W, layout: Layout) -> Result<Vec<P
     let mut found = Vec::new(alloc);
     let mut last = 0;
     for _ in 0..layout.buckets {
-        let next = after(words, last);
+        let next = next_bucket(words, last);
         if next == 0 {
             break;
         }
@@ -72,7 +72,7 @@ fn scan_chain<W: Look>(alloc: Global, words: &W, layout: Layout) -> Result<Vec<P
 pub fn sort_placed(mut found: Vec<Placed>) -> Result<Vec<Placed>, NoMemory>
     ensures { IfOk result (λ sorted. IsSortedOf found.items sorted.items) }
 {
-    found.sort_by_key(|placed| (placed.cell.gate, placed.at))?;
+    found.sort_by_key(|placed| (placed.cell.lsn, placed.at))?;
     Ok(found)
 }
 

@@ -1,23 +1,23 @@
 -- The plans under force on small literals.
 use Rattle.std.proofs.Common.{◌≡◌, [], ◌∷◌, refl}
 use Rattle.persist_model.specs.declared.event.Event.TheVariants.{PStore}
-use Rattle.bucket_log.specs.declared.parts.Update.{Update}
-use Rattle.bucket_log.specs.declared.parts.Part.TheVariants.{Append, Word, Fence, Clear}
-use Rattle.plan_records.specs.declared.cells.Outcome.TheVariants.{Committed, RolledBack}
+use Rattle.plan_records.specs.declared.parts.Update.{Update}
+use Rattle.plan_records.specs.declared.parts.Part.TheVariants.{Append, Word, Fence, Clear}
+use Rattle.persist_model.specs.declared.kinds.Outcome.TheVariants.{Committed, RolledBack}
 use Rattle.plan_records.specs.Cells.{cell_of_update, cell_of_compensation, cell_of_rollback, cell_of_end}
 use Rattle.force_policy.specs.Plans.{write_plan, give_plan, commit_plan, abort_plan}
 
 abbrev first : Update
-first = record { transaction = 7; word = 170; before = 5; after = 6; previous = 0 }
+first = record { transaction = 7; word = 170; before = 5; after = 6; undo_next = 0 }
 
 abbrev second : Update
-second = record { transaction = 7; word = 171; before = 0; after = 9; previous = 1 }
+second = record { transaction = 7; word = 171; before = 0; after = 9; undo_next = 1 }
 
 write_is : write_plan first ≡ Append (cell_of_update first) ∷ Word (PStore 170 6) ∷ []
 write_is = refl
 
 give_is : give_plan (record { transaction = 7; owner_word = 176; owner = 1 }) ≡
-    Append (record { gate = 0; transaction = 7; kind = 6; address = 176; before = 1; after = 0; undo_next = 0; outcome = 0 }) ∷ []
+    Append (record { lsn = 0; transaction = 7; kind = 6; word = 176; before = 1; after = 0; undo_next = 0; outcome = 0 }) ∷ []
 give_is = refl
 
 -- a commit without and with deletions

@@ -3,10 +3,10 @@ use Rattle.std.specs.Prelude.{ℕ}
 use Rattle.persist_model.specs.Records.{IsRunning}
 use Rattle.persist_model.specs.Shape.{Shape}
 use Rattle.persist_model.specs.State.{State}
-use Rattle.bucket_log.specs.declared.parts.Update.{Update}
-use Rattle.bucket_log.specs.declared.parts.Giving.{Giving}
-use Rattle.bucket_log.specs.declared.parts.Closing.{Closing}
-use Rattle.bucket_log.specs.declared.parts.Undoing.{Undoing}
+use Rattle.plan_records.specs.declared.parts.Update.{Update}
+use Rattle.plan_records.specs.declared.parts.Giving.{Giving}
+use Rattle.plan_records.specs.declared.parts.Closing.{Closing}
+use Rattle.plan_records.specs.declared.parts.Undoing.{Undoing}
 use Rattle.plan_records.specs.Courses.{GoesOn, CanCommit, CanAbort}
 use Rattle.force_policy.specs.Plans.{write_plan, give_plan, commit_plan, abort_plan}
 

@@ -3,8 +3,9 @@ ghost use Rattle.std.specs.Prelude.{◌≡◌, All, slice_get};
 ghost use Rattle.plan_records.specs.Sequences.{HasAddress};
 ghost use Rattle.force_policy.specs.Plans.{commit_plan, abort_plan};
 
-use bucket_log::{Closing, Part, Undoing};
-use plan_records::{Outcome, end_cell, owner_part, owner_part_count, rollback_cell, undo_part};
+use persist_model::Outcome;
+use plan_records::{Closing, Part, Undoing};
+use plan_records::{end_cell, owner_part, owner_part_count, rollback_cell, undo_part};
 use region_layout::Policy;
 
 /// Part i of a commit: a fence, so that what was written is kept; the end; the deletion of the blocks that were given back; and the

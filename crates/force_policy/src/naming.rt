@@ -2,7 +2,7 @@
 ghost use Rattle.std.specs.Prelude.{◌≡◌, slice_get};
 ghost use Rattle.force_policy.specs.Plans.{write_plan, give_plan};
 
-use bucket_log::{Giving, Part, Update};
+use plan_records::{Giving, Part, Update};
 use plan_records::{deletion_cell, update_cell, word_store};
 use region_layout::Policy;
 

@@ -125,7 +125,7 @@ fn a_write_and_its_commit_have_these_events(rt: HostRuntime) -> Result<(), Fail>
         word: 103,
         before: 0,
         after: 7,
-        previous: 0,
+        undo_next: 0,
     };
     for i in 0..3 {
         if let Some(part) = write_part(&update, i) {
@@ -183,14 +183,14 @@ fn an_abort_undoes_the_newest_first(rt: HostRuntime) -> Result<(), Fail> {
         word: 103,
         before: 0,
         after: 7,
-        previous: 0,
+        undo_next: 0,
     };
     let second = Update {
         transaction: 1,
         word: 103,
         before: 7,
         after: 8,
-        previous: 1,
+        undo_next: 1,
     };
     let undoing = Undoing {
         transaction: 1,

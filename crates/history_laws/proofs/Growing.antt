@@ -7,11 +7,11 @@ use Rattle.persist_model.specs.Records.{Record, Log}
 use Rattle.persist_model.specs.Standing.{Stands, undone, deleted, redone, kept}
 use Rattle.persist_model.specs.Shape.{Shape, heap_words}
 use Rattle.persist_model.specs.State.{State}
-use Rattle.log_laws.specs.Recovery.{IsCovered}
+use Rattle.log_laws.specs.Recovery.{HasDecidingRecord}
 use Rattle.log_laws.specs.Moves.{IsDeletionBy, IsChangeBy}
 use Rattle.log_laws.proofs.Deciding.{has_or_none}
 use Rattle.log_laws.proofs.Standings.{latest_some}
-use Rattle.plan_records.specs.declared.cells.Outcome.TheVariants.{Committed}
+use Rattle.persist_model.specs.declared.kinds.Outcome.TheVariants.{Committed}
 use Rattle.plan_records.specs.Cells.{cell_of_end, appended}
 use Rattle.plan_records.specs.Appends.{Commits, with_record}
 use Rattle.plan_records.proofs.Changes.{decide_change, heap_word_is}
@@ -20,12 +20,12 @@ use Rattle.history_laws.specs.Histories.{Entry, fold}
 use Rattle.history_laws.specs.Moments.{IsEntryOf}
 use Rattle.history_laws.specs.Growing.{UncoveredAreSettled, HistoryGrows}
 use Rattle.history_laws.proofs.Folding.{value_append}
-use Rattle.history_laws.proofs.Appending.{decide_deletion_by}
+use Rattle.history_laws.proofs.AppendsBeside.{decide_deletion_by}
 
 -- ---- words that no record decides
 
 -- an uncovered word stands at itself
-stands_kept : (policy : ℕ) (log : Log) (w : Words) (a v : ℕ) → (IsCovered policy log a → ⊥) → Stands policy log w a v → v ≡ w a
+stands_kept : (policy : ℕ) (log : Log) (w : Words) (a v : ℕ) → (HasDecidingRecord policy log a → ⊥) → Stands policy log w a v → v ≡ w a
 stands_kept policy log w a v off (undone u first e) = absurd (off (inl (u, first.among, first.has)))
 stands_kept policy log w a v off (deleted none d e) = absurd (off (inr (inl d)))
 stands_kept policy log w a v off (redone none nd r last e) = absurd (off (inr (inr (r, last.among, last.has))))

@@ -3,9 +3,9 @@ pub mod PartWords
 pub mod Owning
 pub mod Conditions
 pub mod Choosing
-pub mod Appending
+pub mod AppendsBeside
 pub mod Stepping
-pub mod Images
+pub mod ImagesStand
 pub mod Growing
 pub mod Headers
 pub mod Checkpoints

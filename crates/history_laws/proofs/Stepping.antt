@@ -41,7 +41,7 @@ use Rattle.history_laws.proofs.PartWords.{same_state}
 use Rattle.history_laws.proofs.Owning.{need_passing, own_running, own_back}
 use Rattle.history_laws.proofs.Conditions.{IsBeside, added_plain, added_runs, passes_there}
 use Rattle.history_laws.proofs.Choosing.{chosen_kept, chosen_added, chosen_closed, chosen_taken_back}
-use Rattle.history_laws.proofs.Appending.{HeapMeets, append_leaves, left_by, can_there, meets_there, opened, commits_beside, stands_committed}
+use Rattle.history_laws.proofs.AppendsBeside.{HeapMeets, append_leaves, left_by, can_there, meets_there, opened, commits_beside, stands_committed}
 
 module _ (shape : Shape) (base : Words) (s : State) (h : Words) (flight : List Entry) (under : ℕ → UnderWay) (found : Words)
     (moment : IsMoment shape base s h flight under found) (n : ℕ) (inside : n < shape.partitions) where

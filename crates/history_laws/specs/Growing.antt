@@ -6,10 +6,10 @@ use Rattle.persist_model.specs.Records.{Log}
 use Rattle.persist_model.specs.Standing.{Stands}
 use Rattle.persist_model.specs.Shape.{Shape, heap_words, words_of_shape, IsHeapWord}
 use Rattle.persist_model.specs.State.{State}
-use Rattle.log_laws.specs.Recovery.{IsCovered}
+use Rattle.log_laws.specs.Recovery.{HasDecidingRecord}
 use Rattle.bucket_log.specs.declared.append.Place.{Place}
 use Rattle.bucket_log.specs.Appends.{region_append}
-use Rattle.plan_records.specs.declared.cells.Outcome.TheVariants.{Committed}
+use Rattle.persist_model.specs.declared.kinds.Outcome.TheVariants.{Committed}
 use Rattle.plan_records.specs.Cells.{cell_of_end, appended}
 use Rattle.plan_records.specs.Appends.{MayAppend, MayStandAt, with_record}
 use Rattle.plan_records.specs.Conditions.{IsOfOpen, AreWritten}
@@ -23,7 +23,7 @@ StandsForHistory shape log h region =
 
 -- a word of the heap whose standing value no record decides
 abbrev pub IsUncovered : Shape → Log → ℕ → Type 0
-IsUncovered shape log a = IsHeapWord shape a × (IsCovered shape.policy log a → ⊥)
+IsUncovered shape log a = IsHeapWord shape a × (HasDecidingRecord shape.policy log a → ⊥)
 
 -- Such words are settled, at their values in the history's heap. w are any words that a stop may leave.
 abbrev pub UncoveredAreSettled : Type 0

@@ -2,6 +2,7 @@
 -- settled state, though other partitions may have made more of theirs in an image.
 use Rattle.std.specs.Prelude.{◌≡◌, ◌≢◌, ◌⊎◌, ℕ, ◌+◌, ◌*◌, ◌<◌, ◌≤◌, ◌^◌, List, [], ◌∷◌, ◌++◌}
 use Rattle.persist_model.specs.Region.{Words, Region}
+use Rattle.persist_model.specs.Kinds.{CHECKPOINT}
 use Rattle.persist_model.specs.Progress.{Reaches, Tracks, AreSettledAt, latest}
 use Rattle.persist_model.specs.Runs.{progress_at}
 use Rattle.persist_model.specs.Records.{Record, Log, IsAmong, Has, HasNo, IsOf, IsEnd, IsDeletion, NamesWord, IsRunning, IsEnded, IsCommitted}
@@ -89,7 +90,7 @@ pub record IsClosingGroup (shape : Shape) (s : State) (heap : Words) (p : ℕ) (
   pub force : shape.policy ≢ 2
   pub groups : AreGroups s.log gates ends []
   pub here : (r : Record) → IsAmong s.log r → IsListed gates ends [] r → part_of shape r.at ≡ p
-  pub ended : (r : Record) → IsAmong s.log r → IsListed gates ends [] r → (r.kind ≢ 5) × IsEnded s.log r.transaction
+  pub ended : (r : Record) → IsAmong s.log r → IsListed gates ends [] r → (r.kind ≢ CHECKPOINT) × IsEnded s.log r.transaction
   pub whole : (e : Record) → IsAmong s.log e → IsListed gates ends [] e → IsEnd e → (r : Record) → IsAmong s.log r → IsOf e.transaction r → IsListed gates ends [] r
   pub zero : (r : Record) → IsAmong s.log r → IsListed gates ends [] r → IsDeletion r → IsCommitted s.log r.transaction → heap r.word ≡ 0
 

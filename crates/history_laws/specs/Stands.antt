@@ -1,6 +1,7 @@
 -- What an image stands for: the history, and some of the commits that are in flight.
 use Rattle.std.specs.Prelude.{◌⊎◌, ℕ, ◌<◌, ◌≤◌, Bool, false, ◌==◌, ◌&&◌, ◌||◌, if◌then◌else◌, List, [], ◌∷◌, ◌++◌}
 use Rattle.persist_model.specs.Region.{Words}
+use Rattle.persist_model.specs.Kinds.{COMMITTED, END}
 use Rattle.persist_model.specs.Records.{Record, Log}
 use Rattle.persist_model.specs.Order.{is_kind_of}
 use Rattle.persist_model.specs.Shape.{shape_of, IsHeapWord, IsShape}
@@ -11,7 +12,7 @@ use Rattle.history_laws.specs.Histories.{Entry, fold}
 
 -- r is a committed end of t
 abbrev pub is_commit_of : ℕ → Record → Bool
-is_commit_of t r = is_kind_of t 4 r && (r.outcome == 1)
+is_commit_of t r = is_kind_of t END r && (r.outcome == COMMITTED)
 
 -- a committed end of t is in the log
 abbrev pub has_commit : ℕ → Log → Bool

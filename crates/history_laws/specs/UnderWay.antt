@@ -6,13 +6,13 @@ use Rattle.persist_model.specs.Shape.{Shape, part_of}
 use Rattle.atomic_list.specs.declared.plans.Remove.{Remove}
 use Rattle.region_layout.specs.declared.cell.Cell.{Cell}
 use Rattle.bucket_log.specs.declared.append.Place.{Place}
-use Rattle.bucket_log.specs.declared.parts.Update.{Update}
-use Rattle.bucket_log.specs.declared.parts.Giving.{Giving}
+use Rattle.plan_records.specs.declared.parts.Update.{Update}
+use Rattle.plan_records.specs.declared.parts.Giving.{Giving}
 use Rattle.bucket_log.specs.Appends.{region_append}
 use Rattle.log_clearing.specs.Plans.{closing_plan}
 use Rattle.log_clearing.specs.Closed.{IsListed}
 use Rattle.log_clearing.specs.Removals.{region_removal}
-use Rattle.plan_records.specs.declared.cells.Outcome.TheVariants.{Committed, RolledBack}
+use Rattle.persist_model.specs.declared.kinds.Outcome.TheVariants.{Committed, RolledBack}
 use Rattle.plan_records.specs.Cells.{cell_of_update, cell_of_compensation, cell_of_rollback, cell_of_end, cell_of_deletion, appended}
 
 -- the record of a transaction that an append adds; a compensation has the update that it undoes, and a cell with that one's fields

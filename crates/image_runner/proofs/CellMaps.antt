@@ -5,10 +5,10 @@ use Rattle.std.proofs.lemmas.Bool.{lt-ltb, le-ltb, cases_lt, eq-eqb}
 use Rattle.std.proofs.lemmas.Bool.Decides.{eqb_tells}
 use Rattle.persist_model.specs.Region.{Words}
 use Rattle.lane_traits.specs.Device.{MAX_WORDS}
-use Rattle.lane_traits.specs.Space.{IsOwn, IsDataWord}
+use Rattle.lane_traits.specs.Space.{IsOwn, IsDataWordOf}
 use Rattle.lane_traits.specs.declared.words.Pair.{Pair}
 use Rattle.region_layout.specs.declared.layout.Kind.TheVariants.{Cells}
-use Rattle.region_layout.specs.FiniteMap.{FiniteMap, AreAfter, IsAscending, lookup}
+use Rattle.region_layout.specs.FiniteMap.{FiniteMap, AreAfter, HasAscendingKeys, lookup}
 use Rattle.region_layout.specs.HeapBlocks.{land_of, root_of}
 use Rattle.region_layout.specs.CellsMap.{cell_of, value_or_none, IsCellsMap}
 use Rattle.region_layout.specs.Contents.{IsMap}
@@ -34,7 +34,7 @@ module _ (words : List ℕ) (heap structure blocks : ℕ) (size : length words �
   own_number b own = let place = own.0.place in let lt = own_below b own in omega (arith, size, place, lt)
 
   -- a data word of its blocks is in the region
-  pub data_inside : (a : ℕ) → IsDataWord (land_of heap (slice_index words) structure) a → nat_lt a (heap + 16 * blocks) ≡ true
+  pub data_inside : (a : ℕ) → IsDataWordOf (land_of heap (slice_index words) structure) a → nat_lt a (heap + 16 * blocks) ≡ true
   data_inside a d =
       let place = d.place in
       let below = d.below in
@@ -79,7 +79,7 @@ after_push : (key n v : ℕ) (m : FiniteMap) → key < n → AreAfter key m → 
 after_push key n v [] lt h = (lt, tt)
 after_push key n v (p ∷ ps) lt h = (h.0, after_push key n v ps lt h.1)
 
-ascending_push : (n v : ℕ) (m : FiniteMap) → AreKeysBelow n m → IsAscending m → IsAscending (m ++ (n, v) ∷ [])
+ascending_push : (n v : ℕ) (m : FiniteMap) → AreKeysBelow n m → HasAscendingKeys m → HasAscendingKeys (m ++ (n, v) ∷ [])
 ascending_push n v [] below h = (tt, tt)
 ascending_push n v (p ∷ ps) below h = (after_push p.0 n v ps below.0 h.0, ascending_push n v ps below.1 h.1)
 
@@ -137,7 +137,7 @@ module _ (n : ℕ) (w : Words) (root : ℕ) (pairs : List Pair) (h : AreCellsBel
       let v : ℕ = w (cell_of root n) in
       let pushed : entries_of (pairs ++ record { key = n; value = w (cell_of root n) } ∷ []) ≡ entries_of pairs ++ (n, w (cell_of root n)) ∷ [] = map-append _ pairs _ in
       record {
-        ascending = subst IsAscending (sym pushed) (ascending_push n (w (cell_of root n)) (entries_of pairs) h.below h.ascending);
+        ascending = subst HasAscendingKeys (sym pushed) (ascending_push n (w (cell_of root n)) (entries_of pairs) h.below h.ascending);
         below = subst (AreKeysBelow (n + 1)) (sym pushed) (keys_push n (w (cell_of root n)) (entries_of pairs) h.below);
         lookup_is = λ key. ap (lookup key) pushed ∙ elim (eqb_tells key n) [
           | inl same ↦ (let e : n ≡ key = sym same.1 in

@@ -10,7 +10,7 @@ use Rattle.persist_model.specs.State.{State}
 use Rattle.persist_model.specs.Sound.{HasState, IsSound}
 use Rattle.persist_model.proofs.Images.{AreFull, get_or-newest_words, length-newest_words, settled_is}
 use Rattle.log_laws.proofs.Soundness.{standing_is_one}
-use Rattle.recovery_run.specs.Edges.{HasOneValue, KeepsWords, IsHeaderWord}
+use Rattle.recovery_run.specs.Edges.{HasOnlyValue, KeepsWords, IsPlainHeaderWord}
 use Rattle.recovery_run.specs.Reached.{newest_at}
 use Rattle.recovery_run.proofs.Reaching.{newest_one}
 use Rattle.recovery_passes.specs.Recovered.{IsFinished, Restores, StandsAsIn, EachStands}
@@ -40,18 +40,18 @@ shape_loaded words cells shape is same = same ∙ sym (ap (λ (w : Words). shape
 list_words_low : (p : ℕ) → 8 ≤ list_words p
 list_words_low p = elim (p == 0) as (λ b. 8 ≤ (if b then 8 else 16 + 5 * p)) [ true ↦ omega arith | false ↦ omega arith ]
 
-header_word : (shape : Shape) (a : ℕ) → a ≤ 6 → IsHeaderWord shape a
+header_word : (shape : Shape) (a : ℕ) → a ≤ 6 → IsPlainHeaderWord shape a
 header_word shape a low = record {
   below = omega arith;
   apart = λ p within. inl (omega (arith, list_words_low p));
 }
 
-one_loaded : (words : List ℕ) (a : ℕ) → HasOneValue (slice_index words a) ((loaded words).at a)
+one_loaded : (words : List ℕ) (a : ℕ) → HasOnlyValue (slice_index words a) ((loaded words).at a)
 one_loaded words a x (inl same) = sym same
 one_loaded words a x (inr none) = absurd none
 
 module _ (words : List ℕ) (later : Region) (full : AreFull later) (size : later.size ≡ length words) (enough : 32 ≤ length words)
-    (header : KeepsWords (IsHeaderWord (shape_of (slice_index words))) (loaded words) later) where
+    (header : KeepsWords (IsPlainHeaderWord (shape_of (slice_index words))) (loaded words) later) where
   header_kept : (a : ℕ) → a ≤ 6 → newest_at later a ≡ slice_index words a
   header_kept a low =
       get_or-newest_words later a (omega arith)
@@ -128,7 +128,7 @@ each_stands w region settled finished restored shape words image =
 -- ---- all of it
 
 pub recovered_by : (words : List ℕ) (later : Region) → AreFull later → later.size ≡ length words → IsSound (length words) (slice_index words)
-    → KeepsWords (IsHeaderWord (shape_of (slice_index words))) (loaded words) later → Restores (slice_index words) (newest_at later)
+    → KeepsWords (IsPlainHeaderWord (shape_of (slice_index words))) (loaded words) later → Restores (slice_index words) (newest_at later)
     → AreSettled later → IsFinished later.size (newest_at later) → IsRecovered (slice_index words) later
 recovered_by words later full size sound header restored settled finished =
     let shape = shape_kept words later full size sound.shape.enough header in

@@ -12,7 +12,7 @@ use Rattle.lane_traits.specs.declared.words.Pair.{Pair}
 use Rattle.region_layout.specs.declared.layout.Kind.TheVariants.{Tree, Hash}
 use Rattle.region_layout.specs.FiniteMap.{FiniteMap}
 use Rattle.persist_hash.specs.Calls.{HasMap, Holds as HoldsHash}
-use Rattle.persist_tree.specs.Calls.{IsMap as HasTree, Holds as HoldsTree}
+use Rattle.persist_tree.specs.Calls.{HoldsMap as HasTree, Holds as HoldsTree}
 use Rattle.image_runner.specs.Reader.{space_of}
 use Rattle.image_runner.specs.Maps.{entries_of, HoldFrom, AreMapsFrom}
 

@@ -9,7 +9,7 @@ use Rattle.region_layout.specs.declared.reading.ImageFault.{ImageFault}
 use Rattle.image_text.specs.declared.image.Image.{Image}
 use Rattle.image_text.specs.Written.{IsWritable}
 use Rattle.image_text.specs.Grammar.{image as image_of_text}
-use Rattle.recovery_run.specs.Edges.{KeepsWords, IsHeaderWord}
+use Rattle.recovery_run.specs.Edges.{KeepsWords, IsPlainHeaderWord}
 use Rattle.recovery_run.specs.Reached.{newest_at}
 use Rattle.recovery_passes.specs.declared.recovering.Recovered.{Recovered}
 use Rattle.recovery_passes.specs.Recovered.{IsFinished, Restores, EachStands, AreFates, AreFew}
@@ -37,7 +37,7 @@ pub record HasFinished (cells later : Region) (counts later_counts : Counts) (do
   pub events : later_counts ≡ record counts { events = counts.events + done.events }
   pub few : AreFew (newest_at cells) done.events
   pub again : IsFinished cells.size (newest_at cells) → done.events ≡ 0
-  pub header : KeepsWords (IsHeaderWord (shape_of (newest_at cells))) cells later
+  pub header : KeepsWords (IsPlainHeaderWord (shape_of (newest_at cells))) cells later
 
 -- what a stopped one owes
 pub record HasHalted (cells later : Region) (counts later_counts : Counts) : Type 0 where
@@ -82,9 +82,9 @@ module _ (i : Image) (cells later : Region) (before counts later_counts : Counts
     restored_is : Restores (words_of i) (newest_at later)
     restored_is = there (λ n w. Restores w (newest_at later)) h.restored
 
-    header_is : KeepsWords (IsHeaderWord (shape_of (words_of i))) (loaded i.words) later
-    header_is = subst (λ (r : Region). KeepsWords (IsHeaderWord (shape_of (words_of i))) r later) is_loaded
-        (there (λ n w. KeepsWords (IsHeaderWord (shape_of w)) cells later) h.header)
+    header_is : KeepsWords (IsPlainHeaderWord (shape_of (words_of i))) (loaded i.words) later
+    header_is = subst (λ (r : Region). KeepsWords (IsPlainHeaderWord (shape_of (words_of i))) r later) is_loaded
+        (there (λ n w. KeepsWords (IsPlainHeaderWord (shape_of w)) cells later) h.header)
 
     pub recovered_is : IsRecovered (words_of i) later
     recovered_is = recovered_by i.words later full size_is admitted.sound header_is restored_is h.settled h.finished

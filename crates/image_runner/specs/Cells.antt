@@ -2,7 +2,7 @@
 use Rattle.std.specs.Prelude.{◌≡◌, ◌↔◌, ℕ, ◌+◌, ◌*◌, ◌<◌, List, [], ◌∷◌, ◌++◌, None, if◌then◌else◌, ◌==◌, nat_lt}
 use Rattle.persist_model.specs.Region.{Words}
 use Rattle.lane_traits.specs.declared.words.Pair.{Pair}
-use Rattle.region_layout.specs.FiniteMap.{FiniteMap, IsAscending, lookup}
+use Rattle.region_layout.specs.FiniteMap.{FiniteMap, HasAscendingKeys, lookup}
 use Rattle.region_layout.specs.CellsMap.{cell_of, value_or_none}
 use Rattle.image_runner.specs.Maps.{entries_of}
 
@@ -21,6 +21,6 @@ AreKeysBelow n (p ∷ ps) = (p.0 < n) × AreKeysBelow n ps
 
 -- the pairs of the cells with the first n keys
 pub record AreCellsBelow (n : ℕ) (w : Words) (root : ℕ) (pairs : List Pair) : Type 0 where
-  pub ascending : IsAscending (entries_of pairs)
+  pub ascending : HasAscendingKeys (entries_of pairs)
   pub below : AreKeysBelow n (entries_of pairs)
   pub lookup_is : (key : ℕ) → lookup key (entries_of pairs) ≡ (if nat_lt key n then value_or_none (w (cell_of root key)) else None)

@@ -2,7 +2,7 @@
 use Rattle.std.proofs.Common.{◌≡◌, ◌⊎◌, inl, inr, ⊎_elim, ℕ, ◌+◌, ◌-◌, ◌/◌, ◌≤◌, Bool, true, false, ◌||◌, List, [], ◌∷◌, ◌++◌, length, if◌then◌else◌, ◌==◌, refl, append-nil, Option, Some, None, option_to_list, Result, Ok, Err, OnOk, OnErr, sym, ◌∙◌, ap, subst, arith}
 use Rattle.std.proofs.lemmas.Bool.Decides.{eqb_tells}
 use Rattle.persist_model.specs.Records.{IsAmong}
-use Rattle.lane_traits.specs.Space.{Land, Space, IsOwn, IsDataWord, IsTaken, put_word, written, taken, given}
+use Rattle.lane_traits.specs.Space.{Land, Space, IsOwn, IsDataWordOf, IsTaken, put_word, written, taken, given}
 use Rattle.lane_traits.specs.declared.draft.WordWrite.{WordWrite}
 use Rattle.persist_model.specs.Chain.{HasNoRepeats}
 use Rattle.lane_traits.specs.Draft.{is_among, addresses, after_writes, last_writes, of_structure, drafted, at_start, IsOwnAt, IsDataAt, IsChange, block_before}
@@ -29,12 +29,12 @@ at_own land b own = (
 )
 
 -- the block of a data word is found by its address
-block_is : (land : Land) (a : ℕ) (word : IsDataWord land a) → word.block ≡ block_before land a
+block_is : (land : Land) (a : ℕ) (word : IsDataWordOf land a) → word.block ≡ block_before land a
 block_is land a word =
     let block = word.own.0.place in let place = word.place in let above = word.above in let below = word.below in
     omega (arith, block, place, above, below)
 
-pub data_at : (land : Land) (a : ℕ) → IsDataWord land a → IsDataAt land a
+pub data_at : (land : Land) (a : ℕ) → IsDataWordOf land a → IsDataAt land a
 data_at land a word =
     let e = block_is land a word in
     let place = word.place in let above = word.above in let below = word.below in
@@ -44,7 +44,7 @@ data_at land a word =
       below = omega (arith, e, place, below);
     }
 
-pub at_data : (land : Land) (a : ℕ) → IsDataAt land a → IsDataWord land a
+pub at_data : (land : Land) (a : ℕ) → IsDataAt land a → IsDataWordOf land a
 at_data land a word =
     let above = word.above in let below = word.below in
     record {
@@ -211,7 +211,7 @@ change_is base structure log writes gives spare own apart once within is = recor
       at.owned,
     )
 
-    started_word : (a : ℕ) → IsDataAt (of_structure structure base.land) a → IsDataWord (at_start (drafted structure log gives spare base).land) a
+    started_word : (a : ℕ) → IsDataAt (of_structure structure base.land) a → IsDataWordOf (at_start (drafted structure log gives spare base).land) a
     started_word a word = record {
       block = block_before base.land a;
       index = a - block_before base.land a;

@@ -2,7 +2,7 @@
 use Rattle.std.proofs.Common.{◌≡◌, ◌≢◌, inl, inr, ℕ, ◌+◌, ◌-◌, ◌*◌, ◌<◌, Bool, true, false, if◌then◌else◌, ◌==◌, List, [], ◌∷◌, Result, Ok, Err, refl, sym, ◌∙◌, ap, subst, lit<, lit≤, arith}
 use Rattle.std.specs.Prelude.{OnOk, OnErr, IfOk}
 use Rattle.persist_model.specs.Records.{IsAmong}
-use Rattle.lane_traits.specs.Space.{Land, Space, IsBlock, IsOwn, IsDataWord, IsTaken, taken, given}
+use Rattle.lane_traits.specs.Space.{Land, Space, IsBlock, IsOwn, IsDataWordOf, IsTaken, taken, given}
 use Rattle.lane_traits.specs.Draft.{of_structure, drafted, AreSetAside}
 use Rattle.lane_traits.proofs.Among.{same_eq, apart_eq}
 
@@ -49,7 +49,7 @@ pub first_own : IsOwn (drafted 0 [] [] three numbered).land 16
 first_own = (record { number = 1; place = refl; positive = lit< tt; fits = lit≤ tt }, refl)
 
 -- the words of the block at 16
-pub within_first : (land : Land) (a : ℕ) → IsOwn land 16 → 16 < a → a < 32 → IsDataWord land a
+pub within_first : (land : Land) (a : ℕ) → IsOwn land 16 → 16 < a → a < 32 → IsDataWordOf land a
 within_first land a own above below = record {
   block = 16;
   index = a - 16;

@@ -4,7 +4,7 @@ use Rattle.persist_model.specs.Region.{Words}
 use Rattle.persist_model.specs.Records.{IsAmong}
 use Rattle.persist_model.specs.Chain.{HasNoRepeats}
 use Rattle.lane_traits.specs.Device.{MAX_WORDS}
-use Rattle.lane_traits.specs.Space.{Land, Space, IsOwn, IsDataWord, put_word}
+use Rattle.lane_traits.specs.Space.{Land, Space, IsOwn, IsDataWordOf, put_word}
 use Rattle.lane_traits.specs.declared.draft.WordWrite.{WordWrite}
 
 -- b is in the list
@@ -92,7 +92,7 @@ pub record IsChange (s : Space) (writes : List WordWrite) (gives : List ℕ) : T
   pub words : after_writes writes s.land.start.word ≡ s.word
   pub fewer : length writes ≤ s.writes
   -- it is a data word of what was the structure's at the beginning
-  pub within : (a : ℕ) → IsAmong (addresses writes) a → IsDataWord (at_start s.land) a
+  pub within : (a : ℕ) → IsAmong (addresses writes) a → IsDataWordOf (at_start s.land) a
   -- each block that was given was the structure's at the beginning, and can't be taken
   pub given_once : HasNoRepeats gives
   pub given : (b : ℕ) → IsAmong gives b → IsOwn (at_start s.land) b × (IsAmong s.spare b → ⊥)

@@ -6,7 +6,7 @@ use Rattle.std.proofs.Math.Nat.{suc-ne-zero}
 use Rattle.std.proofs.Math.Numerals.{add-one}
 use Rattle.persist_model.specs.Records.{IsAmong}
 use Rattle.persist_model.specs.Chain.{HasNoRepeats, IsAbsent}
-use Rattle.lane_traits.specs.Space.{Space, IsOwn, IsDataWord, AreSpare}
+use Rattle.lane_traits.specs.Space.{Space, IsOwn, IsDataWordOf, AreSpare}
 use Rattle.lane_traits.specs.declared.draft.WordWrite.{WordWrite}
 use Rattle.lane_traits.specs.Draft.{is_among, of_structure, drafted, IsOwnAt}
 
@@ -46,7 +46,7 @@ own_below base structure log gives spare b own = (
 )
 
 pub data_below : (base : Space) (structure : ℕ) (log : List WordWrite) (gives spare : List ℕ) (a : ℕ)
-    → IsDataWord (drafted structure log gives spare base).land a → IsDataWord (of_structure structure base.land) a
+    → IsDataWordOf (drafted structure log gives spare base).land a → IsDataWordOf (of_structure structure base.land) a
 data_below base structure log gives spare a word = record {
   block = word.block;
   index = word.index;

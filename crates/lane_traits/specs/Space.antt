@@ -38,7 +38,7 @@ abbrev pub IsOwn : Land → ℕ → Type 0
 IsOwn land b = IsBlock land b × (land.owner b ≡ land.structure + 1)
 
 -- a data word of the structure's blocks
-pub record IsDataWord (land : Land) (a : ℕ) : Type 0 where
+pub record IsDataWordOf (land : Land) (a : ℕ) : Type 0 where
   pub block : ℕ
   pub index : ℕ
   pub own : IsOwn land block

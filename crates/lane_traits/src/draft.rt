@@ -3,7 +3,7 @@ ghost use Rattle.std.specs.List.{position};
 ghost use Rattle.persist_model.specs.Region.{Words};
 ghost use Rattle.persist_model.specs.Records.{IsAmong};
 ghost use Rattle.persist_model.specs.Chain.{HasNoRepeats};
-ghost use Rattle.lane_traits.specs.Space.{Space, IsDataWord};
+ghost use Rattle.lane_traits.specs.Space.{Space, IsDataWordOf};
 ghost use Rattle.lane_traits.specs.Draft.{addresses, has_address, after_writes, noted, last_writes, of_structure, drafted, IsOwnAt, IsDataAt};
 ghost use Rattle.lane_traits.specs.DraftLaws.{HasNoRepeats-prop};
 
@@ -43,7 +43,7 @@ pub struct Draft<R: Reads> {
     ghost spare_once: { HasNoRepeats spare } by { HasNoRepeats-prop spare },
     ghost gives_once: { HasNoRepeats gives } by { HasNoRepeats-prop gives },
     ghost own_writes: { (a : ℕ) → IsAmong (addresses log.items) a → IsDataAt (of_structure structure (R.space base).land) a },
-    ghost can_read: { (a : ℕ) → IsDataWord (of_structure structure (R.space base).land) a → IsTrue (R.readable base a) },
+    ghost can_read: { (a : ℕ) → IsDataWordOf (of_structure structure (R.space base).land) a → IsTrue (R.readable base a) },
 }
 
 // The value that the last of these writes gives a word.
@@ -109,7 +109,7 @@ fn last_of_each(mut log: Vec<WordWrite>) -> List<WordWrite>
 
 impl<R: Reads> Draft<R> {
     ghost use Rattle.std.specs.Prelude.{◌≡◌, ℕ, [], IsTrue};
-    ghost use Rattle.lane_traits.specs.Space.{Space, IsDataWord};
+    ghost use Rattle.lane_traits.specs.Space.{Space, IsDataWordOf};
     ghost use Rattle.lane_traits.specs.Draft.{of_structure, drafted, AreSetAside, IsChange, last_writes};
     ghost use Rattle.lane_traits.specs.Drafts.{writes_made, gives_made};
 
@@ -117,7 +117,7 @@ impl<R: Reads> Draft<R> {
     /// nobody's.
     pub fn new(alloc: Global, base: R, structure: u32, spare: List<u32>) -> Self
         requires set_aside { AreSetAside (of_structure structure (R.space base).land) spare }
-        requires can_read { (a : ℕ) → IsDataWord (of_structure structure (R.space base).land) a → IsTrue (R.readable base a) }
+        requires can_read { (a : ℕ) → IsDataWordOf (of_structure structure (R.space base).land) a → IsTrue (R.readable base a) }
         ensures space { ⟦<Draft<R> as Reads>⟧.space result ≡ drafted structure [] [] spare (R.space base) }
         ensures writes { writes_made result ≡ [] }
         ensures gives { gives_made result ≡ [] }
@@ -185,12 +185,12 @@ impl<R: Reads> Reads for Draft<R> {
 
 impl<R: Reads> Words for Draft<R> {
     ghost use Rattle.std.specs.Prelude.{◌≡◌, ◌↔◌, ◌∷◌, ◌++◌, [], OnOk, OnErr, IfOk, Err};
-    ghost use Rattle.lane_traits.specs.Space.{Space, IsDataWord, IsOwn, IsTaken, written, given};
+    ghost use Rattle.lane_traits.specs.Space.{Space, IsDataWordOf, IsOwn, IsTaken, written, given};
     ghost use Rattle.lane_traits.specs.Drafts.{writes_made, gives_made};
     ghost use Rattle.lane_traits.specs.DraftLaws.{data_below, are_spare};
 
     fn write(&mut self, a: u32, v: u64) -> Result<(), WordsRefusal>
-        requires { IsDataWord (⟦<Draft<R> as Reads>⟧.space self.old).land a }
+        requires { IsDataWordOf (⟦<Draft<R> as Reads>⟧.space self.old).land a }
         ensures made { OnOk result (⟦<Draft<R> as Reads>⟧.space self.new ≡ written a v (⟦<Draft<R> as Reads>⟧.space self.old)) }
         ensures refused { OnErr result (⟦<Draft<R> as Reads>⟧.space self.new ≡ ⟦<Draft<R> as Reads>⟧.space self.old) }
         ensures memory { OnErr result (result ≡ Err WordsRefusal.NoMemory) }

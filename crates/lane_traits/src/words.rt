@@ -1,5 +1,5 @@
 ghost use Rattle.std.specs.Prelude.{◌≡◌, ◌↔◌, ℕ, Bool, IsTrue, OnOk, OnErr, IfOk, Err, []};
-ghost use Rattle.lane_traits.specs.Space.{Space, IsDataWord, IsOwn, IsTaken, AreSpare, written, given};
+ghost use Rattle.lane_traits.specs.Space.{Space, IsDataWordOf, IsOwn, IsTaken, AreSpare, written, given};
 
 use persist_model::NoMemory;
 
@@ -49,7 +49,7 @@ pub trait Reads {
 pub trait Words: Reads {
     /// The word is then this value. It is refused for want of memory alone.
     fn write(&mut self, a: u32, v: u64) -> Result<(), WordsRefusal>
-        requires { IsDataWord (Self.space self.old).land a }
+        requires { IsDataWordOf (Self.space self.old).land a }
         ensures made { OnOk result (Self.space self.new ≡ written a v (Self.space self.old)) }
         ensures refused { OnErr result (Self.space self.new ≡ Self.space self.old) }
         ensures memory { OnErr result (result ≡ Err WordsRefusal.NoMemory) };
@@ -68,7 +68,7 @@ pub trait Words: Reads {
         ensures memory { OnErr result (result ≡ Err WordsRefusal.NoMemory) };
 
     /// The data words of the structure's blocks can be read.
-    ghost own_readable: { (words : Self) (a : ℕ) → IsDataWord (Self.space words).land a → IsTrue (Self.readable words a) };
+    ghost own_readable: { (words : Self) (a : ℕ) → IsDataWordOf (Self.space words).land a → IsTrue (Self.readable words a) };
 
     /// What can be taken are blocks of nobody, each once.
     ghost spare_apart: { (words : Self) → AreSpare (Self.space words) };

@@ -18,7 +18,7 @@ use Rattle.log_laws.proofs.Moving.{moves_keep}
 use Rattle.log_clearing.specs.Plans.{closing_plan}
 use Rattle.log_clearing.specs.Closed.{AreGroups, IsListed}
 use Rattle.log_clearing.specs.Clearing.{ClosingLeaves, ClosingsKeep, DroppingsKeep, ClosingsClear, ClosingsEnd}
-use Rattle.log_clearing.proofs.Closing.{closed, latest_zero, latest_away, closing_ends}
+use Rattle.log_clearing.proofs.ClosingWords.{closed, latest_zero, latest_away, closing_ends}
 use Rattle.log_clearing.proofs.ClosedStates.{part_in, part_map}
 use Rattle.log_clearing.proofs.ClosingImages.{closing_image}
 

@@ -14,7 +14,7 @@ use Rattle.atomic_list.proofs.Parts.{whole_bucket_fits}
 use Rattle.region_layout.specs.declared.layout.Layout.{Layout}
 use Rattle.region_layout.specs.Layout.{layout_shape}
 use Rattle.bucket_log.specs.Reads.{IsLogOf}
-use Rattle.bucket_log.proofs.Appending.{Each-among, IsAmong-cases, among_last}
+use Rattle.bucket_log.proofs.AppendImages.{Each-among, IsAmong-cases, among_last}
 use Rattle.bucket_log.proofs.Walking.{IsGoodChain, good_chain, same_chain, same_below, IsWalked, IsAtEnd, walk_goes_to, walk_goes_on, walk_stops}
 use Rattle.log_clearing.specs.Dropping.{IsFirstClosed, IsRemovalOf}
 

@@ -4,7 +4,7 @@ use Rattle.std.proofs.lemmas.Bool.{cases_lt}
 use Rattle.std.proofs.lemmas.Bool.Decides.{nat_tests, eqb_tells}
 use Rattle.persist_model.specs.Region.{Words}
 use Rattle.persist_model.specs.Records.{Record, Log, IsAmong, Has, IsNewestFirst, IsEnd, IsCheckpoint}
-use Rattle.log_laws.specs.Closing.{IsPart, empty, stays, goes, IsClosedBy}
+use Rattle.log_laws.specs.Closing.{IsSublog, empty, stays, goes, IsClosedBy}
 use Rattle.persist_model.specs.Shape.{Shape, IsBucketOf, bucket_size, count_buckets, list_words}
 use Rattle.persist_model.specs.ImageRecords.{cell_address, record_at, IsRecordOf, AreRecords}
 use Rattle.persist_model.specs.Chain.{Each, view, last_or, ListRules}
@@ -45,14 +45,14 @@ each_among P [] b h m = absurd m
 each_among P (x ∷ xs) b h (inl e) = subst P (sym e) h.0
 each_among P (x ∷ xs) b h (inr m) = each_among P xs b h.1 m
 
-pub part_in : (P : Record → Type 0) (later log : Log) → IsPart P later log → (r : Record) → IsAmong log r → (P r → ⊥) → IsAmong later r
+pub part_in : (P : Record → Type 0) (later log : Log) → IsSublog P later log → (r : Record) → IsAmong log r → (P r → ⊥) → IsAmong later r
 part_in P _ _ empty r m off = m
 part_in P _ _ (stays x {later = later} {log = log} part) r (inl e) off = inl e
 part_in P _ _ (stays x {later = later} {log = log} part) r (inr m) off = inr (part_in P later log part r m off)
 part_in P _ _ (goes x {later = later} {log = log} p part) r (inl e) off = absurd (off (subst P (sym e) p))
 part_in P _ _ (goes x {later = later} {log = log} p part) r (inr m) off = part_in P later log part r m off
 
-pub part_map : (P Q : Record → Type 0) (later log : Log) → ((r : Record) → IsAmong log r → P r → Q r) → IsPart P later log → IsPart Q later log
+pub part_map : (P Q : Record → Type 0) (later log : Log) → ((r : Record) → IsAmong log r → P r → Q r) → IsSublog P later log → IsSublog Q later log
 part_map P Q _ _ f empty = empty
 part_map P Q _ _ f (stays r {later = later} {log = log} part) = stays r (part_map P Q later log (λ s m. f s (inr m)) part)
 part_map P Q _ _ f (goes r {later = later} {log = log} p part) = goes r (f r (inl refl) p) (part_map P Q later log (λ s m. f s (inr m)) part)
@@ -165,7 +165,7 @@ module _ (shape : Shape) (few : shape.partitions ≤ 3) (w v : Words) (log : Log
   decide_shut r m = elim (eqb_tells (v r.at) 0) [ inl e ↦ inl e.1 | inr ne ↦ inr ne.1 ]
 
   -- what stays open
-  pub left : (later : Log) × IsPart IsShut later log × IsNewestFirst later × ((r : Record) → IsAmong later r → IsShut r → ⊥)
+  pub left : (later : Log) × IsSublog IsShut later log × IsNewestFirst later × ((r : Record) → IsAmong later r → IsShut r → ⊥)
   left = left_open IsShut log decide_shut records.newest_first
 
   open_same : (a : ℕ) → v a ≢ 0 → v a ≡ w a

@@ -13,7 +13,7 @@ use Rattle.persist_model.specs.State.{State}
 use Rattle.persist_model.specs.Sound.{HasState, room_of}
 use Rattle.log_clearing.specs.Plans.{closing_plan}
 use Rattle.log_clearing.specs.Closed.{IsClosedIn, AreGroups, IsListed}
-use Rattle.log_clearing.proofs.Closing.{closing_words}
+use Rattle.log_clearing.proofs.ClosingWords.{closing_words}
 use Rattle.log_clearing.proofs.ClosedStates.{left, lists_closed, removed_closed, records_closed, is_closed_by, more_room}
 
 -- on the log words, 0 behind

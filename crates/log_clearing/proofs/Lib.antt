@@ -1,5 +1,5 @@
 pub mod PlanEvents
-pub mod Closing
+pub mod ClosingWords
 pub mod ClosedStates
 pub mod ClosingImages
 pub mod ClearingStates

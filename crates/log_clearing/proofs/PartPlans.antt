@@ -18,7 +18,7 @@ use Rattle.region_layout.specs.Layout.{IsAllowed}
 use Rattle.bucket_log.specs.Words.{IsLogWord, IsPartWord}
 use Rattle.bucket_log.specs.PartWords.{AreOnPart}
 use Rattle.bucket_log.proofs.Addresses.{list_word_is_log_word}
-use Rattle.bucket_log.proofs.Appending.{Each-among}
+use Rattle.bucket_log.proofs.AppendImages.{Each-among}
 use Rattle.bucket_log.proofs.ListFacts.{list_plan_stores}
 use Rattle.bucket_log.proofs.Partitions.{log_word_out, part_of_cell}
 use Rattle.bucket_log.proofs.PartWords.{on_part, own_words_take, gate_same, bucket_of}

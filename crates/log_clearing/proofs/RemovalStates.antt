@@ -29,7 +29,7 @@ use Rattle.region_layout.specs.Layout.{IsAllowed}
 use Rattle.bucket_log.specs.Words.{IsLogWord, IsPartWord, SameRecords}
 use Rattle.bucket_log.proofs.Addresses.{list_word_is_no_cell, list_word_is_log_word, cell_word_is_log_word}
 use Rattle.bucket_log.proofs.Appended.{AreOnLog-stores, AreDurable-out, inside_log, log_reaches}
-use Rattle.bucket_log.proofs.Appending.{Each-among, among_last}
+use Rattle.bucket_log.proofs.AppendImages.{Each-among, among_last}
 use Rattle.bucket_log.proofs.ListFacts.{list_plan_stores, chain_few}
 use Rattle.bucket_log.proofs.Partitions.{few_parts, log_word_out, log_word_own, part_word_below, registers_below}
 use Rattle.bucket_log.proofs.PartStates.{part_kept, part_with_room}

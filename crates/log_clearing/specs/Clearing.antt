@@ -7,7 +7,7 @@ use Rattle.persist_model.specs.Records.{Record, Log, IsAmong, Has}
 use Rattle.persist_model.specs.Shape.{Shape, heap, heap_words}
 use Rattle.persist_model.specs.State.{State, IsSoundState}
 use Rattle.persist_model.specs.Sound.{HasState}
-use Rattle.log_laws.specs.Closing.{IsPart, MayClear, IsClosedBy, IsClosing}
+use Rattle.log_laws.specs.Closing.{IsSublog, MayClear, IsClosedBy, IsClosing}
 use Rattle.log_laws.specs.Moves.{IsDeferred}
 use Rattle.log_laws.specs.Recovery.{KeepsStanding}
 use Rattle.log_laws.specs.Recovering.{with_heap}
@@ -48,7 +48,7 @@ pub record IsDropping (shape : Shape) (v : Words) (s : State) (gates : List ℕ)
   pub has : HasState shape v state
   pub sound : IsSoundState shape state
   pub keeps : KeepsStanding shape.policy (with_heap s (heap_words shape v)) state
-  pub part : IsPart (λ d. IsDeferred s.log d × IsAmong gates d.at) state.log s.log
+  pub part : IsSublog (λ d. IsDeferred s.log d × IsAmong gates d.at) state.log s.log
   pub no_less : (p : ℕ) → s.room p ≤ state.room p
 
 -- ---- the laws

@@ -7,7 +7,7 @@ ghost use Rattle.region_layout.specs.Layout.{layout_shape};
 ghost use Rattle.bucket_log.specs.Reads.{IsLogOf};
 ghost use Rattle.log_clearing.specs.Dropping.{IsRemovalOf};
 
-use atomic_list::{Remove, after};
+use atomic_list::{Remove, next_bucket};
 use persist_model::Look;
 use region_layout::Layout;
 
@@ -32,11 +32,11 @@ fn read_removal<W: Look>(words: &W, layout: Layout) -> Option<Remove>
 {
     let mut prev = 0;
     for _ in 0..layout.buckets {
-        let node = after(words, prev);
+        let node = next_bucket(words, prev);
         if node == 0 {
             return None;
         }
-        let next = after(words, node);
+        let next = next_bucket(words, node);
         if next == 0 {
             return None;
         }

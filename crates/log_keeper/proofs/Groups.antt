@@ -9,14 +9,14 @@ use Rattle.persist_model.specs.Chain.{view, out_address}
 use Rattle.persist_model.specs.ImageRecords.{cell_address}
 use Rattle.persist_model.specs.State.{State}
 use Rattle.persist_model.specs.Sound.{HasState}
-use Rattle.log_laws.specs.Closing.{IsPart, empty, stays, goes}
+use Rattle.log_laws.specs.Closing.{IsSublog, empty, stays, goes}
 use Rattle.log_laws.proofs.SameLists.{chain_buckets}
 use Rattle.log_laws.proofs.Views.{out_cases, out_behind, view-out}
 use Rattle.region_layout.specs.Layout.{IsAllowed}
 use Rattle.atomic_list.specs.Rules.{IsListWord}
 use Rattle.atomic_list.proofs.Repairs.{still}
 use Rattle.bucket_log.proofs.Addresses.{list_word_is_no_cell}
-use Rattle.bucket_log.proofs.Appending.{Each-among}
+use Rattle.bucket_log.proofs.AppendImages.{Each-among}
 use Rattle.bucket_log.proofs.Partitions.{few_parts, registers_below}
 use Rattle.bucket_log.proofs.PartStates.{log_words_same}
 use Rattle.log_clearing.specs.Plans.{closing_plan}
@@ -72,7 +72,7 @@ listed_found gates ends checkpoints a h = elim (either (is_in gates a) (is_in en
 
 -- a part of a log without listed records, beyond which are listed ones alone
 left_of : (gates ends checkpoints : List ℕ) (P : Record → Type 0) (later log : Log) → ((r : Record) → P r → is_listed gates ends checkpoints r.at ≡ true) →
-    ((r : Record) → IsAmong later r → is_listed gates ends checkpoints r.at ≡ false) → IsPart P later log → later ≡ left_open gates ends checkpoints log
+    ((r : Record) → IsAmong later r → is_listed gates ends checkpoints r.at ≡ false) → IsSublog P later log → later ≡ left_open gates ends checkpoints log
 left_of gates ends checkpoints P _ _ on off empty = refl
 left_of gates ends checkpoints P _ _ on off (stays r {later = later} {log = log} part) =
     let e = off r (inl refl) in

@@ -1,5 +1,5 @@
 pub mod Progressing
-pub mod Passing
+pub mod EventsPass
 pub mod Ending
 pub mod Groups
 pub mod Ledgers

@@ -14,8 +14,8 @@ with_stage-append : (n : ℕ) (stage : Stage) (xs ys : List Noted) → with_stag
 with_stage-append n stage [] ys = refl
 with_stage-append n stage (x ∷ xs) ys = ap (λ l. (if x.entry.lsn == n then staged x stage else x) ∷ l) (with_stage-append n stage xs ys)
 
-one_staged : (n : ℕ) (stage : Progress) (x : Entry) → noted_of (staged_entry n stage x) ≡ (if x.placed.cell.gate == n then staged (noted_of x) (stage_of stage) else noted_of x)
-one_staged n stage x = by (x.placed.cell.gate == n)
+one_staged : (n : ℕ) (stage : Progress) (x : Entry) → noted_of (staged_entry n stage x) ≡ (if x.placed.cell.lsn == n then staged (noted_of x) (stage_of stage) else noted_of x)
+one_staged n stage x = by (x.placed.cell.lsn == n)
   where
     by : (t : Bool) → noted_of (record { lane = x.lane; placed = x.placed; stage = if t then stage else x.stage }) ≡ (if t then staged (noted_of x) (stage_of stage) else noted_of x)
     by true = refl

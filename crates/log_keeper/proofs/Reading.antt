@@ -14,7 +14,7 @@ use Rattle.atomic_list.proofs.Unique.{chain_is_one}
 use Rattle.persist_model.specs.Shape.{IsBucketOf}
 use Rattle.bucket_log.specs.Words.{IsLogWord, IsPartWord}
 use Rattle.bucket_log.proofs.Appended.{inside_log, next_places_take}
-use Rattle.bucket_log.proofs.Appending.{Each-among, among_last}
+use Rattle.bucket_log.proofs.AppendImages.{Each-among, among_last}
 use Rattle.bucket_log.proofs.Partitions.{part_word_below}
 use Rattle.bucket_log.proofs.PartWords.{own_words_take}
 use Rattle.bucket_log.proofs.Rooms.{room_same}
@@ -23,7 +23,7 @@ use Rattle.log_keeper.specs.Parts.{Running, plan_of}
 use Rattle.log_keeper.specs.Logged.{waiting}
 use Rattle.log_keeper.specs.Laws.{IsAtRestIn, RestingPartsAreRead}
 use Rattle.log_keeper.specs.UnderWay.{UnderWay, nothing, appends, closes, drops, run_of, plan_of as plan_under, made_of, KeepersTrack}
-use Rattle.log_keeper.proofs.Passing.{resting_parts_are_settled}
+use Rattle.log_keeper.proofs.EventsPass.{resting_parts_are_settled}
 
 pub resting_parts_are_read : RestingPartsAreRead
 resting_parts_are_read shape base s chains k region i p inside free h image = record {

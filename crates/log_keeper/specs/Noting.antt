@@ -21,7 +21,7 @@ ledger_of (x ∷ entries) = ledger_of entries ++ noted_of x ∷ []
 
 -- an entry, where its record of this number comes to a stage
 abbrev pub staged_entry : ℕ → Progress → Entry → Entry
-staged_entry n stage x = record { lane = x.lane; placed = x.placed; stage = if x.placed.cell.gate == n then stage else x.stage }
+staged_entry n stage x = record { lane = x.lane; placed = x.placed; stage = if x.placed.cell.lsn == n then stage else x.stage }
 
 -- whether an entry's gate is none of these
 abbrev pub is_kept : List ℕ → List ℕ → List ℕ → Entry → Bool

@@ -10,13 +10,13 @@ use Rattle.persist_model.specs.State.{State}
 use Rattle.atomic_list.specs.declared.plans.Remove.{Remove}
 use Rattle.region_layout.specs.declared.cell.Cell.{Cell}
 use Rattle.bucket_log.specs.declared.append.Place.{Place}
-use Rattle.bucket_log.specs.declared.parts.Update.{Update}
-use Rattle.bucket_log.specs.declared.parts.Giving.{Giving}
+use Rattle.plan_records.specs.declared.parts.Update.{Update}
+use Rattle.plan_records.specs.declared.parts.Giving.{Giving}
 use Rattle.bucket_log.specs.Words.{IsPartWord}
 use Rattle.bucket_log.specs.Appends.{region_append}
 use Rattle.log_clearing.specs.Plans.{closing_plan}
 use Rattle.log_clearing.specs.Removals.{region_removal}
-use Rattle.plan_records.specs.declared.cells.Outcome.TheVariants.{Committed, RolledBack}
+use Rattle.persist_model.specs.declared.kinds.Outcome.TheVariants.{Committed, RolledBack}
 use Rattle.log_keeper.specs.Parts.{rests, appends as adds, closes as shuts, drops as takes_out, Running}
 use Rattle.log_keeper.specs.Logged.{Keeping, waiting, IsLoggedAt}
 use Rattle.plan_records.specs.Cells.{cell_of_update, cell_of_compensation, cell_of_rollback, cell_of_end, cell_of_deletion, appended}

@@ -27,7 +27,7 @@ pub struct Entry {
 fn staged(entry: Entry, number: u64, stage: Progress) -> Entry
     ensures { result ≡ staged_entry number stage entry }
 {
-    if entry.placed.cell.gate == number {
+    if entry.placed.cell.lsn == number {
         Entry { stage, ..entry }
     } else {
         entry

@@ -9,7 +9,7 @@ ghost use Rattle.log_keeper.specs.Fitting.{FitsLayout};
 use atomic_list::{Remove, remove_event};
 use bucket_log::{Place, append_event};
 use log_clearing::{ClearList, clear_event};
-use log_partition::out;
+use log_partition::region_event;
 use persist_model::Event;
 use region_layout::{Cell, Layout};
 
@@ -37,7 +37,7 @@ fn out_some(p: u32, e: Option<Event>) -> Option<Event>
     ensures { result ≡ option_map (out_event p) e }
 {
     match e {
-        Some(event) => Some(out(p, event)),
+        Some(event) => Some(region_event(p, event)),
         None => None,
     }
 }

@@ -5,8 +5,8 @@ use Rattle.persist_model.specs.Region.{Words}
 use Rattle.persist_model.specs.Records.{Record, Log, IsAmong, Has, HasNo, IsRunning, IsCheckpoint, IsLoser}
 use Rattle.persist_model.specs.Standing.{IsToUndo, IsToDelete, IsToRedo, IsLatest, Stands, undone, deleted, redone, kept}
 use Rattle.persist_model.specs.Order.{is_kind_of}
-use Rattle.log_laws.specs.Closing.{IsApplied, MayClose, IsPart, empty, goes, IsClosing}
-use Rattle.log_laws.specs.Recovery.{AreApplied, IsCovered, IsStored}
+use Rattle.log_laws.specs.Closing.{IsApplied, MayClose, IsSublog, empty, goes, IsClosing}
+use Rattle.log_laws.specs.Recovery.{AreApplied, HasDecidingRecord, IsStored}
 use Rattle.log_laws.proofs.Deciding.{has_or_none, decide_to_undo, decide_to_delete, decide_to_redo, decide_equal, ended_or_running, IsDecided}
 use Rattle.log_laws.proofs.Standings.{AreNumbered, stands_one, stands_some, stands_stored}
 use Rattle.log_laws.proofs.Growing.{Descends, IsQuiet, IsAbove, stands_noted}
@@ -140,7 +140,7 @@ pass_applies policy log w falls a = elim (has_or_none (IsToUndo log a) log (deci
     by_case v free (kept nu nd nr e) = e
 
 -- the pass stores to covered words alone
-pub pass_covered : (policy : ℕ) (log : Log) (w : Words) (a : ℕ) → (passed_words policy log w a ≡ w a) ⊎ IsCovered policy log a
+pub pass_covered : (policy : ℕ) (log : Log) (w : Words) (a : ℕ) → (passed_words policy log w a ≡ w a) ⊎ HasDecidingRecord policy log a
 pass_covered policy log w a = elim (has_or_none (IsToDelete log a) log (decide_to_delete log a)) [
   | inl d ↦ inr (inr (inl d))
   | inr nd ↦ elim (has_or_none (IsToRedo policy log a) log (decide_to_redo policy log a)) [
@@ -198,7 +198,7 @@ all_may_close policy log w r over applied m = record {
   skips = λ check e k end lt s j of. j;
 }
 
-all_go : (P : Record → Type 0) (log : Log) → ((r : Record) → IsAmong log r → P r) → IsPart P [] log
+all_go : (P : Record → Type 0) (log : Log) → ((r : Record) → IsAmong log r → P r) → IsSublog P [] log
 all_go P [] each = empty
 all_go P (r ∷ log) each = goes r (each r (inl refl)) (all_go P log (λ s m. each s (inr m)))
 

@@ -5,15 +5,15 @@ use Rattle.persist_model.specs.Region.{Words}
 use Rattle.persist_model.specs.Records.{Record, Log, IsAmong, Has, HasNo, IsEnd, IsOf, IsRunning, IsLoser}
 use Rattle.persist_model.specs.Order.{is_kind_of, IsInOrder}
 use Rattle.persist_model.specs.Standing.{IsToRedo}
-use Rattle.log_laws.specs.Closing.{MayClose, IsPart, empty, stays, goes, IsClosing, MayClear, IsClosedBy}
-use Rattle.persist_model.specs.Need.{rest, to_undo, need_of, need_in, has_of, counted, sum_over}
+use Rattle.log_laws.specs.Closing.{MayClose, IsSublog, empty, stays, goes, IsClosing, MayClear, IsClosedBy}
+use Rattle.persist_model.specs.Need.{rest, to_undo, need_of, need_in, has_of, need_at, sum_over}
 use Rattle.log_laws.specs.Recovery.{AreApplied}
 use Rattle.log_laws.proofs.Deciding.{ended_or_running, decide_equal}
 use Rattle.log_laws.proofs.Closings.{part_among}
 use Rattle.log_laws.proofs.Growing.{one_before}
 use Rattle.log_laws.proofs.Needs.{has_kind_false, has_of_true, of_test}
 
-part_map : (P Q : Record → Type 0) (later log : Log) → ((r : Record) → IsAmong log r → P r → Q r) → IsPart P later log → IsPart Q later log
+part_map : (P Q : Record → Type 0) (later log : Log) → ((r : Record) → IsAmong log r → P r → Q r) → IsSublog P later log → IsSublog Q later log
 part_map P Q _ _ f empty = empty
 part_map P Q _ _ f (stays r {later = later} {log = log} part) = stays r (part_map P Q later log (λ s m. f s (inr m)) part)
 part_map P Q _ _ f (goes r {later = later} {log = log} p part) = goes r (f r (inl refl) p) (part_map P Q later log (λ s m. f s (inr m)) part)
@@ -84,7 +84,7 @@ loser_needs part p t log running some inside = at_least log (has_of_true t log s
             let here : (part r.at == p) ≡ true = (let e = inside r (inl refl) h.1 in grind (arith, nat_tests)) in
             let own : r.transaction ≡ t = h.1.0 in
             let none : has_of r.transaction l ≡ false = rw own first.0 in
-            let counts : counted part p (need_of log) r l ≡ need_of log t = rw (h.2, none, here, own) refl in
+            let counts : need_at part p (need_of log) r l ≡ need_of log t = rw (h.2, none, here, own) refl in
             omega (arith, counts, needs))
       ]
     ]
@@ -97,18 +97,18 @@ updates_of t (r ∷ log) = if is_kind_of t 1 r then r ∷ updates_of t log else 
 
 -- What is to be undone are the updates of t without some: so the pass, at each update, either finds it on top of the stack and
 -- appends its compensation, or passes it over.
-pub stack_is_part : (t : ℕ) (log : Log) → IsPart (λ r. Unit {0}) (to_undo t log) (updates_of t log)
+pub stack_is_part : (t : ℕ) (log : Log) → IsSublog (λ r. Unit {0}) (to_undo t log) (updates_of t log)
 stack_is_part t [] = empty
 stack_is_part t (r ∷ log) = by_tests (is_kind_of t 1 r) (is_kind_of t 2 r) (stack_is_part t log)
   where
-    without_top : (stack log : Log) → IsPart (λ r. Unit {0}) stack log → IsPart (λ r. Unit {0}) (rest stack) log
+    without_top : (stack log : Log) → IsSublog (λ r. Unit {0}) stack log → IsSublog (λ r. Unit {0}) (rest stack) log
     without_top _ _ empty = empty
     without_top _ _ (stays x part) = goes x tt part
     without_top _ _ (goes x {later = []} k part) = goes x tt part
     without_top _ _ (goes x {later = y ∷ stack} {log = log} k part) = goes x tt (without_top (y ∷ stack) log part)
 
-    by_tests : (one two : Bool) → IsPart (λ r. Unit {0}) (to_undo t log) (updates_of t log) →
-        IsPart (λ r. Unit {0}) (if one then r ∷ to_undo t log else (if two then rest (to_undo t log) else to_undo t log)) (if one then r ∷ updates_of t log else updates_of t log)
+    by_tests : (one two : Bool) → IsSublog (λ r. Unit {0}) (to_undo t log) (updates_of t log) →
+        IsSublog (λ r. Unit {0}) (if one then r ∷ to_undo t log else (if two then rest (to_undo t log) else to_undo t log)) (if one then r ∷ updates_of t log else updates_of t log)
     by_tests true two part = stays r part
     by_tests false true part = without_top (to_undo t log) (updates_of t log) part
     by_tests false false part = part

@@ -5,16 +5,16 @@ use Rattle.persist_model.specs.Region.{Words}
 use Rattle.persist_model.specs.Records.{Record, Log, IsAmong, Has, HasNo, IsCheckpoint, IsEndOf, IsOf, NamesWord, IsRunning, IsSkipped}
 use Rattle.persist_model.specs.Standing.{IsToUndo, IsToDelete, IsToRedo, Stands, undone, deleted, redone, kept}
 use Rattle.persist_model.specs.Order.{is_kind_of, undo_point, last_new, UndoesWell, Bars, FollowEach, IsInOrder}
-use Rattle.log_laws.specs.Closing.{IsApplied, MayClose, IsPart, empty, stays, goes, IsClosing}
+use Rattle.log_laws.specs.Closing.{IsApplied, MayClose, IsSublog, empty, stays, goes, IsClosing}
 use Rattle.log_laws.proofs.Deciding.{has_or_none, decide_to_delete}
 
-pub part_among : (P : Record → Type 0) (later log : Log) → IsPart P later log → (r : Record) → IsAmong later r → IsAmong log r
+pub part_among : (P : Record → Type 0) (later log : Log) → IsSublog P later log → (r : Record) → IsAmong later r → IsAmong log r
 part_among P _ _ empty r m = m
 part_among P _ _ (stays s part) r (inl e) = inl e
 part_among P _ _ (stays s part) r (inr m) = inr (part_among P _ _ part r m)
 part_among P _ _ (goes s p part) r m = inr (part_among P _ _ part r m)
 
-pub part_cases : (P : Record → Type 0) (later log : Log) → IsPart P later log → (r : Record) → IsAmong log r → IsAmong later r ⊎ P r
+pub part_cases : (P : Record → Type 0) (later log : Log) → IsSublog P later log → (r : Record) → IsAmong log r → IsAmong later r ⊎ P r
 part_cases P _ _ empty r m = inl m
 part_cases P _ _ (stays s part) r (inl e) = inl (inl e)
 part_cases P _ _ (stays s part) r (inr m) = elim (part_cases P _ _ part r m) [ inl k ↦ inl (inr k) | inr p ↦ inr p ]
@@ -51,7 +51,7 @@ undo_on policy log w later h a r m u = (
   (u.0, u.1, running_on policy log w later h r.transaction u.2),
 )
 
-delete_back : (P : Record → Type 0) (log later : Log) → IsPart P later log → (a : ℕ) (r : Record) → IsToDelete later a r → IsToDelete log a r
+delete_back : (P : Record → Type 0) (log later : Log) → IsSublog P later log → (a : ℕ) (r : Record) → IsToDelete later a r → IsToDelete log a r
 delete_back P log later part a r d = (d.0, d.1, (d.2.0, part_among _ later log part d.2.0 d.2.1, d.2.2))
 
 -- a transaction with an open record is skipped as it was before
@@ -127,13 +127,13 @@ not_kind t k r none ne = elim (eqb_tells r.transaction t) [
 ]
 
 -- where no record of t goes, its undo point and its last NEW stay
-undo_point_part : (P : Record → Type 0) (t : ℕ) (later log : Log) → ((r : Record) → P r → IsOf t r → ⊥) → IsPart P later log → undo_point t later ≡ undo_point t log
+undo_point_part : (P : Record → Type 0) (t : ℕ) (later log : Log) → ((r : Record) → P r → IsOf t r → ⊥) → IsSublog P later log → undo_point t later ≡ undo_point t log
 undo_point_part P t _ _ none empty = refl
 undo_point_part P t _ _ none (stays r part) = rw (undo_point_part P t _ _ none part) refl
 undo_point_part P t _ _ none (goes r p part) =
     rw (not_kind t 1 r (none r p) (omega arith), not_kind t 2 r (none r p) (omega arith)) (undo_point_part P t _ _ none part)
 
-last_new_part : (P : Record → Type 0) (t a d : ℕ) (later log : Log) → ((r : Record) → P r → IsOf t r → ⊥) → IsPart P later log → last_new t a d later ≡ last_new t a d log
+last_new_part : (P : Record → Type 0) (t a d : ℕ) (later log : Log) → ((r : Record) → P r → IsOf t r → ⊥) → IsSublog P later log → last_new t a d later ≡ last_new t a d log
 last_new_part P t a d _ _ none empty = refl
 last_new_part P t a d _ _ none (stays r part) = rw (last_new_part P t a d _ _ none part) refl
 last_new_part P t a d _ _ none (goes r p part) =
@@ -146,7 +146,7 @@ none_goes policy log w later t running r may of = elim may.ended [
   | inr end ↦ running end.0 end.1 (end.2.0, end.2.1 ∙ of.0)
 ]
 
-undoes_part : (P : Record → Type 0) (later log : Log) (r : Record) → ((s : Record) → P s → IsOf r.transaction s → ⊥) → IsPart P later log → UndoesWell log r → UndoesWell later r
+undoes_part : (P : Record → Type 0) (later log : Log) (r : Record) → ((s : Record) → P s → IsOf r.transaction s → ⊥) → IsSublog P later log → UndoesWell log r → UndoesWell later r
 undoes_part P later log r none part h = record {
   no_rollback = λ k s m. h.no_rollback k s (part_among P later log part s m);
   undo_next = λ k. h.undo_next k ∙ sym (undo_point_part P r.transaction later log none part);
@@ -173,7 +173,7 @@ bars_back policy log w later h s m (inl k) = inl (k.0, running_back policy log w
 bars_back policy log w later h s m (inr k) = inr (k.0, (k.1.0, part_among _ later log h.part k.1.0 k.1.1, k.1.2))
 
 follow_each_closed : (part_of : ℕ → ℕ) (policy : ℕ) (log : Log) (w : Words) (later : Log) → IsClosing policy log w later →
-    (rest front : Log) → IsPart (MayClose policy log w later) rest front → ((r : Record) → IsAmong rest r → IsAmong later r) →
+    (rest front : Log) → IsSublog (MayClose policy log w later) rest front → ((r : Record) → IsAmong rest r → IsAmong later r) →
     FollowEach part_of log front → FollowEach part_of later rest
 follow_each_closed part_of policy log w later h _ _ empty inside f = f
 follow_each_closed part_of policy log w later h _ _ (goes r p part) inside f = follow_each_closed part_of policy log w later h _ _ part inside f.1

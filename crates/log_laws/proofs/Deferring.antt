@@ -6,9 +6,9 @@ use Rattle.persist_model.specs.Records.{Record, Log, IsAmong, HasNo, IsOf, IsCha
 use Rattle.persist_model.specs.Standing.{IsToUndo, IsToDelete, IsToRedo, Stands, undone, deleted, redone, kept}
 use Rattle.persist_model.specs.Order.{is_kind_of, undo_point, last_new, UndoesWell, Bars, FollowEach, IsInOrder}
 use Rattle.persist_model.specs.Shape.{Shape, part_of}
-use Rattle.persist_model.specs.Need.{to_undo, has_kind_of, need_of, is_of, has_of, counted, sum_over, need_in}
+use Rattle.persist_model.specs.Need.{to_undo, has_kind_of, need_of, is_of, has_of, need_at, sum_over, need_in}
 use Rattle.persist_model.specs.State.{State, HasOpen, total_need, IsSoundState}
-use Rattle.log_laws.specs.Closing.{IsPart, empty, stays, goes}
+use Rattle.log_laws.specs.Closing.{IsSublog, empty, stays, goes}
 use Rattle.log_laws.specs.Moves.{IsDeferred}
 use Rattle.log_laws.proofs.Closings.{part_among, part_cases}
 use Rattle.log_laws.proofs.Growing.{one_before}
@@ -27,27 +27,27 @@ module _ (D : Record → Type 0) (six : (d : Record) → D d → d.kind ≡ 6) w
   off : (t k : ℕ) (d : Record) → k ≢ 6 → D d → is_kind_of t k d ≡ false
   off t k d ne is = no_kind_of t k d (λ e. (let kind = six d is in ne (sym e ∙ kind)))
 
-  undo_point_left : (t : ℕ) (later log : Log) → IsPart D later log → undo_point t later ≡ undo_point t log
+  undo_point_left : (t : ℕ) (later log : Log) → IsSublog D later log → undo_point t later ≡ undo_point t log
   undo_point_left t _ _ empty = refl
   undo_point_left t _ _ (stays r part) = rw (undo_point_left t _ _ part) refl
   undo_point_left t _ _ (goes d is part) = rw (off t 1 d (omega arith) is, off t 2 d (omega arith) is) (undo_point_left t _ _ part)
 
-  last_new_left : (t a e : ℕ) (later log : Log) → IsPart D later log → last_new t a e later ≡ last_new t a e log
+  last_new_left : (t a e : ℕ) (later log : Log) → IsSublog D later log → last_new t a e later ≡ last_new t a e log
   last_new_left t a e _ _ empty = refl
   last_new_left t a e _ _ (stays r part) = rw (last_new_left t a e _ _ part) refl
   last_new_left t a e _ _ (goes d is part) = rw (off t 1 d (omega arith) is, off t 2 d (omega arith) is) (last_new_left t a e _ _ part)
 
-  to_undo_left : (t : ℕ) (later log : Log) → IsPart D later log → to_undo t later ≡ to_undo t log
+  to_undo_left : (t : ℕ) (later log : Log) → IsSublog D later log → to_undo t later ≡ to_undo t log
   to_undo_left t _ _ empty = refl
   to_undo_left t _ _ (stays r part) = rw (to_undo_left t _ _ part) refl
   to_undo_left t _ _ (goes d is part) = rw (off t 1 d (omega arith) is, off t 2 d (omega arith) is) (to_undo_left t _ _ part)
 
-  has_kind_left : (t k : ℕ) (later log : Log) → k ≢ 6 → IsPart D later log → has_kind_of t k later ≡ has_kind_of t k log
+  has_kind_left : (t k : ℕ) (later log : Log) → k ≢ 6 → IsSublog D later log → has_kind_of t k later ≡ has_kind_of t k log
   has_kind_left t k _ _ ne empty = refl
   has_kind_left t k _ _ ne (stays r part) = rw (has_kind_left t k _ _ ne part) refl
   has_kind_left t k _ _ ne (goes d is part) = rw (off t k d ne is) (has_kind_left t k _ _ ne part)
 
-  need_left : (t : ℕ) (later log : Log) → IsPart D later log → need_of later t ≡ need_of log t
+  need_left : (t : ℕ) (later log : Log) → IsSublog D later log → need_of later t ≡ need_of log t
   need_left t later log part = rw (has_kind_left t 4 later log (omega arith) part, has_kind_left t 3 later log (omega arith) part, to_undo_left t later log part) refl
 
 -- ---- the need
@@ -73,11 +73,11 @@ has_middle t [] d log = refl
 has_middle t (x ∷ front) d log = ap (λ b. is_of t x || b) (has_middle t front d log) ∙ or_swap (is_of t x) (is_of t d) (has_of t (front ++ log))
 
 module _ (part : ℕ → ℕ) (p : ℕ) (f : ℕ → ℕ) where
-  counted_alike : (x : Record) (log later : Log) → has_of x.transaction later ≡ has_of x.transaction log → counted part p f x later ≡ counted part p f x log
+  counted_alike : (x : Record) (log later : Log) → has_of x.transaction later ≡ has_of x.transaction log → need_at part p f x later ≡ need_at part p f x log
   counted_alike x log later e = ap (λ b. if not (x.kind == 5) && (not b && (part x.at == p)) then f x.transaction else 0) e
 
   -- two records of one transaction in one part count alike
-  counted_twin : (x d : Record) (log : Log) → (x.kind == 5) ≡ (d.kind == 5) → x.transaction ≡ d.transaction → part x.at ≡ part d.at → counted part p f x log ≡ counted part p f d log
+  counted_twin : (x d : Record) (log : Log) → (x.kind == 5) ≡ (d.kind == 5) → x.transaction ≡ d.transaction → part x.at ≡ part d.at → need_at part p f x log ≡ need_at part p f d log
   counted_twin x d log five own here = λ i. if not (five i) && (not (has_of (own i) log) && (here i == p)) then f (own i) else 0
 
   not_of : (t : ℕ) (r : Record) (log : Log) → is_of t r ≡ false → has_of t (r ∷ log) ≡ has_of t log
@@ -87,20 +87,20 @@ module _ (part : ℕ → ℕ) (p : ℕ) (f : ℕ → ℕ) where
   swap : (x d : Record) (log : Log) → d.kind ≢ 5 → (IsOf d.transaction x → part x.at ≡ part d.at) → sum_over part p f (x ∷ d ∷ log) ≡ sum_over part p f (d ∷ x ∷ log)
   swap x d log plain here = elim (of_test d.transaction x) [
     | inl own ↦ (
-        let behind : counted part p f x (d ∷ log) ≡ 0 = counted_later part p f x (d ∷ log) (has_of_true x.transaction (d ∷ log) (d, inl refl, (sym own.1.0, plain))) in
-        let before : counted part p f d (x ∷ log) ≡ 0 = counted_later part p f d (x ∷ log) (has_of_true d.transaction (x ∷ log) (x, inl refl, own.1)) in
+        let behind : need_at part p f x (d ∷ log) ≡ 0 = counted_later part p f x (d ∷ log) (has_of_true x.transaction (d ∷ log) (d, inl refl, (sym own.1.0, plain))) in
+        let before : need_at part p f d (x ∷ log) ≡ 0 = counted_later part p f d (x ∷ log) (has_of_true d.transaction (x ∷ log) (x, inl refl, own.1)) in
         let twin = counted_twin x d log (own.2 ∙ sym (no_check d plain)) own.1.0 (here own.1) in
         omega (arith, behind, before, twin))
     | inr other ↦ (
         let d_same = counted_alike d log (x ∷ log) (not_of d.transaction x log other.0) in
-        let x_same : counted part p f x (d ∷ log) ≡ counted part p f x log = by other.1 in
+        let x_same : need_at part p f x (d ∷ log) ≡ need_at part p f x log = by other.1 in
         omega (arith, d_same, x_same))
   ]
     where
       no_check : (r : Record) → r.kind ≢ 5 → (r.kind == 5) ≡ false
       no_check r ne = elim (eqb_tells r.kind 5) [ inl e ↦ absurd (ne e.1) | inr e ↦ e.0 ]
 
-      by : ((x.kind == 5) ≡ true) ⊎ (x.transaction ≢ d.transaction) → counted part p f x (d ∷ log) ≡ counted part p f x log
+      by : ((x.kind == 5) ≡ true) ⊎ (x.transaction ≢ d.transaction) → need_at part p f x (d ∷ log) ≡ need_at part p f x log
       by (inl five) = rw five refl
       by (inr ne) = counted_alike x log (d ∷ log) (elim (eqb_tells d.transaction x.transaction) [ inl e ↦ absurd (ne (sym e.1)) | inr e ↦ (rw e.0 refl) ])
 
@@ -116,7 +116,7 @@ module _ (part : ℕ → ℕ) (p : ℕ) (f : ℕ → ℕ) where
   -- without some records a sum isn't greater, where all records of a transaction stand in one part
   sum_left : (D : Record → Type 0) (all : Log) → ((d : Record) → D d → d.kind ≡ 6) →
       ((d x : Record) → IsAmong all d → IsAmong all x → d.kind ≢ 5 → IsOf d.transaction x → part x.at ≡ part d.at) →
-      (front later log : Log) → IsPart D later log → ((x : Record) → IsAmong front x → IsAmong all x) → ((x : Record) → IsAmong log x → IsAmong all x) →
+      (front later log : Log) → IsSublog D later log → ((x : Record) → IsAmong front x → IsAmong all x) → ((x : Record) → IsAmong log x → IsAmong all x) →
       sum_over part p f (front ++ later) ≤ sum_over part p f (front ++ log)
   sum_left D all six same front _ _ empty inside own = omega arith
   sum_left D all six same front _ _ (stays x {later = later} {log = log} part_is) inside own =
@@ -143,7 +143,7 @@ one_part part log f d x m k plain of = elim (one_before part log log f d x m k) 
 
 -- ---- the log without some of them
 
-module _ (log later : Log) (part : IsPart (IsDeferred log) later log) where
+module _ (log later : Log) (part : IsSublog (IsDeferred log) later log) where
   six : (d : Record) → IsDeferred log d → d.kind ≡ 6
   six d is = is.0
 
@@ -226,7 +226,7 @@ module _ (log later : Log) (part : IsPart (IsDeferred log) later log) where
   bars_back s (inl k) = inl (k.0, running_back s.transaction k.1)
   bars_back s (inr k) = inr (k.0, committed_back s.transaction k.1)
 
-  undoes_left : (rest front : Log) (r : Record) → IsPart (IsDeferred log) rest front → UndoesWell front r → UndoesWell rest r
+  undoes_left : (rest front : Log) (r : Record) → IsSublog (IsDeferred log) rest front → UndoesWell front r → UndoesWell rest r
   undoes_left rest front r cut h = record {
     no_rollback = λ k s m. h.no_rollback k s (part_among (IsDeferred log) rest front cut s m);
     undo_next = λ k. h.undo_next k ∙ sym (undo_point_left (IsDeferred log) six r.transaction rest front cut);
@@ -246,7 +246,7 @@ module _ (log later : Log) (part : IsPart (IsDeferred log) later log) where
     ));
   }
 
-  follow_left : (which : ℕ → ℕ) (rest front : Log) → IsPart (IsDeferred log) rest front → FollowEach which log front → FollowEach which later rest
+  follow_left : (which : ℕ → ℕ) (rest front : Log) → IsSublog (IsDeferred log) rest front → FollowEach which log front → FollowEach which later rest
   follow_left which _ _ empty f = f
   follow_left which _ _ (goes d {later = rest} {log = front} is cut) f = follow_left which rest front cut f.1
   follow_left which _ _ (stays r {later = rest} {log = front} cut) f = (
@@ -275,7 +275,7 @@ module _ (log later : Log) (part : IsPart (IsDeferred log) later log) where
   open_back : HasOpen later → HasOpen log
   open_back h = (h.0, back h.0 h.1, (h.2.0, λ skipped. h.2.1 (skipped_on h.0.transaction skipped)))
 
-pub deferred_sound : (shape : Shape) (s : State) (later : Log) (room : ℕ → ℕ) → IsSoundState shape s → IsPart (IsDeferred s.log) later s.log → ((p : ℕ) → s.room p ≤ room p) →
+pub deferred_sound : (shape : Shape) (s : State) (later : Log) (room : ℕ → ℕ) → IsSoundState shape s → IsSublog (IsDeferred s.log) later s.log → ((p : ℕ) → s.room p ≤ room p) →
     IsSoundState shape (record { log = later; words = s.words; room = room })
 deferred_sound shape s later room h part more = record {
   newest_first = newest_first_part (IsDeferred s.log) later s.log part h.newest_first;

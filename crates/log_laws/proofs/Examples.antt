@@ -1,5 +1,5 @@
 -- The definitions on small literal images and logs: four or eight buckets, 16 blocks.
-mod Images
+mod LiteralImages
 mod Undoing
 mod FirstScript
 mod HeaderFaults

@@ -3,10 +3,10 @@ use Rattle.std.proofs.Common.{◌≡◌, ◌≢◌, ◌⊎◌, inl, inr, ℕ, �
 use Rattle.std.proofs.lemmas.Bool.Decides.{eqb_tells, nat_tests}
 use Rattle.persist_model.specs.Records.{Record, Log, IsAmong, IsNewestFirst, IsCheckpoint, IsRunning, IsLoser}
 use Rattle.persist_model.specs.Order.{IsNextToUndo, Follows, FollowEach}
-use Rattle.log_laws.specs.Closing.{IsPart, empty, stays, goes, IsClosing}
+use Rattle.log_laws.specs.Closing.{IsSublog, empty, stays, goes, IsClosing}
 use Rattle.persist_model.specs.Shape.{Shape, part_of}
 use Rattle.persist_model.specs.ImageRecords.{IsWellFormed}
-use Rattle.persist_model.specs.Need.{to_undo, need_of, counted, sum_over, need_in}
+use Rattle.persist_model.specs.Need.{to_undo, need_of, need_at, sum_over, need_in}
 use Rattle.persist_model.specs.State.{State, HasOpen, total_need, HasRoom, IsSoundState}
 use Rattle.log_laws.specs.Recovery.{Appends, IsOfLoser, grown, IsStored, Step, stores, rolls_back, compensates, ends, checkpoints, closes, KeepsStanding, Steps, start, makes}
 use Rattle.log_laws.proofs.Deciding.{ended_or_running}
@@ -88,7 +88,7 @@ need_checkpoint c log is t =
 pub need_in_checkpoint : (part : ℕ → ℕ) (p : ℕ) (c : Record) (log : Log) → IsCheckpoint c → need_in part p (c ∷ log) ≡ need_in part p log
 need_in_checkpoint part p c log is =
     let five : (c.kind == 5) ≡ true = grind (arith, nat_tests) in
-    let first : counted part p (need_of (c ∷ log)) c log ≡ 0 = rw five refl in
+    let first : need_at part p (need_of (c ∷ log)) c log ≡ 0 = rw five refl in
     let others : sum_over part p (need_of (c ∷ log)) log ≡ sum_over part p (need_of log) log = λ i. sum_over part p (λ t. need_checkpoint c log is t i) log in
     omega (arith, first, others)
 
@@ -139,7 +139,7 @@ checkpoint_sound shape s c room h a is first two opened none = record {
 
 -- ---- a closing
 
-pub newest_first_part : (P : Record → Type 0) (later log : Log) → IsPart P later log → IsNewestFirst log → IsNewestFirst later
+pub newest_first_part : (P : Record → Type 0) (later log : Log) → IsSublog P later log → IsNewestFirst log → IsNewestFirst later
 newest_first_part P _ _ empty n = n
 newest_first_part P _ _ (goes r p part) n = newest_first_part P _ _ part n.1
 newest_first_part P _ _ (stays r {later = later} {log = log} part) n = (λ s m. n.0 s (part_among P later log part s m), newest_first_part P later log part n.1)

@@ -2,7 +2,7 @@
 use Rattle.std.proofs.Common.{◌≡◌, ◌≢◌, inl, inr, ℕ, zero, suc, ◌+◌, ◌<◌, ◌≤◌, true, false, ◌==◌, [], ◌∷◌, refl, sym, subst, arith}
 use Rattle.std.proofs.lemmas.Bool.Decides.{eqb_tells, nat_tests}
 use Rattle.persist_model.specs.Records.{Record, Log, IsAmong, Has, IsOf, IsUpdate, IsRollback, IsEnd, IsDeletion}
-use Rattle.persist_model.specs.Need.{to_undo, has_kind_of, need_of, is_of, has_of, counted, need_in}
+use Rattle.persist_model.specs.Need.{to_undo, has_kind_of, need_of, is_of, has_of, need_at, need_in}
 use Rattle.persist_model.specs.State.{total_need}
 use Rattle.log_laws.proofs.Needs.{kind_test, total_same, need_other, or_false, of_test, sum_same, sum_moved, counted_later, counted_first, has_of_true}
 
@@ -135,7 +135,7 @@ pub need_began_elsewhere : (part : ℕ → ℕ) (p : ℕ) (r : Record) (log : Lo
 need_began_elsewhere part p r log none ne =
     let others = sum_same part p (need_of log) (need_of (r ∷ log)) r.transaction log (λ x other. sym (need_other x r log (λ e. other (sym e)))) none in
     let off : (part r.at == p) ≡ false = (let other : part r.at ≢ p = (λ e. ne (sym e)) in grind (arith, nat_tests)) in
-    let first : counted part p (need_of (r ∷ log)) r log ≡ 0 = elim (eqb_tells r.kind 5) [ inl five ↦ (rw five.0 refl) | inr other ↦ (rw (other.0, none, off) refl) ] in
+    let first : need_at part p (need_of (r ∷ log)) r log ≡ 0 = elim (eqb_tells r.kind 5) [ inl five ↦ (rw five.0 refl) | inr other ↦ (rw (other.0, none, off) refl) ] in
     omega (arith, first, others)
 
 -- the need of all parts, where one rises by d

@@ -3,7 +3,7 @@ use Rattle.std.proofs.Common.{◌≡◌, ◌≢◌, ◌⊎◌, inl, inr, ℕ, ze
 use Rattle.std.proofs.lemmas.Bool.Decides.{eqb_tells, nat_tests}
 use Rattle.persist_model.specs.Records.{Record, Log, IsAmong, Has, HasNo, IsOf, IsRollback, IsCompensation, IsEnd}
 use Rattle.persist_model.specs.Order.{is_kind_of}
-use Rattle.persist_model.specs.Need.{to_undo, has_kind_of, need_of, is_of, has_of, counted, sum_over, need_in}
+use Rattle.persist_model.specs.Need.{to_undo, has_kind_of, need_of, is_of, has_of, need_at, sum_over, need_in}
 use Rattle.persist_model.specs.State.{total_need}
 
 -- ---- one transaction's need
@@ -61,7 +61,7 @@ of_test t r = elim (eqb_tells r.transaction t) [
 ]
 
 counted_same : (part : ℕ → ℕ) (p : ℕ) (f g : ℕ → ℕ) (t : ℕ) (r : Record) (earlier : Log) → ((x : ℕ) → x ≢ t → f x ≡ g x) →
-    ((r.kind == 5) ≡ true) ⊎ (r.transaction ≢ t) → counted part p f r earlier ≡ counted part p g r earlier
+    ((r.kind == 5) ≡ true) ⊎ (r.transaction ≢ t) → need_at part p f r earlier ≡ need_at part p g r earlier
 counted_same part p f g t r earlier same (inl five) = rw five refl
 counted_same part p f g t r earlier same (inr ne) =
     ap (λ x. if not (r.kind == 5) && (not (has_of r.transaction earlier) && (part r.at == p)) then x else 0) (same r.transaction ne)
@@ -72,19 +72,19 @@ pub sum_same : (part : ℕ → ℕ) (p : ℕ) (f g : ℕ → ℕ) (t : ℕ) (log
 sum_same part p f g t [] same none = refl
 sum_same part p f g t (r ∷ log) same none =
     let both = or_false (is_of t r) (has_of t log) none in
-    let first : counted part p f r log ≡ counted part p g r log = elim (of_test t r) [ inl h ↦ absurd (cc) | inr h ↦ counted_same part p f g t r log same h.1 ] in
+    let first : need_at part p f r log ≡ need_at part p g r log = elim (of_test t r) [ inl h ↦ absurd (cc) | inr h ↦ counted_same part p f g t r log same h.1 ] in
     let others = sum_same part p f g t log same both.1 in
     omega (arith, first, others)
 
 -- not the earliest of its transaction: it adds nothing
-pub counted_later : (part : ℕ → ℕ) (p : ℕ) (f : ℕ → ℕ) (r : Record) (earlier : Log) → has_of r.transaction earlier ≡ true → counted part p f r earlier ≡ 0
+pub counted_later : (part : ℕ → ℕ) (p : ℕ) (f : ℕ → ℕ) (r : Record) (earlier : Log) → has_of r.transaction earlier ≡ true → need_at part p f r earlier ≡ 0
 counted_later part p f r earlier later = elim (eqb_tells r.kind 5) [
   | inl five ↦ (rw five.0 refl)
   | inr ne ↦ (rw (ne.0, later) refl)
 ]
 
 pub counted_first : (part : ℕ → ℕ) (p : ℕ) (f : ℕ → ℕ) (r : Record) (earlier : Log) → (r.kind == 5) ≡ false → has_of r.transaction earlier ≡ false → part r.at ≡ p →
-    counted part p f r earlier ≡ f r.transaction
+    need_at part p f r earlier ≡ f r.transaction
 counted_first part p f r earlier ne first inside = let on : (part r.at == p) ≡ true = grind (arith, nat_tests) in rw (ne, first, on) refl
 
 -- where t's number falls by d, so does the sum of its part
@@ -94,7 +94,7 @@ sum_moved part p d f g t [] same less some inside = cc
 sum_moved part p d f g t (r ∷ log) same less some inside = elim (or_true (is_of t r) (has_of t log) some) [
   | inl later ↦ (
       let others = sum_moved part p d f g t log same less later (λ s m. inside s (inr m)) in
-      let first : counted part p f r log ≡ counted part p g r log = elim (of_test t r) [
+      let first : need_at part p f r log ≡ need_at part p g r log = elim (of_test t r) [
         | inl h ↦ (let k : has_of r.transaction log ≡ true = rw h.1.0 later in counted_later part p f r log k ∙ sym (counted_later part p g r log k))
         | inr h ↦ counted_same part p f g t r log same h.1
       ] in
@@ -122,13 +122,13 @@ pub sum_elsewhere : (part : ℕ → ℕ) (p q : ℕ) (f g : ℕ → ℕ) (t : �
 sum_elsewhere part p q f g t [] same ne inside = refl
 sum_elsewhere part p q f g t (r ∷ log) same ne inside =
     let others = sum_elsewhere part p q f g t log same ne (λ s m. inside s (inr m)) in
-    let first : counted part q f r log ≡ counted part q g r log = elim (of_test t r) [
+    let first : need_at part q f r log ≡ need_at part q g r log = elim (of_test t r) [
       | inl h ↦ (let at = inside r (inl refl) h.1 in let off : (part r.at == q) ≡ false = grind (arith, nat_tests) in counted_off f off ∙ sym (counted_off g off))
       | inr h ↦ counted_same part q f g t r log same h.1
     ] in
     omega (arith, others, first)
   where
-    counted_off : (f : ℕ → ℕ) → (part r.at == q) ≡ false → counted part q f r log ≡ 0
+    counted_off : (f : ℕ → ℕ) → (part r.at == q) ≡ false → need_at part q f r log ≡ 0
     counted_off f off = elim (eqb_tells r.kind 5) [
       | inl five ↦ (rw five.0 refl)
       | inr other ↦ rw (other.0, off) (elim (has_of r.transaction log) as (λ b. (if not false && (not b && false) then f r.transaction else 0) ≡ 0) [ true ↦ refl | false ↦ refl ])

@@ -7,7 +7,7 @@ use Rattle.persist_model.specs.Progress.{Progress, Wrote, latest, start, advance
 use Rattle.persist_model.specs.Runs.{progress_at}
 use Rattle.persist_model.specs.Shape.{Shape, heap, words_of_shape}
 use Rattle.persist_model.specs.State.{State}
-use Rattle.log_laws.specs.Recovery.{IsCovered}
+use Rattle.log_laws.specs.Recovery.{HasDecidingRecord}
 use Rattle.log_laws.specs.Recovering.{IsAtRest, IsOnLog, AreOnLog}
 use Rattle.persist_model.proofs.Tracking.{latest_cases, Wrote-push_other}
 use Rattle.persist_model.proofs.Projecting.{AreAway, AreAway-take, IsFixed-aways, IsFixed-start, Reaches-fixed, SameOn, SameOn-events, Reaches-same, Reaches-part, latest_none}
@@ -15,7 +15,7 @@ use Rattle.persist_model.proofs.Projecting.{AreAway, AreAway-take, IsFixed-aways
 -- each heap word is durable as it was, or at some value of a covered word, and what is pending is of covered words
 abbrev HasHeap : Shape → Words → State → Progress → Type 0
 HasHeap shape w s p = (a : ℕ) → heap shape ≤ a → a < words_of_shape shape →
-    ((p.durable a ≡ w a) ⊎ IsCovered shape.policy s.log a) × ((v : ℕ) → Wrote p.pending a v → IsCovered shape.policy s.log a)
+    ((p.durable a ≡ w a) ⊎ HasDecidingRecord shape.policy s.log a) × ((v : ℕ) → Wrote p.pending a v → HasDecidingRecord shape.policy s.log a)
 
 heap_event : (shape : Shape) (w : Words) (s : State) (p : Progress) (e : Event) → IsOnLog shape e → HasHeap shape w s p → HasHeap shape w s (advance p e)
 heap_event shape w s p (Store b x) on h = h
@@ -49,7 +49,7 @@ same_on_log shape p w s fits h = record {
 -- has its durable value, or is covered.
 pub part_image : (shape : Shape) (p : Progress) (w v : Words) (s : State) (plan : List Event) (k : ℕ) → IsAtRest shape p w s → AreOnLog shape plan →
     Reaches (λ a. a < words_of_shape shape) (advance_all p (take k plan)) v →
-    Reaches (λ a. a < heap shape) (progress_at w plan k) v × ((a : ℕ) → heap shape ≤ a → a < words_of_shape shape → (v a ≡ w a) ⊎ IsCovered shape.policy s.log a)
+    Reaches (λ a. a < heap shape) (progress_at w plan k) v × ((a : ℕ) → heap shape ≤ a → a < words_of_shape shape → (v a ≡ w a) ⊎ HasDecidingRecord shape.policy s.log a)
 part_image shape p w v s plan k h on r =
     let fits : heap shape ≤ words_of_shape shape = omega arith in
     let ends : HasHeap shape w s (advance_all p (take k plan)) =

@@ -4,7 +4,7 @@ use Rattle.std.proofs.lemmas.Bool.Decides.{eqb_tells, nat_tests}
 use Rattle.std.proofs.Math.Nat.{min-le_right}
 use Rattle.persist_model.specs.Region.{Words}
 use Rattle.persist_model.specs.Records.{Record, Log, IsAmong, Has, IsOf, IsUpdate, IsCompensation, IsRollback, IsRunning}
-use Rattle.log_laws.specs.Closing.{IsPart, empty, stays, goes}
+use Rattle.log_laws.specs.Closing.{IsSublog, empty, stays, goes}
 use Rattle.persist_model.specs.Shape.{Shape, part_of, bucket_size}
 use Rattle.persist_model.specs.ImageRecords.{IsWellFormed}
 use Rattle.persist_model.specs.Need.{to_undo}
@@ -165,7 +165,7 @@ compensated shape t s u us stack some h is =
     )
 
 -- The pass: at each update it finds it on top of the stack and compensates it, or passes it over; and it stores its OLD.
-pub undo_pass : (shape : Shape) (t : ℕ) (s : State) (stack us : Log) → 1 ≤ shape.partitions → IsPart (λ r. Unit {0}) stack us → to_undo t s.log ≡ stack → IsUndoing shape t s us →
+pub undo_pass : (shape : Shape) (t : ℕ) (s : State) (stack us : Log) → 1 ≤ shape.partitions → IsSublog (λ r. Unit {0}) stack us → to_undo t s.log ≡ stack → IsUndoing shape t s us →
     (y : State) × IsPassed shape t s us y
 undo_pass shape t s _ _ some empty is h = (s, record { steps = start; undoing = h; nothing_left = is; words = refl; updates = λ r u m. m; kept = λ r m. m; news = λ r m. inl m })
 undo_pass shape t s _ _ some (goes u {later = stack} {log = us} q part) is h =

@@ -2,7 +2,7 @@
 use Rattle.std.proofs.Common.{◌≡◌, ◌⊎◌, ◌↔◌, inl, inr, ℕ, ◌<◌, List, [], ◌∷◌, refl, sym, ap, ◌∙◌, subst, arith}
 use Rattle.persist_model.specs.Region.{Words}
 use Rattle.persist_model.specs.Records.{Record, Log, IsAmong, IsNewer, IsNewestFirst}
-use Rattle.log_laws.specs.Closing.{IsPart, empty, stays, goes}
+use Rattle.log_laws.specs.Closing.{IsSublog, empty, stays, goes}
 use Rattle.persist_model.specs.Shape.{Shape}
 use Rattle.persist_model.specs.ImageRecords.{IsRecordOf, AreRecords}
 use Rattle.log_laws.proofs.Deciding.{IsDecided}
@@ -66,11 +66,11 @@ records_grown shape chains after w v log q new inside above adds h = record {
 
 -- the records that stay open, where each is closed or not
 pub left_open : (P : Record → Type 0) (log : Log) → ((r : Record) → IsAmong log r → IsDecided (P r)) → IsNewestFirst log →
-    (later : Log) × IsPart P later log × IsNewestFirst later × ((r : Record) → IsAmong later r → P r → ⊥)
+    (later : Log) × IsSublog P later log × IsNewestFirst later × ((r : Record) → IsAmong later r → P r → ⊥)
 left_open P [] decide n = ([], empty, tt, λ r m p. m)
 left_open P (x ∷ log) decide n = go (decide x (inl refl)) (left_open P log (λ r m. decide r (inr m)) n.1)
   where
-    go : IsDecided (P x) → (later : Log) × IsPart P later log × IsNewestFirst later × ((r : Record) → IsAmong later r → P r → ⊥) →
-        (later : Log) × IsPart P later (x ∷ log) × IsNewestFirst later × ((r : Record) → IsAmong later r → P r → ⊥)
+    go : IsDecided (P x) → (later : Log) × IsSublog P later log × IsNewestFirst later × ((r : Record) → IsAmong later r → P r → ⊥) →
+        (later : Log) × IsSublog P later (x ∷ log) × IsNewestFirst later × ((r : Record) → IsAmong later r → P r → ⊥)
     go (inl p) h = (h.0, goes x p h.1, h.2, h.3)
     go (inr no_p) h = (x ∷ h.0, stays x h.1, (λ s m. n.0 s (part_among P h.0 log h.1 s m), h.2), λ r m p. elim m [ inl e ↦ no_p (subst P e p) | inr k ↦ h.3 r k p ])

@@ -9,7 +9,7 @@ use Rattle.persist_model.specs.Progress.{Progress, advance, Reaches}
 use Rattle.persist_model.specs.Shape.{Shape, heap, words_of_shape, log_words, heap_words}
 use Rattle.persist_model.specs.ImageRecords.{AreRecords}
 use Rattle.persist_model.specs.State.{State, IsSoundState}
-use Rattle.log_laws.specs.Recovery.{IsCovered, Step, makes, stores, KeepsStanding}
+use Rattle.log_laws.specs.Recovery.{HasDecidingRecord, Step, makes, stores, KeepsStanding}
 use Rattle.persist_model.specs.Sound.{IsListOf, HasState, room_of}
 use Rattle.log_laws.specs.Recovering.{RECOVERY, IsAtRest, IsRecovering, with_heap}
 use Rattle.persist_model.proofs.Tracking.{latest_cases, Wrote-push_other, Tracks-event, Reaches-image}
@@ -37,15 +37,15 @@ state_with_heap shape w v s same h = record {
 
 -- a value for each heap word, the one before or one for a covered word
 pub heap_step : (shape : Shape) (w v : Words) (s : State) → s.words ≡ heap_words shape w →
-    ((a : ℕ) → heap shape ≤ a → a < words_of_shape shape → (v a ≡ w a) ⊎ IsCovered shape.policy s.log a) → Step shape s (with_heap s (heap_words shape v))
-heap_step shape w v s is each = stores (heap_words shape v) (λ a. subst (λ z. (heap_words shape v a ≡ z) ⊎ IsCovered shape.policy s.log a) (sym (ap (λ f. f a) is)) (first_test a (nat_lt a (heap shape)) refl))
+    ((a : ℕ) → heap shape ≤ a → a < words_of_shape shape → (v a ≡ w a) ⊎ HasDecidingRecord shape.policy s.log a) → Step shape s (with_heap s (heap_words shape v))
+heap_step shape w v s is each = stores (heap_words shape v) (λ a. subst (λ z. (heap_words shape v a ≡ z) ⊎ HasDecidingRecord shape.policy s.log a) (sym (ap (λ f. f a) is)) (first_test a (nat_lt a (heap shape)) refl))
   where
-    second_test : (a : ℕ) → heap shape ≤ a → (b : Bool) → nat_lt a (words_of_shape shape) ≡ b → ((if b then v a else 0) ≡ (if b then w a else 0)) ⊎ IsCovered shape.policy s.log a
+    second_test : (a : ℕ) → heap shape ≤ a → (b : Bool) → nat_lt a (words_of_shape shape) ≡ b → ((if b then v a else 0) ≡ (if b then w a else 0)) ⊎ HasDecidingRecord shape.policy s.log a
     second_test a le true is = each a le (ltb-true a (words_of_shape shape) is)
     second_test a le false is = inl refl
 
     first_test : (a : ℕ) → (b : Bool) → nat_lt a (heap shape) ≡ b →
-        ((if b then 0 else (if nat_lt a (words_of_shape shape) then v a else 0)) ≡ (if b then 0 else (if nat_lt a (words_of_shape shape) then w a else 0))) ⊎ IsCovered shape.policy s.log a
+        ((if b then 0 else (if nat_lt a (words_of_shape shape) then v a else 0)) ≡ (if b then 0 else (if nat_lt a (words_of_shape shape) then w a else 0))) ⊎ HasDecidingRecord shape.policy s.log a
     first_test a true is = inl refl
     first_test a false is = second_test a (ltb-false a (heap shape) is) (nat_lt a (words_of_shape shape)) refl
 
@@ -58,13 +58,13 @@ rest_image shape p w v s fits h r = (
 )
 
 -- a store to a covered heap word
-pub rest_store : (shape : Shape) (p : Progress) (w : Words) (s : State) (a x : ℕ) → heap shape ≤ a → IsCovered shape.policy s.log a → IsAtRest shape p w s → IsAtRest shape (advance p (PStore a x)) w s
+pub rest_store : (shape : Shape) (p : Progress) (w : Words) (s : State) (a x : ℕ) → heap shape ≤ a → HasDecidingRecord shape.policy s.log a → IsAtRest shape p w s → IsAtRest shape (advance p (PStore a x)) w s
 rest_store shape p w s a x le covered h = record {
   state = h.state;
   durable = h.durable;
   log = λ b lt v k. h.log b lt v (Wrote-push_other p.pending a x b v (λ e. absurd (omega (arith, lt, le, e))) k);
   heap = λ b ge v k. elim (eqb_tells a b) [
-    | inl e ↦ subst (λ y. IsCovered shape.policy s.log y) e.1 covered
+    | inl e ↦ subst (λ y. HasDecidingRecord shape.policy s.log y) e.1 covered
     | inr ne ↦ h.heap b ge v (Wrote-push_other p.pending a x b v ne.1 k)
   ];
 }
@@ -87,7 +87,7 @@ each_image_keeps shape first region words sound h image =
     let kept = runs_keep shape first (with_heap h.state (heap_words shape (slice_index words))) sound (makes h.steps k.1) in
     (with_heap h.state (heap_words shape (slice_index words)), k.0, kept.0, kept.1)
 
-pub recovering_store : (shape : Shape) (first : State) (region : Region) (a x : ℕ) → (h : IsRecovering shape first region) → heap shape ≤ a → IsCovered shape.policy h.state.log a →
+pub recovering_store : (shape : Shape) (first : State) (region : Region) (a x : ℕ) → (h : IsRecovering shape first region) → heap shape ≤ a → HasDecidingRecord shape.policy h.state.log a →
     IsRecovering shape first (after region RECOVERY (PStore a x))
 recovering_store shape first region a x h le covered = record {
   size = h.size;

@@ -3,21 +3,18 @@ use Rattle.std.proofs.Common.{◌≡◌, ◌⊎◌, inl, inr, ℕ, ◌≤◌, []
 use Rattle.persist_model.specs.Region.{Words}
 use Rattle.persist_model.specs.Records.{Record, Log, IsAmong, Has, HasNo}
 use Rattle.persist_model.specs.Standing.{IsToUndo, IsToDelete, IsToRedo, IsEarliest, IsLatest, Stands, undone, deleted, redone, kept}
+use Rattle.log_laws.specs.Recovery.{HasDecidingRecord}
 use Rattle.log_laws.proofs.Deciding.{IsDecided, decide_at_most, has_or_none, decide_to_undo, decide_to_delete, decide_to_redo}
 
 -- ---- stores to heap words
 
--- the standing value of a doesn't hang on the word a itself
-abbrev pub IsCovered : ℕ → Log → ℕ → Type 0
-IsCovered policy log a = Has (IsToUndo log a) log ⊎ Has (IsToDelete log a) log ⊎ Has (IsToRedo policy log a) log
-
-none_covered : (policy : ℕ) (log : Log) (a : ℕ) → HasNo (IsToUndo log a) log → HasNo (IsToDelete log a) log → HasNo (IsToRedo policy log a) log → IsCovered policy log a → ⊥
+none_covered : (policy : ℕ) (log : Log) (a : ℕ) → HasNo (IsToUndo log a) log → HasNo (IsToDelete log a) log → HasNo (IsToRedo policy log a) log → HasDecidingRecord policy log a → ⊥
 none_covered policy log a u d r (inl h) = u h.0 h.1 h.2
 none_covered policy log a u d r (inr (inl h)) = d h.0 h.1 h.2
 none_covered policy log a u d r (inr (inr h)) = r h.0 h.1 h.2
 
 -- a store to a covered word keeps all standing values
-pub stands_stored : (policy : ℕ) (log : Log) (w x : Words) (a v : ℕ) → (x a ≡ w a) ⊎ IsCovered policy log a →
+pub stands_stored : (policy : ℕ) (log : Log) (w x : Words) (a v : ℕ) → (x a ≡ w a) ⊎ HasDecidingRecord policy log a →
     Stands policy log w a v → Stands policy log x a v
 stands_stored policy log w x a v h (undone u first e) = undone u first e
 stands_stored policy log w x a v h (deleted none d e) = deleted none d e

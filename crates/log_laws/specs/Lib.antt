@@ -2,7 +2,7 @@ pub mod Closing
 pub mod Recovery
 pub mod Recovering
 pub mod Parts
-pub mod Appending
+pub mod StateAppends
 pub mod Soundness
 pub mod Naming
 pub mod Moves

@@ -1,6 +1,7 @@
 -- What the plans of running transactions do to what an image is to recovery.
 use Rattle.std.specs.Prelude.{◌≡◌, ◌≢◌, ◌⊎◌, ℕ, ◌<◌, ◌≤◌, [], ◌∷◌}
 use Rattle.persist_model.specs.Region.{Words}
+use Rattle.persist_model.specs.Kinds.{COMMITTED, ROLLED_BACK}
 use Rattle.persist_model.specs.Records.{Record, Log, IsAmong, Has, HasNo, IsOf, IsUpdate, IsCompensation, IsRollback, IsEnd, IsCheckpoint, IsDeletion, IsChange, IsRunning}
 use Rattle.persist_model.specs.Standing.{IsToUndo, IsToDelete, IsLatest, Stands}
 use Rattle.persist_model.specs.Order.{undo_point, last_new, Compensates, Bars}
@@ -8,8 +9,8 @@ use Rattle.persist_model.specs.Shape.{Shape, part_of}
 use Rattle.persist_model.specs.ImageRecords.{IsWellFormed}
 use Rattle.persist_model.specs.Need.{to_undo}
 use Rattle.persist_model.specs.State.{State, HasRoom, HasNumbers, IsSoundState}
-use Rattle.log_laws.specs.Closing.{IsApplied, IsPart, IsClosing}
-use Rattle.log_laws.specs.Recovery.{IsCovered, IsStored, grown, KeepsStanding}
+use Rattle.log_laws.specs.Closing.{IsApplied, IsSublog, IsClosing}
+use Rattle.log_laws.specs.Recovery.{HasDecidingRecord, IsStored, grown, KeepsStanding}
 
 -- r takes a number above all others and a cell of its part, and the room and the numbers that are left are enough.
 pub record Arrives (shape : Shape) (s : State) (r : Record) (room : ℕ → ℕ) : Type 0 where
@@ -45,7 +46,7 @@ IsDeferred log d = IsDeletion d × IsRunning log d.transaction
 
 -- What a running transaction's plan, a checkpoint or a clearing does, but for the end of a commit.
 pub data Move (shape : Shape) (s : State) : State → Type 0 where
-  writes_words : (w : Words) → ((a : ℕ) → (w a ≡ s.words a) ⊎ IsCovered shape.policy s.log a) →
+  writes_words : (w : Words) → ((a : ℕ) → (w a ≡ s.words a) ⊎ HasDecidingRecord shape.policy s.log a) →
       Move shape s (record { log = s.log; words = w; room = s.room })
   adds_update : (u : Record) (room : ℕ → ℕ) → Arrives shape s u room → IsOfRunning shape s.log u → IsUpdate u → MayName s.log u → MayUpdate shape.policy s u →
       Move shape s (grown s u room)
@@ -54,12 +55,12 @@ pub data Move (shape : Shape) (s : State) : State → Type 0 where
       HasNo (λ x. IsOf r.transaction x × IsRollback x) s.log → Move shape s (grown s r room)
   adds_compensation : (c u : Record) (stack : Log) (room : ℕ → ℕ) → Arrives shape s c room → IsOfRunning shape s.log c → IsCompensation c →
       to_undo c.transaction s.log ≡ u ∷ stack → Compensates c u → Move shape s (grown s c room)
-  adds_rolled_end : (e : Record) (room : ℕ → ℕ) → Arrives shape s e room → IsOfRunning shape s.log e → IsEnd e → e.outcome ≡ 2 →
+  adds_rolled_end : (e : Record) (room : ℕ → ℕ) → Arrives shape s e room → IsOfRunning shape s.log e → IsEnd e → e.outcome ≡ ROLLED_BACK →
       to_undo e.transaction s.log ≡ [] → IsStored e.transaction s.log s.words → Move shape s (grown s e room)
   adds_checkpoint : (c : Record) (room : ℕ → ℕ) → Arrives shape s c room → IsCheckpoint c → AreSwept shape.policy s.log s.words → Move shape s (grown s c room)
   drops_records : (later : Log) (room : ℕ → ℕ) → IsClosing shape.policy s.log s.words later → ((p : ℕ) → s.room p ≤ room p) →
       Move shape s (record { log = later; words = s.words; room = room })
-  drops_deletions : (later : Log) (room : ℕ → ℕ) → IsPart (IsDeferred s.log) later s.log → ((p : ℕ) → s.room p ≤ room p) →
+  drops_deletions : (later : Log) (room : ℕ → ℕ) → IsSublog (IsDeferred s.log) later s.log → ((p : ℕ) → s.room p ≤ room p) →
       Move shape s (record { log = later; words = s.words; room = room })
 
 -- Each move keeps a sound state sound, with its standing values.
@@ -80,7 +81,7 @@ pub record MayCommit (shape : Shape) (s : State) (e : Record) (room : ℕ → �
   pub arrives : Arrives shape s e room
   pub of : IsOfRunning shape s.log e
   pub end : IsEnd e
-  pub outcome : e.outcome ≡ 1
+  pub outcome : e.outcome ≡ COMMITTED
   pub forced : shape.policy ≢ 2 → (a : ℕ) (r : Record) → HasNo (IsDeletionBy e.transaction a) s.log → IsLatest (IsChangeBy e.transaction a) s.log r → s.words a ≡ r.after
 
 -- With a commit's end a deleted block's owner stands at 0, a changed word at the last NEW, and each other word as before.

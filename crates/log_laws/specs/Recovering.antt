@@ -6,7 +6,7 @@ use Rattle.persist_model.specs.declared.event.Event.{Event}
 use Rattle.persist_model.specs.declared.event.Event.TheVariants.{Store, PStore, WriteBack, Fence}
 use Rattle.persist_model.specs.Shape.{Shape, heap, words_of_shape}
 use Rattle.persist_model.specs.State.{State, IsSoundState}
-use Rattle.log_laws.specs.Recovery.{IsCovered, Steps, KeepsStanding}
+use Rattle.log_laws.specs.Recovery.{HasDecidingRecord, Steps, KeepsStanding}
 use Rattle.persist_model.specs.Sound.{HasState}
 
 -- recovery's lane
@@ -18,7 +18,7 @@ pub record IsAtRest (shape : Shape) (p : Progress) (w : Words) (s : State) : Typ
   pub state : HasState shape w s
   pub durable : (a : ℕ) → a < words_of_shape shape → p.durable a ≡ w a
   pub log : (a : ℕ) → a < heap shape → (v : ℕ) → Wrote p.pending a v → ⊥
-  pub heap : (a : ℕ) → heap shape ≤ a → (v : ℕ) → Wrote p.pending a v → IsCovered shape.policy s.log a
+  pub heap : (a : ℕ) → heap shape ≤ a → (v : ℕ) → Wrote p.pending a v → HasDecidingRecord shape.policy s.log a
 
 -- Recovery began at the state first, and has come to a state at rest.
 pub record IsRecovering (shape : Shape) (first : State) (region : Region) : Type 0 where
@@ -38,7 +38,7 @@ EachImageKeeps = (shape : Shape) (first : State) (region : Region) (words : List
 -- A store of recovery to a heap word whose standing value a record decides, and a fence of recovery, go on with it.
 abbrev pub StoresGoOn : Type 0
 StoresGoOn = (shape : Shape) (first : State) (region : Region) (a v : ℕ) → (h : IsRecovering shape first region) → heap shape ≤ a →
-    IsCovered shape.policy h.state.log a → IsRecovering shape first (after region RECOVERY (PStore a v))
+    HasDecidingRecord shape.policy h.state.log a → IsRecovering shape first (after region RECOVERY (PStore a v))
 
 abbrev pub FencesGoOn : Type 0
 FencesGoOn = (shape : Shape) (first : State) (region : Region) → IsRecovering shape first region → IsRecovering shape first (after region RECOVERY Fence)

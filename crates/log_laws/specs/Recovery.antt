@@ -1,6 +1,7 @@
 -- The steps of recovery on what an image is to it.
 use Rattle.std.specs.Prelude.{◌≡◌, ◌≢◌, ◌⊎◌, ℕ, ◌+◌, ◌<◌, ◌≤◌, [], ◌∷◌}
 use Rattle.persist_model.specs.Region.{Words}
+use Rattle.persist_model.specs.Kinds.{ROLLED_BACK}
 use Rattle.persist_model.specs.Records.{Record, Log, IsAmong, Has, HasNo, IsOf, IsUpdate, IsCompensation, IsRollback, IsEnd, IsCheckpoint, IsLoser}
 use Rattle.persist_model.specs.Standing.{IsToUndo, IsToDelete, IsToRedo, IsEarliest, Stands}
 use Rattle.persist_model.specs.Order.{Compensates}
@@ -15,8 +16,8 @@ abbrev pub AreApplied : ℕ → Log → Words → Type 0
 AreApplied policy log w = (a : ℕ) → Has (IsToUndo log a) log ⊎ IsApplied policy log w a
 
 -- some record decides the standing value of a
-abbrev pub IsCovered : ℕ → Log → ℕ → Type 0
-IsCovered policy log a = Has (IsToUndo log a) log ⊎ Has (IsToDelete log a) log ⊎ Has (IsToRedo policy log a) log
+abbrev pub HasDecidingRecord : ℕ → Log → ℕ → Type 0
+HasDecidingRecord policy log a = Has (IsToUndo log a) log ⊎ Has (IsToDelete log a) log ⊎ Has (IsToRedo policy log a) log
 
 -- r takes the next number and a cell of its part
 pub record Appends (shape : Shape) (s : State) (r : Record) (room : ℕ → ℕ) : Type 0 where
@@ -40,13 +41,13 @@ abbrev pub IsStored : ℕ → Log → Words → Type 0
 IsStored t log w = (a : ℕ) (u : Record) → IsEarliest (λ r. IsUpdate r × (r.word ≡ a) × (r.transaction ≡ t)) log u → w a ≡ u.before
 
 pub data Step (shape : Shape) (s : State) : State → Type 0 where
-  stores : (w : Words) → ((a : ℕ) → (w a ≡ s.words a) ⊎ IsCovered shape.policy s.log a) →
+  stores : (w : Words) → ((a : ℕ) → (w a ≡ s.words a) ⊎ HasDecidingRecord shape.policy s.log a) →
       Step shape s (record { log = s.log; words = w; room = s.room })
   rolls_back : (r : Record) (room : ℕ → ℕ) → Appends shape s r room → IsOfLoser shape s.log r → IsRollback r →
       HasNo (λ x. IsOf r.transaction x × IsRollback x) s.log → Step shape s (grown s r room)
   compensates : (c u : Record) (stack : Log) (room : ℕ → ℕ) → Appends shape s c room → IsOfLoser shape s.log c → IsCompensation c →
       to_undo c.transaction s.log ≡ u ∷ stack → Compensates c u → Step shape s (grown s c room)
-  ends : (e : Record) (room : ℕ → ℕ) → Appends shape s e room → IsOfLoser shape s.log e → IsEnd e → e.outcome ≡ 2 →
+  ends : (e : Record) (room : ℕ → ℕ) → Appends shape s e room → IsOfLoser shape s.log e → IsEnd e → e.outcome ≡ ROLLED_BACK →
       Has (λ x. IsOf e.transaction x × IsRollback x) s.log → to_undo e.transaction s.log ≡ [] → IsStored e.transaction s.log s.words →
       Step shape s (grown s e room)
   checkpoints : (c : Record) (room : ℕ → ℕ) → Appends shape s c room → IsCheckpoint c → part_of shape c.at ≡ 0 → shape.policy ≡ 2 → HasOpen s.log →

@@ -14,7 +14,7 @@ use Rattle.atomic_list.proofs.Walks.{chain_of_list}
 use Rattle.region_layout.specs.declared.layout.Layout.{Layout}
 use Rattle.region_layout.specs.Layout.{layout_shape}
 use Rattle.region_layout.specs.Apart.{IsInPartition}
-use Rattle.bucket_log.proofs.Appending.{Each-among}
+use Rattle.bucket_log.proofs.AppendImages.{Each-among}
 use Rattle.bucket_log.proofs.Counting.{bucket_one}
 use Rattle.bucket_log.proofs.Scans.{among_left, among_right, among_append}
 use Rattle.log_partition.specs.declared.used.UsedBuckets.{UsedBuckets}

@@ -15,7 +15,7 @@ use Rattle.region_layout.specs.Layout.{policy_number, layout_shape, IsAllowed}
 use Rattle.region_layout.specs.Apart.{IsInPartition}
 use Rattle.region_layout.proofs.Parts.{parts_apart}
 use Rattle.bucket_log.specs.Reads.{IsLogOf}
-use Rattle.bucket_log.proofs.Appending.{Each-among}
+use Rattle.bucket_log.proofs.AppendImages.{Each-among}
 use Rattle.bucket_log.proofs.Counting.{bucket_one}
 use Rattle.bucket_log.proofs.Walking.{next_among, good_chain}
 use Rattle.bucket_log.proofs.Scans.{among_left, among_right, among_append}

@@ -24,7 +24,7 @@ use Rattle.region_layout.proofs.Headers.{shapes_are_read}
 use Rattle.bucket_log.specs.declared.scanning.Placed.{Placed}
 use Rattle.bucket_log.specs.Reads.{IsLogOf}
 use Rattle.bucket_log.specs.Scans.{record_of_placed, IsLogIn, IsSortedOf}
-use Rattle.bucket_log.proofs.Appending.{Each-among}
+use Rattle.bucket_log.proofs.AppendImages.{Each-among}
 use Rattle.bucket_log.proofs.Partitions.{few_parts, part_of_cell}
 use Rattle.bucket_log.proofs.ScanLogs.{views_have_logs}
 use Rattle.bucket_log.proofs.Scans.{among_left, among_right, among_append, counts, count_at, counts_small, count-append, count-cons, count_none, ascending, permuted, among_map, map_among, reverse-cons, reverse_among, among_reverse, newest}

@@ -12,7 +12,7 @@ use Rattle.atomic_list.specs.Rules.{IsList, at_rest}
 use Rattle.atomic_list.proofs.CasesToRules.{rules_of_list}
 use Rattle.region_layout.specs.declared.layout.Layout.{Layout}
 use Rattle.region_layout.specs.Layout.{layout_shape}
-use Rattle.log_partition.specs.Images.{small, Pair, word_in, words_in, two_chains}
+use Rattle.log_partition.specs.TableRegion.{small, Pair, word_in, words_in, two_chains}
 use Rattle.log_partition.specs.Merging.{AreLogsOf}
 
 abbrev w : Words

@@ -17,7 +17,7 @@ use Rattle.atomic_list.proofs.Agreeing.{lists_agree}
 use Rattle.atomic_list.proofs.Cases.{chain_is_buckets}
 use Rattle.bucket_log.specs.Words.{IsLogWord}
 use Rattle.bucket_log.proofs.Addresses.{list_word_is_log_word, cell_word_is_log_word}
-use Rattle.bucket_log.proofs.Appending.{Each-among, among_last}
+use Rattle.bucket_log.proofs.AppendImages.{Each-among, among_last}
 use Rattle.bucket_log.proofs.Partitions.{bucket_word_above}
 use Rattle.bucket_log.proofs.RecordSets.{same_cell}
 use Rattle.bucket_log.proofs.Rooms.{room_same}

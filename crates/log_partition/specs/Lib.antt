@@ -2,4 +2,4 @@ pub mod Views
 pub mod Merging
 pub mod Marks
 pub mod Used
-pub mod Images
+pub mod TableRegion

@@ -17,7 +17,7 @@ pub fn out_address(p: u32, a: u32) -> u32
 }
 
 /// The region's event for an event on a partition's view: the partition's list words stand for the words 8 to 12.
-pub fn out(p: u32, e: Event) -> Event
+pub fn region_event(p: u32, e: Event) -> Event
     requires { p < 3 }
     ensures { result ≡ out_event p e }
 {

@@ -7,7 +7,7 @@ pub mod laws;
 mod used;
 mod view;
 
-pub use events::{out, out_address};
+pub use events::{region_event, out_address};
 pub use gathering::merge;
 pub use used::UsedBuckets;
 pub use view::PartView;

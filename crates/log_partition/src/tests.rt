@@ -1,7 +1,7 @@
 ghost use Rattle.std.specs.Prelude.{◌≡◌, ◌<◌, ◌^◌, ℕ, List, IfOk, length};
 ghost use Rattle.persist_model.specs.Shape.{IsBucketOf};
 ghost use Rattle.region_layout.specs.Layout.{layout_shape};
-ghost use Rattle.log_partition.specs.Images.{small, word_in, words_in, two_chains};
+ghost use Rattle.log_partition.specs.TableRegion.{small, word_in, words_in, two_chains};
 ghost use Rattle.log_partition.specs.Used.{KnowsChains};
 
 use crate::{UsedBuckets, out};
@@ -13,12 +13,12 @@ use std::test::Fail;
 
 #[test]
 fn list_words_are_those_of_the_partition(rt: HostRuntime) {
-    assert!(rt; matches!(out(0, Event::PStore(12, 5)), Event::PStore(12, 5)));
-    assert!(rt; matches!(out(1, Event::PStore(8, 5)), Event::PStore(21, 5)));
-    assert!(rt; matches!(out(1, Event::Store(12, 0)), Event::Store(25, 0)));
-    assert!(rt; matches!(out(2, Event::WriteBack(12)), Event::WriteBack(30)));
-    assert!(rt; matches!(out(2, Event::PStore(13, 5)), Event::PStore(13, 5)));
-    assert!(rt; matches!(out(2, Event::Fence), Event::Fence));
+    assert!(rt; matches!(region_event(0, Event::PStore(12, 5)), Event::PStore(12, 5)));
+    assert!(rt; matches!(region_event(1, Event::PStore(8, 5)), Event::PStore(21, 5)));
+    assert!(rt; matches!(region_event(1, Event::Store(12, 0)), Event::Store(25, 0)));
+    assert!(rt; matches!(region_event(2, Event::WriteBack(12)), Event::WriteBack(30)));
+    assert!(rt; matches!(region_event(2, Event::PStore(13, 5)), Event::PStore(13, 5)));
+    assert!(rt; matches!(region_event(2, Event::Fence), Event::Fence));
 }
 
 // A row of words in memory.

@@ -1,7 +1,7 @@
 ghost use Rattle.std.specs.Prelude.{◌≡◌, ℕ, ◌<◌, ◌≤◌, Bool, true, false, List, IfOk, length, slice_index, slice_index_or, slice_set};
 ghost use Rattle.persist_model.specs.Shape.{bucket, IsBucketOf};
 ghost use Rattle.atomic_list.specs.Walk.{chain_of};
-ghost use Rattle.region_layout.specs.Layout.{layout_shape, IsPart};
+ghost use Rattle.region_layout.specs.Layout.{layout_shape, IsPartition};
 ghost use Rattle.region_layout.specs.declared.layout.Buckets.{Buckets};
 ghost use Rattle.bucket_log.specs.Reads.{IsLogOf, IsLeastOutside};
 ghost use Rattle.log_partition.specs.Merging.{AreLogsOf};
@@ -9,7 +9,7 @@ ghost use Rattle.log_partition.specs.Marks.{HasMark, HasPlace, AddsMarks, IsFirs
 ghost use Rattle.log_partition.specs.Used.{FitsBuckets, KnowsChains, chains_in, with_bucket};
 
 use crate::view::PartView;
-use atomic_list::after;
+use atomic_list::next_bucket;
 use persist_model::{Look, NoMemory};
 use region_layout::Layout;
 use std::alloc::Global;
@@ -58,7 +58,7 @@ fn mark_chain<W: Look>(marks: &mut Vec<bool>, words: &W, layout: Layout)
 {
     let mut last = 0;
     for _ in 0..layout.buckets {
-        let next = after(words, last);
+        let next = next_bucket(words, last);
         if next == 0 {
             break;
         }
@@ -110,7 +110,7 @@ impl UsedBuckets {
         requires part { p < layout.partitions }
         requires fits { FitsBuckets (layout_shape layout) self.old }
         ensures knows { (chains : ℕ → List ℕ) → KnowsChains (layout_shape layout) self.old chains → KnowsChains (layout_shape layout) self.new chains }
-        ensures least { (chains : ℕ → List ℕ) (part : Buckets) → KnowsChains (layout_shape layout) self.old chains → IsPart (layout_shape layout) p part
+        ensures least { (chains : ℕ → List ℕ) (part : Buckets) → KnowsChains (layout_shape layout) self.old chains → IsPartition (layout_shape layout) p part
             → IsLeastOutside (layout_shape layout) part (chains p) result }
     {
         let part = layout.part(p);

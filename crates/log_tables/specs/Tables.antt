@@ -5,6 +5,7 @@ use Rattle.std.specs.BTreeMap.{BTreeMap, get}
 use Rattle.std.specs.declared.cmp.Ordering.{Ordering}
 use Rattle.std.specs.Ordering.{nat_cmp, ordering_then}
 use Rattle.persist_model.specs.Records.{Record, Log}
+use Rattle.persist_model.specs.Kinds.{COMMITTED, END, ROLLBACK}
 use Rattle.persist_model.specs.Order.{is_kind_of, undo_point, last_new}
 use Rattle.persist_model.specs.Need.{is_of, has_of, has_kind_of, to_undo}
 use Rattle.bucket_log.specs.declared.scanning.Placed.{Placed}
@@ -23,11 +24,11 @@ has_outside part t p log = list_any (λ (s : Record). is_of t s && not (part s.a
 
 -- an end of t commits it
 abbrev pub has_commit_of : ℕ → Log → Bool
-has_commit_of t log = list_any (λ (s : Record). is_kind_of t 4 s && (s.outcome == 1)) log
+has_commit_of t log = list_any (λ (s : Record). is_kind_of t END s && (s.outcome == COMMITTED)) log
 
 -- an end of t has a number below n
 abbrev pub has_end_below : ℕ → ℕ → Log → Bool
-has_end_below t n log = list_any (λ (s : Record). is_kind_of t 4 s && nat_lt s.lsn n) log
+has_end_below t n log = list_any (λ (s : Record). is_kind_of t END s && nat_lt s.lsn n) log
 
 -- ---- a transaction
 
@@ -40,9 +41,9 @@ is_end_below (Some number) n = nat_lt number n
 pub record IsSummary (part : ℕ → ℕ) (s : Summary) (t : ℕ) (log : Log) : Type 0 where
   pub some : s.has_record ≡ has_of t log
   pub parts : (p : ℕ) → has_other s.parts p ≡ has_outside part t p log
-  pub rollback : s.has_rollback ≡ has_kind_of t 3 log
+  pub rollback : s.has_rollback ≡ has_kind_of t ROLLBACK log
   pub commit : s.has_commit ≡ has_commit_of t log
-  pub end : is_some s.first_end ≡ has_kind_of t 4 log
+  pub end : is_some s.first_end ≡ has_kind_of t END log
   pub below : (n : ℕ) → is_end_below s.first_end n ≡ has_end_below t n log
   pub point : s.undo_point ≡ undo_point t log
   pub count : s.undo_count ≡ length (to_undo t log)

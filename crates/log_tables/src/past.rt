@@ -30,10 +30,10 @@ type Claims = BTreeMap<u64, Seen>;
 
 // Takes a record whose number is new.
 fn add_number(numbers: &mut Numbers, s: &Placed) -> Result<(), AllocError>
-    requires { get nat_cmp numbers.old s.now.cell.gate ≡ None }
+    requires { get nat_cmp numbers.old s.now.cell.lsn ≡ None }
     ensures { OnOk result ((log : Log) → AreNumbers numbers.old log → AreNumbers numbers.new (record_of_placed s.now ∷ log)) }
 {
-    numbers.insert(s.cell.gate, *s)?;
+    numbers.insert(s.cell.lsn, *s)?;
     Ok(())
 }
 
@@ -51,7 +51,7 @@ fn add_new(news: &mut News, s: &Placed) -> Result<(), AllocError>
     if !is_change(s) {
         return Ok(());
     }
-    news.insert((s.cell.transaction, s.cell.address), s.cell.after)?;
+    news.insert((s.cell.transaction, s.cell.word), s.cell.after)?;
     Ok(())
 }
 
@@ -70,8 +70,8 @@ fn add_claim(claims: &mut Claims, s: &Placed, bars: bool) -> Result<(), AllocErr
     if !bars {
         return Ok(());
     }
-    let seen = claimers(claims, s.cell.address).with(s.cell.transaction);
-    claims.insert(s.cell.address, seen)?;
+    let seen = claimers(claims, s.cell.word).with(s.cell.transaction);
+    claims.insert(s.cell.word, seen)?;
     Ok(())
 }
 
@@ -133,7 +133,7 @@ impl Past {
     /// memory it may be taken in part, and nothing more is to be asked.
     pub fn add(&mut self, layout: Layout, s: &Placed, bars: bool) -> Result<(), NoMemory>
         requires { (marks : Record → Bool) × (log : Log) × IsPast (part_of_shape (layout_shape layout)) marks self.old log
-            × (length log + 1 < 2 ^ 64) × HasNo (λ r. r.lsn ≡ s.now.cell.gate) log }
+            × (length log + 1 < 2 ^ 64) × HasNo (λ r. r.lsn ≡ s.now.cell.lsn) log }
         ensures { OnOk result ((marks : Record → Bool) (log : Log) → bars ≡ marks (record_of_placed s.now)
             → IsPast (part_of_shape (layout_shape layout)) marks self.old log
             → IsPast (part_of_shape (layout_shape layout)) marks self.new (record_of_placed s.now ∷ log)) }

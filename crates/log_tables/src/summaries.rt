@@ -89,7 +89,7 @@ fn point_behind(s: &Placed, point: u64) -> u64
     ensures { (log : Log) → point ≡ undo_point_of s.now.cell.transaction log → result ≡ undo_point_of s.now.cell.transaction (record_of_placed s.now ∷ log) }
 {
     match s.cell.kind {
-        UPDATE => s.cell.gate,
+        UPDATE => s.cell.lsn,
         COMPENSATION => s.cell.undo_next,
         _ => point,
     }
@@ -111,14 +111,14 @@ fn count_behind(s: &Placed, count: u64) -> u64
 // The least number of an end behind a record.
 fn end_behind(s: &Placed, first: Option<u64>) -> Option<u64>
     ensures some { is_some result ≡ ((s.now.cell.kind == 4) || is_some first) }
-    ensures below { (n : ℕ) → is_end_below result n ≡ (((s.now.cell.kind == 4) && nat_lt s.now.cell.gate n) || is_end_below first n) }
+    ensures below { (n : ℕ) → is_end_below result n ≡ (((s.now.cell.kind == 4) && nat_lt s.now.cell.lsn n) || is_end_below first n) }
 {
     if s.cell.kind != END {
         return first;
     }
     match first {
-        Some(number) => Some(number.min(s.cell.gate)),
-        None => Some(s.cell.gate),
+        Some(number) => Some(number.min(s.cell.lsn)),
+        None => Some(s.cell.lsn),
     }
 }
 

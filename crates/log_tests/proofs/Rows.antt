@@ -9,7 +9,7 @@ use Rattle.atomic_list.proofs.Chains.{Each-weaker, Each-push, HasNoRepeats-push,
 use Rattle.atomic_list.proofs.Parts.{parts_fit}
 use Rattle.region_layout.specs.declared.layout.Layout.{Layout}
 use Rattle.region_layout.specs.declared.layout.Buckets.{Buckets}
-use Rattle.region_layout.specs.Layout.{layout_shape, IsPart}
+use Rattle.region_layout.specs.Layout.{layout_shape, IsPartition}
 use Rattle.bucket_log.specs.Reads.{IsLogOfPart}
 use Rattle.log_tests.specs.Rows.{IsRow}
 
@@ -21,10 +21,10 @@ pub bucket_fits : (shape : Shape) (j : ℕ) → j < shape.buckets → bucket sha
 bucket_fits shape j below = let rows = rows_fit j shape.buckets (bucket_size shape) below in omega (arith, rows)
 
 -- the part's buckets are among all
-pub number_below : (shape : Shape) (p : ℕ) (part : Buckets) (j : ℕ) → p < shape.partitions → IsPart shape p part → j < part.first + part.count → j < shape.buckets
+pub number_below : (shape : Shape) (p : ℕ) (part : Buckets) (j : ℕ) → p < shape.partitions → IsPartition shape p part → j < part.first + part.count → j < shape.buckets
 number_below shape p part j below is lt = let fit = parts_fit shape p below in let first = is.0 in let count = is.1 in omega (arith, fit, first, count, lt)
 
-pub bucket_of : (shape : Shape) (p : ℕ) (part : Buckets) (j : ℕ) → IsPart shape p part → part.first ≤ j → j < part.first + part.count → IsBucketOf shape p (bucket shape j)
+pub bucket_of : (shape : Shape) (p : ℕ) (part : Buckets) (j : ℕ) → IsPartition shape p part → part.first ≤ j → j < part.first + part.count → IsBucketOf shape p (bucket shape j)
 bucket_of shape p part j is low high = let first = is.0 in let count = is.1 in (j, omega (arith, low, first), omega (arith, high, first, count), refl)
 
 pub row_starts : (shape : Shape) (p : ℕ) (w : Words) → IsRow shape p w [] 8 0
@@ -65,7 +65,7 @@ rest_of_row shape p w xs link last h end tail to_append to_remove last_tail = re
 }
 
 pub log_of_rest : (layout : Layout) (part : Buckets) (p size : ℕ) (w : Words) (xs : List ℕ) → RulesAreCases → IsShape size w → layout_shape layout ≡ shape_of w → p < layout.partitions →
-    IsPart (layout_shape layout) p part → IsAtRest (layout_shape layout) p w xs → IsLogOfPart layout part size w
+    IsPartition (layout_shape layout) p part → IsAtRest (layout_shape layout) p w xs → IsLogOfPart layout part size w
 log_of_rest layout part p size w xs cases shape is below part_is rest = record {
   log = record {
     has_list = record {

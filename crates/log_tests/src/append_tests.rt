@@ -128,10 +128,10 @@ pub(crate) fn fresh(
 // An update record with this number.
 fn update(number: u64) -> Cell {
     Cell {
-        gate: number,
+        lsn: number,
         transaction: 1,
         kind: 1,
-        address: 100 + number % 16,
+        word: 100 + number % 16,
         before: 0,
         after: number,
         undo_next: 0,
@@ -203,7 +203,7 @@ pub(crate) fn check_scan<W: Look>(
     let found = scan(alloc, words, log.layout)?;
     assert_eq!(rt; found.len(), expected.len());
     for (placed, wanted) in found.as_slice().iter().zip(expected.iter()) {
-        assert_eq!(rt; (placed.at, placed.cell.gate), *wanted);
+        assert_eq!(rt; (placed.at, placed.cell.lsn), *wanted);
     }
     Ok(())
 }

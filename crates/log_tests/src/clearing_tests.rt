@@ -45,10 +45,10 @@ fn checkpoint() -> Entry {
 
 pub(crate) fn cell_of(entry: Entry, number: u64) -> Cell {
     Cell {
-        gate: number,
+        lsn: number,
         transaction: entry.transaction,
         kind: entry.kind,
-        address: 100,
+        word: 100,
         before: 0,
         after: number,
         undo_next: 0,

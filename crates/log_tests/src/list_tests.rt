@@ -6,7 +6,7 @@ ghost use Rattle.atomic_list.specs.Repairing.{CanRepair};
 
 use crate::checks::{Change, has_list};
 use atomic_list::{
-    Insert, Remove, Repair, TO_APPEND, TO_REMOVE, after, insert_event, remove_event, repair_event,
+    Insert, Remove, Repair, TO_APPEND, TO_REMOVE, next_bucket, insert_event, remove_event, repair_event,
     repair_of,
 };
 use lane_traits::{Device, Done};
@@ -106,12 +106,12 @@ fn reads<W: Look>(words: &W, chain: &[u32]) -> bool
 {
     let mut node = 0;
     for bucket in chain {
-        node = after(words, node);
+        node = next_bucket(words, node);
         if node != *bucket {
             return false;
         }
     }
-    after(words, node) == 0
+    next_bucket(words, node) == 0
 }
 
 fn word<W: Look>(words: &W, a: u32) -> u64 {

@@ -3,7 +3,7 @@ ghost use Rattle.std.specs.Prelude.{◌≡◌, ◌≢◌, ◌⊎◌, ℕ, ◌<�
 ghost use Rattle.persist_model.specs.Shape.{shape_of, bucket, heap, IsBucketOf, IsShape};
 ghost use Rattle.persist_model.specs.Chain.{IsLink};
 ghost use Rattle.atomic_list.specs.Rules.{IsAtRest};
-ghost use Rattle.region_layout.specs.Layout.{layout_shape, IsPart};
+ghost use Rattle.region_layout.specs.Layout.{layout_shape, IsPartition};
 ghost use Rattle.bucket_log.specs.Reads.{IsLogOfPart};
 ghost use Rattle.log_tests.specs.Rows.{IsRow};
 
@@ -53,7 +53,7 @@ fn row_end<W: Look>(
     chain: &[u32],
 ) -> Option<RowEnd>
     requires below { p < layout.partitions }
-    requires part { IsPart (layout_shape layout) p part }
+    requires part { IsPartition (layout_shape layout) p part }
     requires long { heap (layout_shape layout) ≤ length (W.words words.now) }
     ensures row { IfSome result (λ end. IsRow (layout_shape layout) p (slice_index (W.words words.now)) (map (bucket (layout_shape layout)) chain.now) end.link end.last) }
     ensures inside { IfSome result (λ end. end.link < heap (layout_shape layout)) }
@@ -81,7 +81,7 @@ fn row_end<W: Look>(
 // Whether the list is at rest with this chain. LAST_TAIL names nothing, or a bucket of the part.
 fn is_at_rest<W: Look>(words: &W, layout: Layout, p: u32, part: Buckets, chain: &[u32]) -> bool
     requires below { p < layout.partitions }
-    requires part { IsPart (layout_shape layout) p part }
+    requires part { IsPartition (layout_shape layout) p part }
     requires long { heap (layout_shape layout) ≤ length (W.words words.now) }
     ensures { IsTrue result → IsAtRest (layout_shape layout) p (slice_index (W.words words.now)) (map (bucket (layout_shape layout)) chain.now) }
 {
@@ -105,7 +105,7 @@ fn is_at_rest<W: Look>(words: &W, layout: Layout, p: u32, part: Buckets, chain: 
 
 // Whether the value is 0 or a bucket of the part.
 fn is_link(layout: Layout, part: Buckets, value: u64) -> bool
-    ensures { IsTrue result → (p : ℕ) → p < layout.partitions → IsPart (layout_shape layout) p part → IsLink (IsBucketOf (layout_shape layout) p) value }
+    ensures { IsTrue result → (p : ℕ) → p < layout.partitions → IsPartition (layout_shape layout) p part → IsLink (IsBucketOf (layout_shape layout) p) value }
 {
     if value == 0 {
         return true;

@@ -5,7 +5,7 @@ use Rattle.persist_model.specs.Records.{Record, Log, IsAmong, Has, HasNo, IsChec
 use Rattle.persist_model.specs.Shape.{heap_words}
 use Rattle.persist_model.specs.Standing.{IsToUndo, IsToDelete, IsToRedo, Stands, undone, deleted, redone, kept}
 use Rattle.log_laws.specs.Closing.{MayClear}
-use Rattle.log_laws.specs.Recovery.{IsCovered}
+use Rattle.log_laws.specs.Recovery.{HasDecidingRecord}
 use Rattle.log_laws.proofs.Deciding.{has_or_none, decide_to_undo}
 use Rattle.log_laws.proofs.Growing.{has_on, has_back}
 use Rattle.log_clearing.specs.Closed.{IsListed}
@@ -60,7 +60,7 @@ checkpoints_serve shape w s chain place number owners may can all =
     let first : inserted c s.log ≡ c ∷ s.log = inserted_first c s.log above in
     record {
       append = checkpoints_keep shape 0 w s chain place number may can;
-      deletes = λ a m. subst (λ l. IsCovered shape.policy l a) (sym first) (inr (inl (deletes_behind shape.policy s.log c refl above a ((all a).0 m))));
+      deletes = λ a m. subst (λ l. HasDecidingRecord shape.policy l a) (sym first) (inr (inl (deletes_behind shape.policy s.log c refl above a ((all a).0 m))));
       clear = λ z v x gates ends checkpoints k is close zero reached. (
           let same : x.log ≡ c ∷ s.log = is ∙ first in
           closings_keep shape z v x gates ends checkpoints k close.few close.has close.sound close.groups

@@ -1,14 +1,14 @@
 -- The plans under no-force on small literals.
 use Rattle.std.proofs.Common.{◌≡◌, [], ◌∷◌, Some, None, refl}
 use Rattle.persist_model.specs.declared.event.Event.TheVariants.{Store, PStore, WriteBack}
-use Rattle.bucket_log.specs.declared.parts.Update.{Update}
-use Rattle.bucket_log.specs.declared.parts.Part.TheVariants.{Append, Word, Fence, Clear}
-use Rattle.plan_records.specs.declared.cells.Outcome.TheVariants.{Committed, RolledBack}
+use Rattle.plan_records.specs.declared.parts.Update.{Update}
+use Rattle.plan_records.specs.declared.parts.Part.TheVariants.{Append, Word, Fence, Clear}
+use Rattle.persist_model.specs.declared.kinds.Outcome.TheVariants.{Committed, RolledBack}
 use Rattle.plan_records.specs.Cells.{cell_of_update, cell_of_compensation, cell_of_rollback, cell_of_end, cell_of_checkpoint}
 use Rattle.noforce_policy.specs.Plans.{write_plan, commit_plan, abort_plan, checkpoint_plan, next_of_checkpoint}
 
 abbrev update : Update
-update = record { transaction = 7; word = 170; before = 5; after = 6; previous = 0 }
+update = record { transaction = 7; word = 170; before = 5; after = 6; undo_next = 0 }
 
 write_is : write_plan update ≡ Append (cell_of_update update) ∷ Word (Store 170 6) ∷ []
 write_is = refl

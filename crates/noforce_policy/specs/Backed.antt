@@ -1,6 +1,7 @@
 -- Heap words under no-force, where a stop may lose a store: what of a word's newest value the log has.
 use Rattle.std.specs.Prelude.{◌≡◌, ◌≢◌, ◌⊎◌, ℕ, ◌+◌, Bool, IsTrue, List, [], ◌∷◌, ◌++◌, Option, Some}
 use Rattle.persist_model.specs.declared.event.Candidate.{Candidate}
+use Rattle.persist_model.specs.Kinds.{COMPENSATION, UPDATE}
 use Rattle.persist_model.specs.declared.event.Event.{Event}
 use Rattle.persist_model.specs.declared.event.Event.TheVariants.{Store, PStore, WriteBack, Fence}
 use Rattle.persist_model.specs.Region.{Region, candidate, IsCandidate, newest}
@@ -8,8 +9,8 @@ use Rattle.persist_model.specs.Records.{Record, Log, Has, HasNo, IsChange, IsSki
 use Rattle.persist_model.specs.Shape.{Shape, IsHeapWord}
 use Rattle.persist_model.specs.Standing.{IsToUndo, IsToDelete, IsToRedo, IsLatest}
 use Rattle.region_layout.specs.declared.cell.Cell.{Cell}
-use Rattle.bucket_log.specs.declared.parts.Part.{Part}
-use Rattle.bucket_log.specs.declared.parts.Part.TheVariants.{Append, Word}
+use Rattle.plan_records.specs.declared.parts.Part.{Part}
+use Rattle.plan_records.specs.declared.parts.Part.TheVariants.{Append, Word}
 use Rattle.plan_records.specs.HeapCourses.{IsChanged}
 
 -- whatever a stop leaves of the word is its newest value
@@ -78,5 +79,5 @@ TellsDirty shape dirty lane region = (a : ℕ) → IsHeapWord shape a → IsTrue
 -- the plan's only stores are that of the NEW of each change, right behind its record
 pub data StoresChanges : List Part → Type 0 where
   nothing : StoresChanges []
-  notes : {parts : List Part} (cell : Cell) → cell.kind ≢ 1 → cell.kind ≢ 2 → StoresChanges parts → StoresChanges (Append cell ∷ parts)
-  changes : {parts : List Part} (cell : Cell) → StoresChanges parts → StoresChanges (Append cell ∷ Word (Store cell.address cell.after) ∷ parts)
+  notes : {parts : List Part} (cell : Cell) → cell.kind ≢ UPDATE → cell.kind ≢ COMPENSATION → StoresChanges parts → StoresChanges (Append cell ∷ parts)
+  changes : {parts : List Part} (cell : Cell) → StoresChanges parts → StoresChanges (Append cell ∷ Word (Store cell.word cell.after) ∷ parts)

@@ -1,6 +1,7 @@
 -- The laws of words that the log backs: an update's OLD and a checkpoint's sweep meet what their appends ask of an image's heap words.
 use Rattle.std.specs.Prelude.{◌≡◌, ◌≢◌, ◌⊎◌, ℕ, Bool, IsTrue, List, [], ◌∷◌, ◌++◌, Option, Some, None}
 use Rattle.persist_model.specs.declared.event.Event.{Event}
+use Rattle.persist_model.specs.Kinds.{CHECKPOINT, END}
 use Rattle.persist_model.specs.declared.event.Event.TheVariants.{Store, PStore, WriteBack, Fence}
 use Rattle.persist_model.specs.Region.{Words, Region, IsCandidate, newest, after, MayStand}
 use Rattle.persist_model.specs.Law.{after_all}
@@ -13,10 +14,10 @@ use Rattle.log_laws.specs.Closing.{IsClosing}
 use Rattle.log_laws.specs.Moves.{MayName, IsChangeBy}
 use Rattle.log_laws.specs.Recovering.{IsOnLog}
 use Rattle.bucket_log.specs.declared.append.Place.{Place}
-use Rattle.bucket_log.specs.declared.parts.Update.{Update}
-use Rattle.bucket_log.specs.declared.parts.Giving.{Giving}
-use Rattle.bucket_log.specs.declared.parts.Closing.{Closing}
-use Rattle.bucket_log.specs.declared.parts.Undoing.{Undoing}
+use Rattle.plan_records.specs.declared.parts.Update.{Update}
+use Rattle.plan_records.specs.declared.parts.Giving.{Giving}
+use Rattle.plan_records.specs.declared.parts.Closing.{Closing}
+use Rattle.plan_records.specs.declared.parts.Undoing.{Undoing}
 use Rattle.bucket_log.specs.Appends.{region_append}
 use Rattle.log_clearing.specs.Plans.{closing_plan}
 use Rattle.log_clearing.specs.Clearing.{IsClearing}
@@ -98,9 +99,9 @@ pub record EventsKeepBacked : Type 0 where
 -- what a record keeps backed of the committed words
 pub record RecordsKeepBacked : Type 0 where
   -- a record that is no checkpoint record and doesn't change the word
-  pub word : (log : Log) (region : Region) (r : Record) (a : ℕ) → Passes log r → r.kind ≢ 5 → (IsChange r → r.word ≢ a) → IsBacked log region a → IsBacked (inserted r log) region a
+  pub word : (log : Log) (region : Region) (r : Record) (a : ℕ) → Passes log r → r.kind ≢ CHECKPOINT → (IsChange r → r.word ≢ a) → IsBacked log region a → IsBacked (inserted r log) region a
   -- a record of a running transaction, but its end
-  pub running : (shape : Shape) (s x : State) (region : Region) (r : Record) → Passes s.log r → r.kind ≢ 4 → r.kind ≢ 5 → IsRunning s.log r.transaction →
+  pub running : (shape : Shape) (s x : State) (region : Region) (r : Record) → Passes s.log r → r.kind ≢ END → r.kind ≢ CHECKPOINT → IsRunning s.log r.transaction →
       x.log ≡ inserted r s.log → IsSoundState shape x → AreBacked shape s.log region → AreBacked shape x.log region
   -- the end of a transaction whose words are backed
   pub ends : (shape : Shape) (log : Log) (region : Region) (e : Record) → Passes log e → IsEnd e → AreOwnBacked e.transaction None log region →
@@ -116,7 +117,7 @@ pub record RecordsKeepBacked : Type 0 where
 pub record RecordsKeepOwn : Type 0 where
   pub none : (log : Log) (region : Region) (t : ℕ) → HasNo (IsOf t) log → AreOwnBacked t None log region
   -- a record of a running transaction that is no change by t
-  pub others : (shape : Shape) (s x : State) (region : Region) (r : Record) (t : ℕ) (waiting : Option ℕ) → Passes s.log r → r.kind ≢ 5 → (IsChange r → r.transaction ≢ t) →
+  pub others : (shape : Shape) (s x : State) (region : Region) (r : Record) (t : ℕ) (waiting : Option ℕ) → Passes s.log r → r.kind ≢ CHECKPOINT → (IsChange r → r.transaction ≢ t) →
       IsRunning s.log r.transaction → IsRunning s.log t → x.log ≡ inserted r s.log → IsSoundState shape x → AreOwnBacked t waiting s.log region → AreOwnBacked t waiting x.log region
   pub checkpoints : (shape : Shape) (s : State) (region : Region) (c : Record) (t : ℕ) (waiting : Option ℕ) → IsSoundState shape s → IsCheckpoint c → IsRunning s.log t →
       AreOwnBacked t waiting s.log region → AreOwnBacked t waiting (inserted c s.log) region
@@ -168,7 +169,7 @@ SweptWordsMeet = (shape : Shape) (s : State) (region : Region) (i : Words) → s
 abbrev pub UpdatesLeave : Type 0
 UpdatesLeave = (shape : Shape) (p : ℕ) (w : Words) (x : State) (u : Update) (chain : List ℕ) (place : Place) (number k : ℕ) (region : Region) (i : Words) →
     let r = appended place number (cell_of_update u) in
-    shape.policy ≡ 2 → MayAppend shape p w x chain place r → CanUpdate shape x r → u.previous ≡ undo_point u.transaction x.log →
+    shape.policy ≡ 2 → MayAppend shape p w x chain place r → CanUpdate shape x r → u.undo_next ≡ undo_point u.transaction x.log →
     region.size ≡ words_of_shape shape → MayStand i region → AreBacked shape x.log region → AreOwnBacked u.transaction None x.log region → u.before ≡ newest (region.at u.word) →
     MayStandAt shape w (region_append shape p place r) k i → LeavesKept shape p x place r k i
 

@@ -1,17 +1,18 @@
 -- The laws of the plans under no-force: wherever a lane has come in one, its next part may begin.
 use Rattle.std.specs.Prelude.{◌≡◌, ◌≢◌, ◌⊎◌, ◌↔◌, ℕ, ◌≤◌, List}
 use Rattle.persist_model.specs.Region.{Words}
+use Rattle.persist_model.specs.Kinds.{CHECKPOINT}
 use Rattle.persist_model.specs.Records.{Record, Log, IsAmong, Has, IsRunning, IsEnded}
 use Rattle.persist_model.specs.Shape.{Shape, heap_words}
 use Rattle.persist_model.specs.Standing.{IsToDelete}
 use Rattle.persist_model.specs.State.{State, IsSoundState}
 use Rattle.persist_model.specs.Sound.{HasState}
-use Rattle.log_laws.specs.Recovery.{IsCovered}
+use Rattle.log_laws.specs.Recovery.{HasDecidingRecord}
 use Rattle.bucket_log.specs.declared.append.Place.{Place}
-use Rattle.bucket_log.specs.declared.parts.Update.{Update}
-use Rattle.bucket_log.specs.declared.parts.Giving.{Giving}
-use Rattle.bucket_log.specs.declared.parts.Closing.{Closing}
-use Rattle.bucket_log.specs.declared.parts.Undoing.{Undoing}
+use Rattle.plan_records.specs.declared.parts.Update.{Update}
+use Rattle.plan_records.specs.declared.parts.Giving.{Giving}
+use Rattle.plan_records.specs.declared.parts.Closing.{Closing}
+use Rattle.plan_records.specs.declared.parts.Undoing.{Undoing}
 use Rattle.log_clearing.specs.Plans.{closing_plan}
 use Rattle.log_clearing.specs.Closed.{AreGroups, IsListed}
 use Rattle.log_clearing.specs.Clearing.{IsClearing}
@@ -49,14 +50,14 @@ pub record MayCloseEnded (shape : Shape) (c : Record) (z : Words) (x : State) (g
   pub has : HasState shape z x
   pub sound : IsSoundState shape x
   pub groups : AreGroups x.log gates ends checkpoints
-  pub ended : (r : Record) → IsAmong x.log r → IsListed gates ends checkpoints r ↔ ((r ≡ c) ⊎ ((r.kind ≢ 5) × IsEnded x.log r.transaction))
+  pub ended : (r : Record) → IsAmong x.log r → IsListed gates ends checkpoints r ↔ ((r ≡ c) ⊎ ((r.kind ≢ CHECKPOINT) × IsEnded x.log r.transaction))
 
 -- What the parts behind a sweep leave to a stop: at each prefix of the append of the checkpoint record c each image is sound, with the
 -- standing words before, where the sweep is kept in it; with c there the owner words may be stored; and with these at 0 the records of all
 -- ended transactions, and c, may be closed.
 pub record CheckpointServes (shape : Shape) (w : Words) (s : State) (place : Place) (c : Record) (owners : List ℕ) : Type 0 where
   pub append : AppendKeeps shape 0 w s place c (AreSweptIn shape s)
-  pub deletes : (a : ℕ) → IsAmong owners a → IsCovered shape.policy (inserted c s.log) a
+  pub deletes : (a : ℕ) → IsAmong owners a → HasDecidingRecord shape.policy (inserted c s.log) a
   pub clear : (z v : Words) (x : State) (gates ends checkpoints : List ℕ) (k : ℕ) → x.log ≡ inserted c s.log → MayCloseEnded shape c z x gates ends checkpoints →
       ((a : ℕ) → IsAmong owners a → heap_words shape v a ≡ 0) → MayStandAt shape z (closing_plan gates ends checkpoints) k v → IsClearing shape v x gates ends checkpoints
 

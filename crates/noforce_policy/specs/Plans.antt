@@ -2,13 +2,13 @@
 use Rattle.std.specs.Prelude.{ℕ, ◌==◌, if◌then◌else◌, List, [], ◌∷◌, ◌++◌, Option, Some, None, slice_get}
 use Rattle.persist_model.specs.declared.event.Event.TheVariants.{Store, WriteBack}
 use Rattle.region_layout.specs.declared.layout.Policy.TheVariants.{NoForce}
-use Rattle.bucket_log.specs.declared.parts.Part.{Part}
-use Rattle.bucket_log.specs.declared.parts.Part.TheVariants.{Append, Word, Fence, Clear}
-use Rattle.bucket_log.specs.declared.parts.Update.{Update}
-use Rattle.bucket_log.specs.declared.parts.Giving.{Giving}
-use Rattle.bucket_log.specs.declared.parts.Closing.{Closing}
-use Rattle.bucket_log.specs.declared.parts.Undoing.{Undoing}
-use Rattle.plan_records.specs.declared.cells.Outcome.TheVariants.{Committed, RolledBack}
+use Rattle.plan_records.specs.declared.parts.Part.{Part}
+use Rattle.plan_records.specs.declared.parts.Part.TheVariants.{Append, Word, Fence, Clear}
+use Rattle.plan_records.specs.declared.parts.Update.{Update}
+use Rattle.plan_records.specs.declared.parts.Giving.{Giving}
+use Rattle.plan_records.specs.declared.parts.Closing.{Closing}
+use Rattle.plan_records.specs.declared.parts.Undoing.{Undoing}
+use Rattle.persist_model.specs.declared.kinds.Outcome.TheVariants.{Committed, RolledBack}
 use Rattle.plan_records.specs.Cells.{cell_of_update, cell_of_rollback, cell_of_end, cell_of_checkpoint, cell_of_deletion}
 use Rattle.plan_records.specs.Sequences.{undo_parts, owner_parts}
 use Rattle.noforce_policy.specs.declared.checkpoint.Sweep.{Sweep}

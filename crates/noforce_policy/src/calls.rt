@@ -3,9 +3,10 @@ ghost use Rattle.std.specs.Prelude.{◌≡◌, All, slice_get};
 ghost use Rattle.plan_records.specs.Sequences.{HasAddress};
 ghost use Rattle.noforce_policy.specs.Plans.{write_plan, give_plan, commit_plan, abort_plan};
 
-use bucket_log::{Closing, Giving, Part, Undoing, Update};
+use persist_model::Outcome;
+use plan_records::{Closing, Giving, Part, Undoing, Update};
 use plan_records::{
-    Outcome, deletion_cell, end_cell, rollback_cell, undo_part, update_cell, word_store,
+    deletion_cell, end_cell, rollback_cell, undo_part, update_cell, word_store,
 };
 use region_layout::Policy;
 

@@ -2,7 +2,7 @@
 ghost use Rattle.std.specs.Prelude.{◌≡◌, slice_get};
 ghost use Rattle.noforce_policy.specs.Plans.{checkpoint_plan, next_of_checkpoint};
 
-use bucket_log::Part;
+use plan_records::Part;
 use persist_model::{Event, List};
 use plan_records::{checkpoint_cell, owner_part, owner_part_count};
 

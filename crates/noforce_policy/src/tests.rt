@@ -163,7 +163,7 @@ fn change(transaction: u64, before: u64, after: u64) -> Update {
         word: 294,
         before,
         after,
-        previous: 0,
+        undo_next: 0,
     }
 }
 

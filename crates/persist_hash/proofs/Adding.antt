@@ -5,7 +5,7 @@ use Rattle.std.proofs.lemmas.Bool.Decides.{eqb_tells}
 use Rattle.persist_model.specs.Records.{IsAmong}
 use Rattle.persist_model.specs.Chain.{HasNoRepeats}
 use Rattle.persist_model.specs.Region.{Words}
-use Rattle.lane_traits.specs.Space.{Land, Space, AreSpare, IsTaken, IsOwn, IsDataWord, put_word, is_not, taken, given, written}
+use Rattle.lane_traits.specs.Space.{Land, Space, AreSpare, IsTaken, IsOwn, IsDataWordOf, put_word, is_not, taken, given, written}
 use Rattle.lane_traits.proofs.Writes.{put_same, put_other}
 use Rattle.lane_traits.proofs.Among.{of_absent, kept_all}
 use Rattle.persist_hash.specs.Calls.{TakesBlocks, IsUnwritten, KeepsOthers}
@@ -173,23 +173,23 @@ opens_elsewhere root index directory place node key value s u h own_directory ow
 
 -- ---- words that are no data words of the structure's blocks
 
-held : (land : Land) (b i : ℕ) → IsOwn land b → 0 < i → i < 16 → IsDataWord land (b + i)
+held : (land : Land) (b i : ℕ) → IsOwn land b → 0 < i → i < 16 → IsDataWordOf land (b + i)
 held land b i own above below = record { block = b; index = i; own = own; place = refl; above = above; below = below }
 
-no_data : (land : Land) (a b i : ℕ) → (IsDataWord land a → ⊥) → IsOwn land b → 0 < i → i < 16 → a ≢ b + i
-no_data land a b i out own above below e = out (subst (IsDataWord land) (sym e) (held land b i own above below))
+no_data : (land : Land) (a b i : ℕ) → (IsDataWordOf land a → ⊥) → IsOwn land b → 0 < i → i < 16 → a ≢ b + i
+no_data land a b i out own above below e = out (subst (IsDataWordOf land) (sym e) (held land b i own above below))
 
 pub others_written : (s u : Space) (b i v : ℕ) → IsOwn s.land b → 0 < i → i < 16 → u ≡ written (b + i) v s → KeepsOthers s u
 others_written s u b i v own above below is = λ a out later.
     ap (λ (t : Space). t.word a) is ∙ put_other (b + i) v a s.word (no_data s.land a b i out own above below)
 
-pub others_added : (s u : Space) (slot key value : ℕ) → IsDataWord s.land slot → AddsNode slot key value s u → KeepsOthers s u
+pub others_added : (s u : Space) (slot key value : ℕ) → IsDataWordOf s.land slot → AddsNode slot key value s u → KeepsOthers s u
 others_added s u slot key value slot_held adds = λ a out later.
     let n = adds.node in
     let land : u.land ≡ with_block n s.land = ap (λ (t : Space). t.land) adds.space in
     let own = subst (λ (l : Land). IsOwn l n) (sym land) (own_new s.land n adds.block) in
     ap (λ (t : Space). t.word a) adds.space
-    ∙ put_other slot n a (put_word (n + 3) (s.word slot) (put_word (n + 2) value (put_word (n + 1) key s.word))) (λ e. out (subst (IsDataWord s.land) (sym e) slot_held))
+    ∙ put_other slot n a (put_word (n + 3) (s.word slot) (put_word (n + 2) value (put_word (n + 1) key s.word))) (λ e. out (subst (IsDataWordOf s.land) (sym e) slot_held))
     ∙ put_other (n + 3) (s.word slot) a (put_word (n + 2) value (put_word (n + 1) key s.word)) (no_data u.land a n 3 later own (omega arith) (omega arith))
     ∙ put_other (n + 2) value a (put_word (n + 1) key s.word) (no_data u.land a n 2 later own (omega arith) (omega arith))
     ∙ put_other (n + 1) key a s.word (no_data u.land a n 1 later own (omega arith) (omega arith))
@@ -211,6 +211,6 @@ others_opened s u root index place key value root_own lt adds = λ a out later.
 pub others_same : (s u : Space) → u ≡ s → KeepsOthers s u
 others_same s u is = λ a out later. ap (λ (t : Space). t.word a) is
 
-pub others_unlinked : (s u : Space) (node link x : ℕ) → IsDataWord s.land link → u ≡ given node (written link x s) → KeepsOthers s u
+pub others_unlinked : (s u : Space) (node link x : ℕ) → IsDataWordOf s.land link → u ≡ given node (written link x s) → KeepsOthers s u
 others_unlinked s u node link x link_held is = λ a out later.
-    ap (λ (t : Space). t.word a) is ∙ put_other link x a s.word (λ e. out (subst (IsDataWord s.land) (sym e) link_held))
+    ap (λ (t : Space). t.word a) is ∙ put_other link x a s.word (λ e. out (subst (IsDataWordOf s.land) (sym e) link_held))

@@ -2,7 +2,7 @@
 use Rattle.std.proofs.Common.{◌≡◌, ◌≢◌, ◌⊎◌, inl, inr, ⊎_elim, ℕ, ◌<◌, ◌≤◌, if◌then◌else◌, ◌==◌, nat_lt, List, [], ◌∷◌, ◌++◌, Bool, true, false, Option, Some, None, refl, ap, sym, ◌∙◌, arith, subst}
 use Rattle.std.proofs.lemmas.Bool.{cases_lt}
 use Rattle.std.proofs.lemmas.Bool.Decides.{nat_tests, eqb_tells}
-use Rattle.region_layout.specs.FiniteMap.{FiniteMap, lookup, with_pair, without_key, AreAfter, IsAscending}
+use Rattle.region_layout.specs.FiniteMap.{FiniteMap, lookup, with_pair, without_key, AreAfter, HasAscendingKeys}
 use Rattle.region_layout.specs.HashMap.{Node, Chains, chain_number, pairs}
 use Rattle.persist_hash.specs.Chains.{HasNotKey, put_chain}
 use Rattle.persist_hash.proofs.Changing.{put_chain_same, put_chain_other}
@@ -58,7 +58,7 @@ after_less : (m n : ℕ) (ps : FiniteMap) → n ≤ m → AreAfter m ps → AreA
 after_less m n [] le h = tt
 after_less m n (p ∷ ps) le h = (let f = h.0 in omega (arith, le, f), after_less m n ps le h.1)
 
-pub ascending-with_pair : (key v : ℕ) (m : FiniteMap) → IsAscending m → IsAscending (with_pair key v m)
+pub ascending-with_pair : (key v : ℕ) (m : FiniteMap) → HasAscendingKeys m → HasAscendingKeys (with_pair key v m)
 ascending-with_pair key v [] h = (tt, tt)
 ascending-with_pair key v (p ∷ ps) h = ⊎_elim
     (λ same. let on = same.0 in rw on (subst (λ x. AreAfter x ps) (sym same.1) h.0, h.1))
@@ -76,7 +76,7 @@ lookup_after k (p ∷ ps) h =
     let off : (k == p.0) ≡ false = grind (arith, nat_tests) in
     rw off (lookup_after k ps h.1)
 
-pub lookup-without_key : (k key : ℕ) (m : FiniteMap) → IsAscending m → lookup k (without_key key m) ≡ changed_at key None k (lookup k m)
+pub lookup-without_key : (k key : ℕ) (m : FiniteMap) → HasAscendingKeys m → lookup k (without_key key m) ≡ changed_at key None k (lookup k m)
 lookup-without_key k key [] h = none_either (k == key) None
   where
     none_either : (t : Bool) (x : Option ℕ) → x ≡ (if t then x else x)
@@ -114,11 +114,11 @@ after_without n key (p ∷ ps) h = step (key == p.0) (after_without n key ps h.1
     step true again = h.1
     step false again = (h.0, again)
 
-pub ascending-without_key : (key : ℕ) (m : FiniteMap) → IsAscending m → IsAscending (without_key key m)
+pub ascending-without_key : (key : ℕ) (m : FiniteMap) → HasAscendingKeys m → HasAscendingKeys (without_key key m)
 ascending-without_key key [] h = tt
 ascending-without_key key (p ∷ ps) h = step (key == p.0) (ascending-without_key key ps h.1)
   where
-    step : (t : Bool) → IsAscending (without_key key ps) → IsAscending (if t then ps else p ∷ without_key key ps)
+    step : (t : Bool) → HasAscendingKeys (without_key key ps) → HasAscendingKeys (if t then ps else p ∷ without_key key ps)
     step true again = h.1
     step false again = (after_without p.0 key ps h.0, again)
 

@@ -3,7 +3,7 @@ use Rattle.std.proofs.Common.{◌≡◌, ◌≢◌, ⊎_elim, ℕ, ◌+◌, ◌/
 use Rattle.std.proofs.lemmas.Bool.Decides.{nat_tests, eqb_tells}
 use Rattle.persist_model.specs.Region.{Words}
 use Rattle.lane_traits.specs.Device.{MAX_WORDS}
-use Rattle.lane_traits.specs.Space.{Land, Space, IsOwn, IsDataWord}
+use Rattle.lane_traits.specs.Space.{Land, Space, IsOwn, IsDataWordOf}
 use Rattle.region_layout.specs.FiniteMap.{FiniteMap, lookup}
 use Rattle.region_layout.specs.HashMap.{Node, Chains, IsChain, IsHash, blocks, pairs, chain_number, directory_of, chain_word, first_link}
 use Rattle.persist_hash.specs.Chains.{link_behind, AreOwnNodes, BeginsChain, IsFound, IsHead, IsPlaceOf, first_block, HasHash}
@@ -21,7 +21,7 @@ pub index_below : (c : ℕ) → c < 64 → c / 8 < 8
 index_below c below = omega (arith, below)
 
 -- the word of the root that names a directory block, and what it names
-pub directory_held : (land : Land) (root c : ℕ) → IsOwn land root → c < 64 → IsDataWord land (root + 1 + c / 8)
+pub directory_held : (land : Land) (root c : ℕ) → IsOwn land root → c < 64 → IsDataWordOf land (root + 1 + c / 8)
 directory_held land root c own below =
     let q = index_below c below in
     record { block = root; index = 1 + c / 8; own = own; place = omega arith; above = omega arith; below = omega (arith, q) }
@@ -35,7 +35,7 @@ directory_fits land w root chains c h below = ⊎_elim
 pub directory_own : (land : Land) (w : Words) (root : ℕ) (chains : Chains) (c : ℕ) → IsHash land w root chains → c < 64 → directory_of w root c ≢ 0 → IsOwn land (directory_of w root c)
 directory_own land w root chains c h below some = (placed_of land w root chains h).own_directory (c / 8) (index_below c below) some
 
-pub slot_held : (land : Land) (directory c : ℕ) → IsOwn land directory → IsDataWord land (directory + 1 + c % 8)
+pub slot_held : (land : Land) (directory c : ℕ) → IsOwn land directory → IsDataWordOf land (directory + 1 + c % 8)
 slot_held land directory c own = record { block = directory; index = 1 + c % 8; own = own; place = omega arith; above = omega arith; below = omega arith }
 
 pub first_is : (w : Words) (root c : ℕ) → directory_of w root c ≢ 0 → first_link w root c ≡ w (chain_word (directory_of w root c) c)

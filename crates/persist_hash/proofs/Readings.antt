@@ -10,7 +10,7 @@ use Rattle.lane_traits.specs.Draft.{is_among}
 use Rattle.lane_traits.specs.DraftLaws.{of_among}
 use Rattle.lane_traits.proofs.Among.{among_of, among_last, of_absent, once_more, is_among-last}
 use Rattle.persist_hash.proofs.Joined.{is_among-append, or_assoc}
-use Rattle.region_layout.specs.FiniteMap.{FiniteMap, lookup, with_pair, IsAscending}
+use Rattle.region_layout.specs.FiniteMap.{FiniteMap, lookup, with_pair, HasAscendingKeys}
 use Rattle.region_layout.specs.HashMap.{Node, Chains, CHAINS, IsChain, EachNode, IsHash, blocks, keys, pairs, directories, nodes, first_link, chain_number}
 use Rattle.persist_hash.specs.Chains.{AreOwnNodes}
 use Rattle.persist_hash.specs.Walk.{nodes_up_to}
@@ -381,7 +381,7 @@ sorted_of : List Node → FiniteMap
 sorted_of [] = []
 sorted_of (n ∷ ns) = with_pair n.key n.value (sorted_of ns)
 
-sorted_ascends : (ns : List Node) → IsAscending (sorted_of ns)
+sorted_ascends : (ns : List Node) → HasAscendingKeys (sorted_of ns)
 unfolding sorted_of
 sorted_ascends [] = tt
 sorted_ascends (n ∷ ns) = ascending-with_pair n.key n.value (sorted_of ns) (sorted_ascends ns)

@@ -4,7 +4,7 @@ use Rattle.std.proofs.lemmas.Bool.Decides.{eqb_tells}
 use Rattle.persist_model.specs.Region.{Words}
 use Rattle.persist_model.specs.Records.{IsAmong}
 use Rattle.persist_model.specs.Chain.{HasNoRepeats, IsAbsent}
-use Rattle.lane_traits.specs.Space.{Land, Space, IsOwn, IsDataWord, with_owner, put_word, given, written}
+use Rattle.lane_traits.specs.Space.{Land, Space, IsOwn, IsDataWordOf, with_owner, put_word, given, written}
 use Rattle.lane_traits.proofs.Writes.{put_same, put_other}
 use Rattle.region_layout.specs.FiniteMap.{FiniteMap, lookup, with_pair, without_key}
 use Rattle.region_layout.specs.HashMap.{Node, Chains, IsChain, EachNode, IsHash, blocks, keys, pairs, chain_number, directory_of, chain_word}
@@ -329,7 +329,7 @@ holds_removed s root key contents holds directory link node place some =
 
 -- the link to a node is a data word
 pub link_held : (s : Space) (root key : ℕ) (chains : Chains) (directory link node : ℕ) → IsHash s.land s.word root chains
-    → IsPlaceOf s root key (chains (chain_number key)) directory link node → node ≢ 0 → IsDataWord s.land link
+    → IsPlaceOf s root key (chains (chain_number key)) directory link node → node ≢ 0 → IsDataWordOf s.land link
 link_held s root key chains directory link node h place some =
     let c = chain_number key in
     let at = node_there s root key chains directory link node h place some in
@@ -337,10 +337,10 @@ link_held s root key chains directory link node h place some =
     let there : directory ≢ 0 = (λ z. at.directory (sym place.directory_is ∙ z)) in
     let link_at : link ≡ link_behind (slot_of s.word root c) place.front =
     place.link_is there ∙ ap (λ x. link_behind (chain_word x c) place.front) place.directory_is in
-    subst (IsDataWord s.land) (sym link_at) (⊎_elim
-    (λ first. subst (IsDataWord s.land) (sym first)
+    subst (IsDataWordOf s.land) (sym link_at) (⊎_elim
+    (λ first. subst (IsDataWordOf s.land) (sym first)
     (slot_held s.land (directory_of s.word root c) c (parts.placed.own_directory (c / 8) (index_below c (chain_below key)) at.directory)))
-    (λ behind. subst (IsDataWord s.land) (sym behind.2)
+    (λ behind. subst (IsDataWordOf s.land) (sym behind.2)
     (data_word s.land behind.0 3 (own_part s.land s.word root chains c place.front at.more at.first parts behind.0
     (among_left (blocks place.front) (at.first.block ∷ blocks at.more) behind.0 behind.1)) (omega arith) (omega arith)))
     (link_where (slot_of s.word root c) place.front))

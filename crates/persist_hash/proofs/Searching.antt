@@ -1,12 +1,12 @@
 -- A search in a chain.
 use Rattle.std.proofs.Common.{◌≡◌, ◌≢◌, ◌⊎◌, inl, inr, ℕ, ◌+◌, ◌^◌, ◌<◌, ◌≤◌, List, [], ◌∷◌, ◌++◌, length, refl, ap, sym, ◌∙◌, arith, subst}
 use Rattle.persist_model.specs.Region.{Words}
-use Rattle.lane_traits.specs.Space.{Land, Space, IsOwn, IsDataWord}
+use Rattle.lane_traits.specs.Space.{Land, Space, IsOwn, IsDataWordOf}
 use Rattle.region_layout.specs.HashMap.{Node, IsChain}
 use Rattle.persist_hash.specs.Chains.{link_behind, AreOwnNodes, HasChain, BeginsChain, IsSought, IsFound, IsHead, nodes_left}
 use Rattle.persist_hash.proofs.ChainLaws.{each_joined, each_right, nodes-assoc, chain_behind, nodes_left-is}
 
-pub data_word : (land : Land) (b i : ℕ) → IsOwn land b → 0 < i → i < 16 → IsDataWord land (b + i)
+pub data_word : (land : Land) (b i : ℕ) → IsOwn land b → 0 < i → i < 16 → IsDataWordOf land (b + i)
 data_word land b i own above below = record { block = b; index = i; own = own; place = refl; above = above; below = below }
 
 pub sought_first : (s : Space) (at key node : ℕ) → HasChain s at → node ≡ s.word at → IsSought s at key at node

@@ -10,7 +10,7 @@ use Rattle.persist_model.specs.Records.{IsAmong}
 use Rattle.persist_model.specs.Chain.{HasNoRepeats, IsAbsent}
 use Rattle.lane_traits.specs.Space.{Space}
 use Rattle.lane_traits.specs.declared.words.Pair.{Pair}
-use Rattle.region_layout.specs.FiniteMap.{FiniteMap, lookup, AreAfter, IsAscending}
+use Rattle.region_layout.specs.FiniteMap.{FiniteMap, lookup, AreAfter, HasAscendingKeys}
 use Rattle.region_layout.specs.HashMap.{Node, Chains, EachNode, keys, pairs, chain_number}
 use Rattle.persist_hash.specs.Calls.{Holds}
 use Rattle.persist_hash.specs.Walk.{entries_of, node_pair, node_pairs, nodes_up_to}
@@ -35,7 +35,7 @@ none_some : (o : Option ℕ) (v : ℕ) → o ≡ None → o ≡ Some v → ⊥
 none_some o v e f = let q : None ≡ Some v = sym e ∙ f in cc
 
 -- ascending lists with the same look-ups are one
-pub same_entries : (a b : FiniteMap) → IsAscending a → IsAscending b → ((k : ℕ) → lookup k a ≡ lookup k b) → a ≡ b
+pub same_entries : (a b : FiniteMap) → HasAscendingKeys a → HasAscendingKeys b → ((k : ℕ) → lookup k a ≡ lookup k b) → a ≡ b
 same_entries [] [] ha hb same = refl
 same_entries [] (q ∷ qs) ha hb same = absurd (none_some (lookup q.0 []) q.1 refl (same q.0 ∙ first_of q qs))
 same_entries (p ∷ ps) [] ha hb same = absurd (none_some (lookup p.0 []) p.1 refl (sym (same p.0) ∙ first_of p ps))
@@ -83,7 +83,7 @@ after_member k [] p h m = absurd m
 after_member k (q ∷ qs) p h (inl e) = let less = h.0 in let f : p.0 ≡ q.0 = ap (λ (x : ℕ × ℕ). x.0) e in omega (arith, less, f)
 after_member k (q ∷ qs) p h (inr m) = after_member k qs p h.1 m
 
-lookup_of_among : (p : ℕ × ℕ) (m : FiniteMap) → IsAscending m → IsAmong m p → lookup p.0 m ≡ Some p.1
+lookup_of_among : (p : ℕ × ℕ) (m : FiniteMap) → HasAscendingKeys m → IsAmong m p → lookup p.0 m ≡ Some p.1
 lookup_of_among p [] h m = absurd m
 lookup_of_among p (q ∷ qs) h (inl e) = subst (λ (x : ℕ × ℕ). lookup x.0 (q ∷ qs) ≡ Some x.1) (sym e) (first_of q qs)
 lookup_of_among p (q ∷ qs) h (inr m) =
@@ -113,7 +113,7 @@ all_after k (x ∷ xs) h low = (
   all_after k xs h.1 (λ j d lt. low (suc j) d (omega (arith, lt))),
 )
 
-ascends : (xs : List Pair) → IsDistinct same_key xs → IsNonDecreasingBy (λ p. p.key) xs → IsAscending (entries_of xs)
+ascends : (xs : List Pair) → IsDistinct same_key xs → IsNonDecreasingBy (λ p. p.key) xs → HasAscendingKeys (entries_of xs)
 unfolding IsDistinct
 ascends [] distinct rising = tt
 ascends (x ∷ xs) distinct rising = (
@@ -156,7 +156,7 @@ flips x y = ⊎_elim
     (eqb_tells x.key y.key)
 
 -- sorted, they have the same look-ups
-sorted_lookup : (xs ys : List Pair) (k : ℕ) → IsPermutation xs ys → IsAscending (entries_of ys) → (o : Option ℕ) → lookup k (entries_of xs) ≡ o
+sorted_lookup : (xs ys : List Pair) (k : ℕ) → IsPermutation xs ys → HasAscendingKeys (entries_of ys) → (o : Option ℕ) → lookup k (entries_of xs) ≡ o
     → (r : Option ℕ) → lookup k (entries_of ys) ≡ r → r ≡ o
 sorted_lookup xs ys k p up (Some v) e r f =
     sym f ∙ lookup_of_among (k, v) (entries_of ys) up (moved xs ys k v p (among_of_lookup k v (entries_of xs) e))
@@ -165,7 +165,7 @@ sorted_lookup xs ys k p up None e (Some v) f =
     absurd (none_among k v (entries_of xs) e (moved ys xs k v (IsPermutation-sym xs ys p) (among_of_lookup k v (entries_of ys) f)))
 
 pub sorted_entries : (xs ys : List Pair) (contents : FiniteMap) → IsPermutation xs ys → IsNonDecreasingBy (λ p. p.key) ys → IsDistinct same_key xs
-    → IsAscending contents → ((k : ℕ) → lookup k contents ≡ lookup k (entries_of xs)) → entries_of ys ≡ contents
+    → HasAscendingKeys contents → ((k : ℕ) → lookup k contents ≡ lookup k (entries_of xs)) → entries_of ys ≡ contents
 sorted_entries xs ys contents p rising distinct up same =
     let ascending = ascends ys (IsDistinct-IsPermutation same_key flips xs ys p distinct) rising in
     same_entries (entries_of ys) contents ascending up

@@ -2,7 +2,7 @@
 use Rattle.std.specs.Prelude.{◌≡◌, ℕ, ◌≤◌, List, [], ◌∷◌, length, if◌then◌else◌, ◌==◌, is_some}
 use Rattle.persist_model.specs.Region.{Words}
 use Rattle.persist_model.specs.Records.{IsAmong}
-use Rattle.lane_traits.specs.Space.{Space, IsOwn, IsDataWord, taken, given}
+use Rattle.lane_traits.specs.Space.{Space, IsOwn, IsDataWordOf, taken, given}
 use Rattle.region_layout.specs.FiniteMap.{FiniteMap, lookup}
 use Rattle.region_layout.specs.HashMap.{chain_number, directory_of}
 use Rattle.region_layout.specs.Contents.{IsMapIn}
@@ -49,4 +49,4 @@ pub record GivesBlock (s u : Space) : Type 0 where
 
 -- the words that are no data words of the structure's blocks stay
 abbrev pub KeepsOthers : Space → Space → Type 0
-KeepsOthers s u = (a : ℕ) → (IsDataWord s.land a → ⊥) → (IsDataWord u.land a → ⊥) → u.word a ≡ s.word a
+KeepsOthers s u = (a : ℕ) → (IsDataWordOf s.land a → ⊥) → (IsDataWordOf u.land a → ⊥) → u.word a ≡ s.word a

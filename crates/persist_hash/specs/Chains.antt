@@ -2,7 +2,7 @@
 use Rattle.std.specs.Prelude.{◌≡◌, ◌≢◌, ℕ, zero, suc, ◌+◌, ◌≤◌, List, [], ◌∷◌, ◌++◌, length, if◌then◌else◌, ◌==◌}
 use Rattle.persist_model.specs.Region.{Words}
 use Rattle.lane_traits.specs.Device.{MAX_WORDS}
-use Rattle.lane_traits.specs.Space.{Land, Space, IsOwn, IsDataWord}
+use Rattle.lane_traits.specs.Space.{Land, Space, IsOwn, IsDataWordOf}
 use Rattle.region_layout.specs.HashMap.{Node, Chains, IsChain, EachNode, IsHash, chain_number, chain_word, directory_of}
 
 -- the address of the link behind these nodes of a chain whose first link stands here
@@ -15,7 +15,7 @@ AreOwnNodes land ns = EachNode (λ n. IsOwn land n.block) ns
 
 -- From the link at this address a chain of the structure's nodes begins.
 pub record BeginsChain (s : Space) (at : ℕ) (ns : List Node) : Type 0 where
-  pub «data» : IsDataWord s.land at
+  pub «data» : IsDataWordOf s.land at
   pub laid : IsChain s.word (s.word at) ns
   pub own : AreOwnNodes s.land ns
   pub few : length ns ≤ MAX_WORDS
@@ -33,7 +33,7 @@ pub record IsSought (s : Space) (at key : ℕ) (link node : ℕ) : Type 0 where
   pub rest : List Node
   pub begins : BeginsChain s at (front ++ rest)
   pub link_is : link ≡ link_behind at front
-  pub «data» : IsDataWord s.land link
+  pub «data» : IsDataWordOf s.land link
   pub node_is : node ≡ s.word link
   pub passed : HasNotKey key front
 

@@ -1,6 +1,6 @@
 // New nodes and directory blocks.
 ghost use Rattle.std.specs.Prelude.{◌≡◌, ◌↔◌, ◌+◌, ◌<◌, ◌≤◌, [], OnOk, OnErr, IfOk, Err, length};
-ghost use Rattle.lane_traits.specs.Space.{Space, IsOwn, IsDataWord, written};
+ghost use Rattle.lane_traits.specs.Space.{Space, IsOwn, IsDataWordOf, written};
 ghost use Rattle.persist_hash.specs.Calls.{IsUnwritten};
 ghost use Rattle.persist_hash.specs.Adding.{linked, AddsNode, link_to, FillsLinks, OpensChain, AddsDirectory, AreThree};
 
@@ -29,7 +29,7 @@ fn link_node<W: Words>(
     value: u64,
 ) -> Result<(), WordsRefusal>
     requires own { IsOwn (W.space words.old).land node }
-    requires held { IsDataWord (W.space words.old).land slot }
+    requires held { IsDataWordOf (W.space words.old).land slot }
     ensures linked { OnOk result (W.space words.new ≡ linked slot node key value (W.space words.old)) }
     ensures memory { OnErr result (result ≡ Err WordsRefusal.NoMemory) }
 {
@@ -47,7 +47,7 @@ pub(crate) fn add<W: Words>(
     key: u64,
     value: u64,
 ) -> Result<(), WordsRefusal>
-    requires { IsDataWord (W.space words.old).land slot }
+    requires { IsDataWordOf (W.space words.old).land slot }
     ensures added { OnOk result (AddsNode slot key value (W.space words.old) (W.space words.new)) }
     ensures full { (result ≡ Err WordsRefusal.HeapFull) ↔ ((W.space words.old).spare ≡ []) }
     ensures unchanged { result ≡ Err WordsRefusal.HeapFull → W.space words.new ≡ W.space words.old }

@@ -1,6 +1,6 @@
 // The data words of the structure's blocks.
 ghost use Rattle.std.specs.Prelude.{◌≡◌, ◌+◌, ◌<◌, ◌^◌, OnOk, OnErr, Err};
-ghost use Rattle.lane_traits.specs.Space.{Space, IsOwn, IsDataWord, written};
+ghost use Rattle.lane_traits.specs.Space.{Space, IsOwn, IsDataWordOf, written};
 
 use lane_traits::{Words, WordsRefusal};
 
@@ -17,7 +17,7 @@ pub(crate) fn field<W: Words>(words: &mut W, block: u32, index: u32) -> u64
 
 // A data word that is a block's address or 0.
 pub(crate) fn link_at<W: Words>(words: &mut W, at: u32) -> u32
-    requires held { IsDataWord (W.space words.old).land at }
+    requires held { IsDataWordOf (W.space words.old).land at }
     requires fits { (W.space words.old).word at < 2 ^ 32 }
     ensures value { result ≡ (W.space words.old).word at }
     ensures same { W.space words.new ≡ W.space words.old }

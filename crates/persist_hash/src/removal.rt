@@ -1,5 +1,5 @@
 ghost use Rattle.std.specs.Prelude.{◌≡◌, ◌+◌, ◌<◌, ◌≤◌, OnOk, OnErr, IfOk, Err, MatchOption};
-ghost use Rattle.lane_traits.specs.Space.{Space, IsOwn, IsDataWord, written, given};
+ghost use Rattle.lane_traits.specs.Space.{Space, IsOwn, IsDataWordOf, written, given};
 ghost use Rattle.region_layout.specs.FiniteMap.{FiniteMap, lookup, without_key};
 ghost use Rattle.persist_hash.specs.Calls.{Holds, HasMap, GivesBlock, KeepsOthers};
 
@@ -10,7 +10,7 @@ use lane_traits::{Words, WordsRefusal};
 // The link leads past the node, and its block is given. The answer is its value.
 fn unlink<W: Words>(words: &mut W, link: u32, node: u32) -> Result<u64, WordsRefusal>
     requires own { IsOwn (W.space words.old).land node }
-    requires held { IsDataWord (W.space words.old).land link }
+    requires held { IsDataWordOf (W.space words.old).land link }
     ensures before { IfOk result (λ before. before ≡ (W.space words.old).word (node + 2)) }
     ensures unlinked { OnOk result (W.space words.new ≡ given node (written link ((W.space words.old).word (node + 3)) (W.space words.old))) }
     ensures memory { OnErr result (result ≡ Err WordsRefusal.NoMemory) }

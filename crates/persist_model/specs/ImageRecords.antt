@@ -1,6 +1,7 @@
 -- The records of an image: the open cells of the buckets of all chains.
 use Rattle.std.specs.Prelude.{◌≡◌, ◌≢◌, ◌⊎◌, ◌↔◌, ℕ, ◌+◌, ◌*◌, ◌<◌, ◌≤◌, List}
 use Rattle.persist_model.specs.Region.{Words}
+use Rattle.persist_model.specs.Kinds.{CHECKPOINT, COMMITTED, END, NO_OUTCOME, ROLLED_BACK}
 use Rattle.persist_model.specs.Records.{Record, Log, IsAmong, IsNewestFirst, IsEnd, IsCheckpoint, IsDeletion, IsChange}
 use Rattle.persist_model.specs.Shape.{Shape, IsHeapWord, IsRootOwner, IsPlainOwner}
 
@@ -39,10 +40,10 @@ pub record AreRecords (shape : Shape) (chains : ℕ → List ℕ) (w : Words) (l
 
 pub record IsWellFormed (shape : Shape) (r : Record) : Type 0 where
   pub kind : (1 ≤ r.kind) × (r.kind ≤ 6)
-  pub transaction : (IsCheckpoint r × (r.transaction ≡ 0)) ⊎ ((r.kind ≢ 5) × (1 ≤ r.transaction))
+  pub transaction : (IsCheckpoint r × (r.transaction ≡ 0)) ⊎ ((r.kind ≢ CHECKPOINT) × (1 ≤ r.transaction))
   pub change : IsChange r → IsHeapWord shape r.word × (IsRootOwner shape r.word → ⊥)
   pub deletion : IsDeletion r → IsPlainOwner shape r.word
-  pub outcome : (IsEnd r × ((r.outcome ≡ 1) ⊎ (r.outcome ≡ 2))) ⊎ ((r.kind ≢ 4) × (r.outcome ≡ 0))
+  pub outcome : (IsEnd r × ((r.outcome ≡ COMMITTED) ⊎ (r.outcome ≡ ROLLED_BACK))) ⊎ ((r.kind ≢ END) × (r.outcome ≡ NO_OUTCOME))
 
 abbrev pub AreWellFormed : Shape → Log → Type 0
 AreWellFormed shape log = (r : Record) → IsAmong log r → IsWellFormed shape r

@@ -4,6 +4,7 @@ pub mod Pick
 pub mod Progress
 pub mod ProgressLaws
 pub mod Runs
+pub mod Kinds
 pub mod Records
 pub mod Standing
 pub mod Order

@@ -1,6 +1,7 @@
 -- The order rules of a log.
 use Rattle.std.specs.Prelude.{◌≡◌, ◌≢◌, ◌⊎◌, ℕ, Bool, ◌==◌, ◌&&◌, ◌||◌, if◌then◌else◌, [], ◌∷◌}
 use Rattle.persist_model.specs.Records.{Record, Log, IsAmong, HasNo, IsUpdate, IsCompensation, IsRollback, IsEnd, IsDeletion, NamesWord, IsOf, IsRunning, IsCommitted}
+use Rattle.persist_model.specs.Kinds.{CHECKPOINT, COMPENSATION, UPDATE}
 
 -- ---- the undo point
 
@@ -11,7 +12,7 @@ is_kind_of t kind r = (r.transaction == t) && (r.kind == kind)
 abbrev pub undo_point : ℕ → Log → ℕ
 undo_point t [] = 0
 undo_point t (r ∷ earlier) =
-    if is_kind_of t 1 r then r.lsn else (if is_kind_of t 2 r then r.undo_next else undo_point t earlier)
+    if is_kind_of t UPDATE r then r.lsn else (if is_kind_of t COMPENSATION r then r.undo_next else undo_point t earlier)
 
 -- c's fields are those of a compensation of u
 pub record Compensates (c u : Record) : Type 0 where
@@ -30,7 +31,7 @@ pub record IsNextToUndo (t : ℕ) (earlier : Log) (u : Record) : Type 0 where
 -- the NEW of t's last change of a, or else d
 abbrev pub last_new : ℕ → ℕ → ℕ → Log → ℕ
 last_new t a d [] = d
-last_new t a d (r ∷ earlier) = if (is_kind_of t 1 r || is_kind_of t 2 r) && (r.word == a) then r.after else last_new t a d earlier
+last_new t a d (r ∷ earlier) = if (is_kind_of t UPDATE r || is_kind_of t COMPENSATION r) && (r.word == a) then r.after else last_new t a d earlier
 
 -- ---- the rules
 
@@ -48,10 +49,10 @@ Bars log s = (NamesWord s × IsRunning log s.transaction) ⊎ (IsDeletion s × I
 -- what is asked of a record, by those before it
 pub record Follows (part : ℕ → ℕ) (log earlier : Log) (r : Record) : Type 0 where
   pub fresh : HasNo (λ s. s.lsn ≡ r.lsn) earlier
-  pub one_part : HasNo (λ s. IsOf r.transaction s × (r.kind ≢ 5) × (part s.at ≢ part r.at)) earlier
-  pub not_ended : HasNo (λ s. IsOf r.transaction s × (r.kind ≢ 5) × IsEnd s) earlier
+  pub one_part : HasNo (λ s. IsOf r.transaction s × (r.kind ≢ CHECKPOINT) × (part s.at ≢ part r.at)) earlier
+  pub not_ended : HasNo (λ s. IsOf r.transaction s × (r.kind ≢ CHECKPOINT) × IsEnd s) earlier
   pub word : NamesWord r → HasNo (λ s. (s.word ≡ r.word) × (s.transaction ≢ r.transaction) × Bars log s) earlier
-  pub undo : (r.kind ≢ 5) → IsRunning log r.transaction → UndoesWell earlier r
+  pub undo : (r.kind ≢ CHECKPOINT) → IsRunning log r.transaction → UndoesWell earlier r
 
 abbrev pub FollowEach : (ℕ → ℕ) → Log → Log → Type 0
 FollowEach part log [] = Unit {0}

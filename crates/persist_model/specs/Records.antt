@@ -1,5 +1,6 @@
 -- The records of a log, and what they say of its transactions.
 use Rattle.std.specs.Prelude.{◌≡◌, ◌≢◌, ◌⊎◌, ℕ, ◌<◌, List, [], ◌∷◌}
+use Rattle.persist_model.specs.Kinds.{CHECKPOINT, COMMITTED, COMPENSATION, DELETION, END, ROLLBACK, UPDATE}
 
 -- an open cell with the address of its gate; lsn is the gate
 pub record Record : Type 0 where
@@ -34,22 +35,22 @@ IsNewestFirst (r ∷ earlier) = ((s : Record) → IsAmong earlier s → IsNewer 
 -- ---- the kinds
 
 abbrev pub IsUpdate : Record → Type 0
-IsUpdate r = r.kind ≡ 1
+IsUpdate r = r.kind ≡ UPDATE
 
 abbrev pub IsCompensation : Record → Type 0
-IsCompensation r = r.kind ≡ 2
+IsCompensation r = r.kind ≡ COMPENSATION
 
 abbrev pub IsRollback : Record → Type 0
-IsRollback r = r.kind ≡ 3
+IsRollback r = r.kind ≡ ROLLBACK
 
 abbrev pub IsEnd : Record → Type 0
-IsEnd r = r.kind ≡ 4
+IsEnd r = r.kind ≡ END
 
 abbrev pub IsCheckpoint : Record → Type 0
-IsCheckpoint r = r.kind ≡ 5
+IsCheckpoint r = r.kind ≡ CHECKPOINT
 
 abbrev pub IsDeletion : Record → Type 0
-IsDeletion r = r.kind ≡ 6
+IsDeletion r = r.kind ≡ DELETION
 
 -- an update or a compensation
 abbrev pub IsChange : Record → Type 0
@@ -60,7 +61,7 @@ NamesWord r = IsChange r ⊎ IsDeletion r
 
 -- r is a record of the transaction t
 abbrev pub IsOf : ℕ → Record → Type 0
-IsOf t r = (r.transaction ≡ t) × (r.kind ≢ 5)
+IsOf t r = (r.transaction ≡ t) × (r.kind ≢ CHECKPOINT)
 
 -- ---- the transactions
 
@@ -83,7 +84,7 @@ abbrev pub IsRunning : Log → ℕ → Type 0
 IsRunning log t = HasNo (IsEndOf t) log
 
 abbrev pub IsCommitted : Log → ℕ → Type 0
-IsCommitted log t = Has (λ r. IsEndOf t r × (r.outcome ≡ 1)) log
+IsCommitted log t = Has (λ r. IsEndOf t r × (r.outcome ≡ COMMITTED)) log
 
 -- an end of t is older than some checkpoint record
 abbrev pub IsSkipped : Log → ℕ → Type 0

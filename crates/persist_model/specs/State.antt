@@ -1,6 +1,7 @@
 -- What an image is to recovery, and when that is sound.
 use Rattle.std.specs.Prelude.{◌≡◌, ◌≢◌, ℕ, zero, suc, ◌+◌, ◌<◌, ◌≤◌, ◌^◌}
 use Rattle.persist_model.specs.Region.{Words}
+use Rattle.persist_model.specs.Kinds.{CHECKPOINT}
 use Rattle.persist_model.specs.Records.{Record, Log, IsAmong, Has, IsNewestFirst, IsSkipped}
 use Rattle.persist_model.specs.Order.{IsInOrder}
 use Rattle.persist_model.specs.Shape.{Shape, part_of}
@@ -15,7 +16,7 @@ pub record State : Type 0 where
 
 -- there is a running transaction, or an ended one that isn't skipped
 abbrev pub HasOpen : Log → Type 0
-HasOpen log = Has (λ r. (r.kind ≢ 5) × (IsSkipped log r.transaction → ⊥)) log
+HasOpen log = Has (λ r. (r.kind ≢ CHECKPOINT) × (IsSkipped log r.transaction → ⊥)) log
 
 abbrev pub total_need : (ℕ → ℕ) → ℕ → Log → ℕ
 total_need part zero log = 0

@@ -57,6 +57,8 @@ pub const CHECKPOINT: u64 = 5;
 /// The kind of a record that gives a block back at its transaction's commit.
 pub const DELETION: u64 = 6;
 
+/// What a record that is no end has in the place of an outcome.
+pub const NO_OUTCOME: u64 = 0;
 /// The outcome of the end of a committed transaction.
 pub const COMMITTED: u64 = 1;
 /// The outcome of the end of one that was rolled back.

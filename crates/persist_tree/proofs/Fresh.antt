@@ -6,10 +6,10 @@ use Rattle.std.proofs.lemmas.List.{get_or_past}
 use Rattle.std.specs.Prelude.{slice_index, IsTrue, ◌||◌}
 use Rattle.persist_model.specs.Records.{IsAmong}
 use Rattle.persist_model.specs.Chain.{HasNoRepeats, IsAbsent}
-use Rattle.lane_traits.specs.Space.{Space, IsOwn, IsDataWord}
+use Rattle.lane_traits.specs.Space.{Space, IsOwn, IsDataWordOf}
 use Rattle.lane_traits.specs.Draft.{is_among, of_structure, drafted, AreSetAside}
 use Rattle.region_layout.specs.TreeMap.{Leaf}
-use Rattle.persist_tree.specs.Calls.{IsMap}
+use Rattle.persist_tree.specs.Calls.{HoldsMap}
 use Rattle.persist_tree.proofs.Nodes.{among_left, among_right, among_either}
 
 -- ---- a list grows at its end
@@ -67,7 +67,7 @@ module _ (xs : List ℕ) (n : ℕ) (spare : List ℕ) (m : IsMemory xs n spare) 
     once = m.once;
   }
 
-  pub memory_readable : (a : ℕ) → IsDataWord (of_structure 0 (memory_space xs).land) a → IsTrue (nat_lt a (length xs))
+  pub memory_readable : (a : ℕ) → IsDataWordOf (of_structure 0 (memory_space xs).land) a → IsTrue (nat_lt a (length xs))
   memory_readable a h = elim (cases_lt h.block (length xs)) [
     | inl lt ↦ (let place = h.own.0.place in let size = m.size in let at = h.place in let below = h.below in lt-ltb a (length xs) (omega (arith, lt, place, size, at, below)))
     | inr past ↦ absurd (let none = get_or_past xs h.block 0 past in let owned = h.own.1 in omega (arith, none, owned))
@@ -88,7 +88,7 @@ module _ (xs : List ℕ) (n : ℕ) (spare : List ℕ) (m : IsMemory xs n spare) 
         ])
   ]
 
-  pub memory_map : IsMap (drafted 0 [] [] spare (memory_space xs)) 16
+  pub memory_map : HoldsMap (drafted 0 [] [] spare (memory_space xs)) 16
   memory_map = record {
     contents = [];
     is = record {

@@ -1,7 +1,7 @@
 -- Finite maps in two parts, of which the first has the smaller keys.
 use Rattle.std.proofs.Common.{◌≡◌, ◌≢◌, inl, inr, ℕ, ◌<◌, ◌≤◌, Bool, true, false, if◌then◌else◌, ◌==◌, nat_lt, [], ◌++◌, ◌∷◌, Some, None, refl, sym, subst, ap, arith}
 use Rattle.std.proofs.lemmas.Bool.Decides.{nat_tests, eqb_tells}
-use Rattle.region_layout.specs.FiniteMap.{FiniteMap, lookup, with_pair, without_key, AreAfter, IsAscending}
+use Rattle.region_layout.specs.FiniteMap.{FiniteMap, lookup, with_pair, without_key, AreAfter, HasAscendingKeys}
 
 -- each key is smaller than this one
 abbrev pub AreBefore : ℕ → FiniteMap → Type 0
@@ -20,7 +20,7 @@ pub after_weaker : (m n : ℕ) (ps : FiniteMap) → n ≤ m → AreAfter m ps �
 after_weaker m n [] le h = h
 after_weaker m n (p ∷ ps) le h = (let f = h.0 in omega (arith, f, le), after_weaker m n ps le h.1)
 
-pub ascending_joined : (ps : FiniteMap) (q : ℕ × ℕ) (qs : FiniteMap) → IsAscending ps → AreBefore q.0 ps → AreAfter q.0 qs → IsAscending qs → IsAscending (ps ++ q ∷ qs)
+pub ascending_joined : (ps : FiniteMap) (q : ℕ × ℕ) (qs : FiniteMap) → HasAscendingKeys ps → AreBefore q.0 ps → AreAfter q.0 qs → HasAscendingKeys qs → HasAscendingKeys (ps ++ q ∷ qs)
 ascending_joined [] q qs left less more right = (more, right)
 ascending_joined (p ∷ ps) q qs left less more right =
     let here = less.0 in
@@ -29,10 +29,10 @@ ascending_joined (p ∷ ps) q qs left less more right =
 -- ---- and back
 
 pub record IsSplit (ps : FiniteMap) (q : ℕ × ℕ) (qs : FiniteMap) : Type 0 where
-  pub left : IsAscending ps
+  pub left : HasAscendingKeys ps
   pub less : AreBefore q.0 ps
   pub more : AreAfter q.0 qs
-  pub right : IsAscending qs
+  pub right : HasAscendingKeys qs
 
 pub before_parts : (m : ℕ) (ps : FiniteMap) (q : ℕ × ℕ) (qs : FiniteMap) → AreBefore m (ps ++ q ∷ qs) → AreBefore m ps × (q.0 < m) × AreBefore m qs
 before_parts m [] q qs h = (tt, h.0, h.1)
@@ -42,7 +42,7 @@ pub after_parts : (m : ℕ) (ps : FiniteMap) (q : ℕ × ℕ) (qs : FiniteMap) �
 after_parts m [] q qs h = (tt, h.0, h.1)
 after_parts m (p ∷ ps) q qs h = let rest = after_parts m ps q qs h.1 in ((h.0, rest.0), rest.1, rest.2)
 
-pub split_at : (ps : FiniteMap) (q : ℕ × ℕ) (qs : FiniteMap) → IsAscending (ps ++ q ∷ qs) → IsSplit ps q qs
+pub split_at : (ps : FiniteMap) (q : ℕ × ℕ) (qs : FiniteMap) → HasAscendingKeys (ps ++ q ∷ qs) → IsSplit ps q qs
 split_at [] q qs h = record { left = tt; less = tt; more = h.0; right = h.1 }
 split_at (p ∷ ps) q qs h =
     let rest = split_at ps q qs h.1 in
@@ -61,7 +61,7 @@ put_after m key value (p ∷ ps) less h = by_key (put_after m key value ps less 
     by_key again false true = (less, (h.0, h.1))
     by_key again false false = (h.0, again)
 
-pub put_ascends : (key value : ℕ) (ps : FiniteMap) → IsAscending ps → IsAscending (with_pair key value ps)
+pub put_ascends : (key value : ℕ) (ps : FiniteMap) → HasAscendingKeys ps → HasAscendingKeys (with_pair key value ps)
 put_ascends key value [] h = (tt, tt)
 put_ascends key value (p ∷ ps) h =
     elim (eqb_tells key p.0) [
@@ -69,7 +69,7 @@ put_ascends key value (p ∷ ps) h =
       | inr ne ↦ by_order (put_ascends key value ps h.1) ne.0 ne.1 (nat_lt key p.0) refl
     ]
   where
-    by_order : IsAscending (with_pair key value ps) → (key == p.0) ≡ false → key ≢ p.0 → (x : Bool) → nat_lt key p.0 ≡ x → IsAscending (with_pair key value (p ∷ ps))
+    by_order : HasAscendingKeys (with_pair key value ps) → (key == p.0) ≡ false → key ≢ p.0 → (x : Bool) → nat_lt key p.0 ≡ x → HasAscendingKeys (with_pair key value (p ∷ ps))
     by_order again off apart true is =
         let less : key < p.0 = grind (arith, nat_tests) in
         rw (off, is) ((less, after_weaker p.0 key ps (omega (arith, less)) h.0), (h.0, h.1))
@@ -150,11 +150,11 @@ after_without m key (p ∷ ps) h = by_key (after_without m key ps h.1) (key == p
     by_key again true = h.1
     by_key again false = (h.0, again)
 
-pub without_ascends : (key : ℕ) (ps : FiniteMap) → IsAscending ps → IsAscending (without_key key ps)
+pub without_ascends : (key : ℕ) (ps : FiniteMap) → HasAscendingKeys ps → HasAscendingKeys (without_key key ps)
 without_ascends key [] h = h
 without_ascends key (p ∷ ps) h = by_key (without_ascends key ps h.1) (key == p.0)
   where
-    by_key : IsAscending (without_key key ps) → (a : Bool) → IsAscending (if a then ps else p ∷ without_key key ps)
+    by_key : HasAscendingKeys (without_key key ps) → (a : Bool) → HasAscendingKeys (if a then ps else p ∷ without_key key ps)
     by_key again true = h.1
     by_key again false = (after_without p.0 key ps h.0, again)
 

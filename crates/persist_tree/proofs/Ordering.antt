@@ -1,7 +1,7 @@
 -- A tree is ordered where its entries ascend: so what keeps the entries keeps the order.
 use Rattle.std.proofs.Common.{◌≡◌, ℕ, ◌<◌, ◌≤◌, true, false, ◌==◌, ◌∷◌, Some, refl, sym, subst, ◌∙◌, arith}
 use Rattle.std.proofs.lemmas.Bool.Decides.{nat_tests}
-use Rattle.region_layout.specs.FiniteMap.{AreAfter, IsAscending, lookup}
+use Rattle.region_layout.specs.FiniteMap.{AreAfter, HasAscendingKeys, lookup}
 use Rattle.region_layout.specs.TreeMap.{Tree, Leaf, Node, AreBelow, AreAbove, IsOrdered, entries}
 use Rattle.persist_tree.specs.Trees.{joined}
 use Rattle.persist_tree.proofs.Nodes.{below_less, above_more}
@@ -16,7 +16,7 @@ pub entries_after : (m : ℕ) (t : Tree) → AreAbove m t → AreAfter m (entrie
 entries_after m Leaf h = h
 entries_after m (Node b k v l r) h = after_joined m (entries l) (k, v) (entries r) (entries_after m l h.1) h.0 (entries_after m r h.2)
 
-pub entries_ascend : (t : Tree) → IsOrdered t → IsAscending (entries t)
+pub entries_ascend : (t : Tree) → IsOrdered t → HasAscendingKeys (entries t)
 entries_ascend Leaf h = h
 entries_ascend (Node b k v l r) h = ascending_joined (entries l) (k, v) (entries r) (entries_ascend l h.2) (entries_before k l h.0) (entries_after k r h.1) (entries_ascend r h.3)
 
@@ -28,14 +28,14 @@ pub above_of : (m : ℕ) (t : Tree) → AreAfter m (entries t) → AreAbove m t
 above_of m Leaf h = h
 above_of m (Node b k v l r) h = let s = after_parts m (entries l) (k, v) (entries r) h in (s.1, above_of m l s.0, above_of m r s.2)
 
-pub ordered_of : (t : Tree) → IsAscending (entries t) → IsOrdered t
+pub ordered_of : (t : Tree) → HasAscendingKeys (entries t) → IsOrdered t
 ordered_of Leaf h = h
 ordered_of (Node b k v l r) h =
     let s = split_at (entries l) (k, v) (entries r) h in
     (below_of k l s.less, above_of k r s.more, ordered_of l s.left, ordered_of r s.right)
 
 pub joined-ordered : (b k v : ℕ) (l r : Tree) → IsOrdered (Node b k v l r) → IsOrdered (joined b k v l r)
-joined-ordered b k v l r h = ordered_of (joined b k v l r) (subst IsAscending (sym (joined-order (λ x y z. (y, z)) b k v l r)) (entries_ascend (Node b k v l r) h))
+joined-ordered b k v l r h = ordered_of (joined b k v l r) (subst HasAscendingKeys (sym (joined-order (λ x y z. (y, z)) b k v l r)) (entries_ascend (Node b k v l r) h))
 
 -- ---- where a key is looked up
 

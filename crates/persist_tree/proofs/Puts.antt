@@ -2,7 +2,7 @@
 use Rattle.std.proofs.Common.{◌≡◌, ◌≢◌, ◌⊎◌, inl, inr, ℕ, ◌+◌, ◌<◌, ◌≤◌, Bool, true, false, if◌then◌else◌, ◌==◌, nat_lt, max, List, ◌++◌, ◌∷◌, Some, None, refl, sym, subst, ◌∙◌, ap, arith}
 use Rattle.std.proofs.lemmas.Bool.Decides.{nat_tests, eqb_tells}
 use Rattle.persist_model.specs.Region.{Words}
-use Rattle.region_layout.specs.FiniteMap.{FiniteMap, lookup, with_pair, IsAscending}
+use Rattle.region_layout.specs.FiniteMap.{FiniteMap, lookup, with_pair, HasAscendingKeys}
 use Rattle.region_layout.specs.TreeMap.{Tree, Leaf, Node, top, height, IsLaid, EachNode, IsOrdered, IsBalanced, blocks, entries}
 use Rattle.persist_tree.specs.Trees.{IsIn, IsAbsent, block_of, joined, with_node, with_value}
 use Rattle.persist_tree.proofs.Nodes.{by_test, EachNode-weaker}
@@ -59,7 +59,7 @@ with_node-entries fresh key value (Node b k v l r) ordered absent =
 
 pub with_node-ordered : (fresh key value : ℕ) (t : Tree) → IsOrdered t → IsAbsent key t → IsOrdered (with_node fresh key value t)
 with_node-ordered fresh key value t ordered absent =
-    ordered_of (with_node fresh key value t) (subst IsAscending (sym (with_node-entries fresh key value t ordered absent)) (put_ascends key value (entries t) (entries_ascend t ordered)))
+    ordered_of (with_node fresh key value t) (subst HasAscendingKeys (sym (with_node-entries fresh key value t ordered absent)) (put_ascends key value (entries t) (entries_ascend t ordered)))
 
 -- ---- what a search tells
 
@@ -196,4 +196,4 @@ with_value-entries key value (Node b k v l r) ordered some =
 
 pub with_value-ordered : (key value : ℕ) (t : Tree) → IsOrdered t → block_of key t ≢ 0 → IsOrdered (with_value key value t)
 with_value-ordered key value t ordered some =
-    ordered_of (with_value key value t) (subst IsAscending (sym (with_value-entries key value t ordered some)) (put_ascends key value (entries t) (entries_ascend t ordered)))
+    ordered_of (with_value key value t) (subst HasAscendingKeys (sym (with_value-entries key value t ordered some)) (put_ascends key value (entries t) (entries_ascend t ordered)))

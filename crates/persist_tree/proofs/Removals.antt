@@ -2,7 +2,7 @@
 use Rattle.std.proofs.Common.{◌≡◌, ◌≢◌, ◌⊎◌, inl, inr, ℕ, ◌<◌, ◌≤◌, Bool, true, false, if◌then◌else◌, ◌==◌, nat_lt, ◌++◌, ◌∷◌, refl, sym, subst, ◌∙◌, ap, arith, append-nil}
 use Rattle.std.proofs.lemmas.Bool.Decides.{nat_tests, eqb_tells}
 use Rattle.persist_model.specs.Records.{IsAmong}
-use Rattle.region_layout.specs.FiniteMap.{FiniteMap, without_key, IsAscending}
+use Rattle.region_layout.specs.FiniteMap.{FiniteMap, without_key, HasAscendingKeys}
 use Rattle.region_layout.specs.TreeMap.{Tree, Leaf, Node, EachNode, IsOrdered, in_order, blocks, entries}
 use Rattle.persist_tree.specs.Trees.{IsIn, IsAbsent, block_of, joined, first_of, without_first, merged, without_node}
 use Rattle.persist_tree.proofs.Nodes.{by_test, EachNode-weaker, in_blocks, of_blocks, among_left, among_right}
@@ -108,15 +108,15 @@ without_node-entries key (Node b k v l r) ordered =
 
 pub without_node-ordered : (key : ℕ) (t : Tree) → IsOrdered t → IsOrdered (without_node key t)
 without_node-ordered key t ordered =
-    ordered_of (without_node key t) (subst IsAscending (sym (without_node-entries key t ordered)) (without_ascends key (entries t) (entries_ascend t ordered)))
+    ordered_of (without_node key t) (subst HasAscendingKeys (sym (without_node-entries key t ordered)) (without_ascends key (entries t) (entries_ascend t ordered)))
 
 pub without_first-ordered : (t : Tree) → IsOrdered t → IsOrdered (without_first t)
 without_first-ordered Leaf ordered = ordered
 without_first-ordered (Node b k v l r) ordered = ordered_of (without_first (Node b k v l r))
     (rest_ascends (first_of (λ x y z. (y, z)) (k, v) l) (entries (without_first (Node b k v l r)))
-    (subst IsAscending (without_first-order (λ x y z. (y, z)) b k v l r) (entries_ascend (Node b k v l r) ordered)))
+    (subst HasAscendingKeys (without_first-order (λ x y z. (y, z)) b k v l r) (entries_ascend (Node b k v l r) ordered)))
   where
-    rest_ascends : (p : ℕ × ℕ) (ps : FiniteMap) → IsAscending (p ∷ ps) → IsAscending ps
+    rest_ascends : (p : ℕ × ℕ) (ps : FiniteMap) → HasAscendingKeys (p ∷ ps) → HasAscendingKeys ps
     rest_ascends p ps h = h.1
 
 -- no node has the key then

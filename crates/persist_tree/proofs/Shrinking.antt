@@ -4,7 +4,7 @@ use Rattle.std.proofs.lemmas.Bool.Decides.{nat_tests}
 use Rattle.persist_model.specs.Region.{Words}
 use Rattle.persist_model.specs.Chain.{HasNoRepeats, IsAbsent}
 use Rattle.lane_traits.specs.Space.{Land, Space, IsOwn}
-use Rattle.region_layout.specs.FiniteMap.{AreAfter, IsAscending}
+use Rattle.region_layout.specs.FiniteMap.{AreAfter, HasAscendingKeys}
 use Rattle.region_layout.specs.TreeMap.{Tree, Leaf, Node, height, IsLaid, EachNode, AreAbove, IsOrdered, in_order, entries}
 use Rattle.persist_tree.specs.Trees.{IsIn, joined, first_of, without_first, without_node}
 use Rattle.persist_tree.specs.Changes.{StandsAt, IsRebuilt, AreParts, HasParts, HasNode, Builds}
@@ -143,9 +143,9 @@ first_value v l = first_of (λ x y z. z) v l
 
 rest_above : (b k v : ℕ) (l r : Tree) → IsOrdered (Node b k v l r) → AreAbove (first_key k l) (without_first (Node b k v l r))
 rest_above b k v l r ordered = above_of (first_key k l) (without_first (Node b k v l r)) (head_below
-    (subst IsAscending (without_first-order (λ x y z. (y, z)) b k v l r ∙ ap (λ p. p ∷ entries (without_first (Node b k v l r))) (firsts-is (λ x y z. (y, z)) b k v l)) (entries_ascend (Node b k v l r) ordered)))
+    (subst HasAscendingKeys (without_first-order (λ x y z. (y, z)) b k v l r ∙ ap (λ p. p ∷ entries (without_first (Node b k v l r))) (firsts-is (λ x y z. (y, z)) b k v l)) (entries_ascend (Node b k v l r) ordered)))
   where
-    head_below : IsAscending ((first_key k l, first_value v l) ∷ entries (without_first (Node b k v l r))) → AreAfter (first_key k l) (entries (without_first (Node b k v l r)))
+    head_below : HasAscendingKeys ((first_key k l, first_value v l) ∷ entries (without_first (Node b k v l r))) → AreAfter (first_key k l) (entries (without_first (Node b k v l r)))
     head_below h = h.0
 
 module _ (s u : Space) (left right rest key : ℕ) (l : Tree) (b k v : ℕ) (rl rr : Tree) (h : AreMerging s left right key l (Node b k v rl rr)) (drops : Drops s u right rest) where

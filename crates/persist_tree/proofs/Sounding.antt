@@ -13,7 +13,7 @@ use Rattle.region_layout.specs.TreeMap.{Tree, Leaf, Node, height, AreOwn, in_ord
 use Rattle.region_layout.specs.Contents.{IsMap}
 use Rattle.region_layout.specs.declared.layout.Kind.TheVariants as kind
 use Rattle.persist_tree.specs.Trees.{IsIn}
-use Rattle.persist_tree.specs.Sound.{IsArea, IsWithin, IsOver, IsUnder, IsSoundNode, IsPart, HasPart, HasNoPart, owned_count, HasTreeOf}
+use Rattle.persist_tree.specs.Sound.{IsArea, IsWithin, IsOver, IsUnder, IsSoundNode, IsSubtree, HasPart, HasNoPart, owned_count, HasTreeOf}
 use Rattle.persist_tree.proofs.Nodes.{EachNode-weaker, EachNode-in, each_in}
 use Rattle.persist_tree.proofs.Counting.{blocks-each, few_blocks}
 use Rattle.persist_tree.proofs.Framing.{laid_keys, apart_of}
@@ -77,12 +77,12 @@ under_less None j k h lt = tt
 under_less (Some m) j k h lt = omega (arith, h, lt)
 
 module _ (land : Land) (w : Words) (root : ℕ) where
-  pub part_none : (low high : Option ℕ) → IsPart land w root low high 0 Leaf
+  pub part_none : (low high : Option ℕ) → IsSubtree land w root low high 0 Leaf
   part_none low high = record { top_is = refl; laid = tt; own = tt; ordered = tt; balanced = tt; filled = tt; apart = tt; over = tt; under = tt }
 
   module _ (low high : Option ℕ) (b : ℕ) where
-    pub part_joined : (l r : Tree) → IsSoundNode land w root low high b → IsPart land w root low (Some (w (b + 1))) (w (b + 3)) l → IsPart land w root (Some (w (b + 1))) high (w (b + 4)) r
-        → height l ≤ height r + 1 → height r ≤ height l + 1 → w (b + 5) ≡ 1 + max (height l) (height r) → IsPart land w root low high b (Node b (w (b + 1)) (w (b + 2)) l r)
+    pub part_joined : (l r : Tree) → IsSoundNode land w root low high b → IsSubtree land w root low (Some (w (b + 1))) (w (b + 3)) l → IsSubtree land w root (Some (w (b + 1))) high (w (b + 4)) r
+        → height l ≤ height r + 1 → height r ≤ height l + 1 → w (b + 5) ≡ 1 + max (height l) (height r) → IsSubtree land w root low high b (Node b (w (b + 1)) (w (b + 2)) l r)
     part_joined l r node left right most least is = record {
       top_is = refl;
       laid = (record { key = refl; value = refl; left_is = left.top_is; right_is = right.top_is; height_is = is }, left.laid, right.laid);
@@ -101,19 +101,19 @@ module _ (land : Land) (w : Words) (root : ℕ) where
       pub l : Tree
       pub r : Tree
       pub is : t ≡ Node b (w (b + 1)) v l r
-      pub part : IsPart land w root low high b (Node b (w (b + 1)) v l r)
+      pub part : IsSubtree land w root low high b (Node b (w (b + 1)) v l r)
 
-    pub node_part : (t : Tree) → IsPart land w root low high b t → (b ≡ 0 → ⊥) → IsNodePart t
+    pub node_part : (t : Tree) → IsSubtree land w root low high b t → (b ≡ 0 → ⊥) → IsNodePart t
     node_part Leaf h some = absurd (some h.top_is)
     node_part (Node c k v l r) h some =
         let here : k ≡ w (b + 1) = sym h.laid.0.key ∙ ap (λ x. w (x + 1)) (sym h.top_is) in
         let same : Node c k v l r ≡ Node b (w (b + 1)) v l r = ap (λ x. Node x k v l r) (sym h.top_is) ∙ ap (λ x. Node b x v l r) here in
-        record { v = v; l = l; r = r; is = same; part = subst (IsPart land w root low high b) same h }
+        record { v = v; l = l; r = r; is = same; part = subst (IsSubtree land w root low high b) same h }
 
-    pub part_sound : (v : ℕ) (l r : Tree) → IsPart land w root low high b (Node b (w (b + 1)) v l r) → IsSoundNode land w root low high b
+    pub part_sound : (v : ℕ) (l r : Tree) → IsSubtree land w root low high b (Node b (w (b + 1)) v l r) → IsSoundNode land w root low high b
     part_sound v l r h = record { own = h.own.0; apart = h.apart.0; filled = subst (λ x. 1 ≤ x) (sym h.laid.0.value) h.filled.0; over = h.over.0; under = h.under.0 }
 
-    pub part_left : (v : ℕ) (l r : Tree) → IsPart land w root low high b (Node b (w (b + 1)) v l r) → IsPart land w root low (Some (w (b + 1))) (w (b + 3)) l
+    pub part_left : (v : ℕ) (l r : Tree) → IsSubtree land w root low high b (Node b (w (b + 1)) v l r) → IsSubtree land w root low (Some (w (b + 1))) (w (b + 3)) l
     part_left v l r h = record {
       top_is = h.laid.0.left_is;
       laid = h.laid.1;
@@ -126,7 +126,7 @@ module _ (land : Land) (w : Words) (root : ℕ) where
       under = h.ordered.0;
     }
 
-    pub part_right : (v : ℕ) (l r : Tree) → IsPart land w root low high b (Node b (w (b + 1)) v l r) → IsPart land w root (Some (w (b + 1))) high (w (b + 4)) r
+    pub part_right : (v : ℕ) (l r : Tree) → IsSubtree land w root low high b (Node b (w (b + 1)) v l r) → IsSubtree land w root (Some (w (b + 1))) high (w (b + 4)) r
     part_right v l r h = record {
       top_is = h.laid.0.right_is;
       laid = h.laid.2;
@@ -151,25 +151,25 @@ module _ (land : Land) (w : Words) (root : ℕ) where
     none_left depth less key link some one key_is link_is none t h low_enough =
         let n = node_part t h some in
         let e : height t ≡ 1 + max (height n.l) (height n.r) = ap height n.is in
-        none n.l (subst (λ x. IsPart land w root low (Some x) link n.l) (sym key_is) (subst (λ x. IsPart land w root low (Some (w (b + 1))) x n.l) (sym link_is) (part_left n.v n.l n.r n.part)))
+        none n.l (subst (λ x. IsSubtree land w root low (Some x) link n.l) (sym key_is) (subst (λ x. IsSubtree land w root low (Some (w (b + 1))) x n.l) (sym link_is) (part_left n.v n.l n.r n.part)))
         (omega (arith, e, low_enough, one))
 
     pub none_right : (depth less key : ℕ) (link : ℕ) → (b ≡ 0 → ⊥) → less + 1 ≡ depth → key ≡ w (b + 1) → link ≡ w (b + 4) → HasNoPart land w root (Some key) high link less → HasNoPart land w root low high b depth
     none_right depth less key link some one key_is link_is none t h low_enough =
         let n = node_part t h some in
         let e : height t ≡ 1 + max (height n.l) (height n.r) = ap height n.is in
-        none n.r (subst (λ x. IsPart land w root (Some x) high link n.r) (sym key_is) (subst (λ x. IsPart land w root (Some (w (b + 1))) high x n.r) (sym link_is) (part_right n.v n.l n.r n.part)))
+        none n.r (subst (λ x. IsSubtree land w root (Some x) high link n.r) (sym key_is) (subst (λ x. IsSubtree land w root (Some (w (b + 1))) high x n.r) (sym link_is) (part_right n.v n.l n.r n.part)))
         (omega (arith, e, low_enough, one))
 
     -- ---- both sides were measured
 
     module _ (key left_link right_link less left_levels left_nodes right_levels right_nodes : ℕ) (some : b ≡ 0 → ⊥) (key_is : key ≡ w (b + 1)) (left_is : left_link ≡ w (b + 3)) (right_is : right_link ≡ w (b + 4))
         (on_l : HasPart land w root low (Some key) left_link less left_levels left_nodes) (on_r : HasPart land w root (Some key) high right_link less right_levels right_nodes) where
-      left_part : IsPart land w root low (Some (w (b + 1))) (w (b + 3)) on_l.tree
-      left_part = subst (λ x. IsPart land w root low (Some x) (w (b + 3)) on_l.tree) key_is (subst (λ x. IsPart land w root low (Some key) x on_l.tree) left_is on_l.part)
+      left_part : IsSubtree land w root low (Some (w (b + 1))) (w (b + 3)) on_l.tree
+      left_part = subst (λ x. IsSubtree land w root low (Some x) (w (b + 3)) on_l.tree) key_is (subst (λ x. IsSubtree land w root low (Some key) x on_l.tree) left_is on_l.part)
 
-      right_part : IsPart land w root (Some (w (b + 1))) high (w (b + 4)) on_r.tree
-      right_part = subst (λ x. IsPart land w root (Some x) high (w (b + 4)) on_r.tree) key_is (subst (λ x. IsPart land w root (Some key) high x on_r.tree) right_is on_r.part)
+      right_part : IsSubtree land w root (Some (w (b + 1))) high (w (b + 4)) on_r.tree
+      right_part = subst (λ x. IsSubtree land w root (Some x) high (w (b + 4)) on_r.tree) key_is (subst (λ x. IsSubtree land w root (Some key) high x on_r.tree) right_is on_r.part)
 
       pub some_joined : (depth levels nodes : ℕ) → IsSoundNode land w root low high b → left_levels ≤ right_levels + 1 → right_levels ≤ left_levels + 1 → w (b + 5) ≡ levels → levels ≡ max left_levels right_levels + 1
           → nodes ≡ left_nodes + 1 + right_nodes → less + 1 ≡ depth → HasPart land w root low high b depth levels nodes
@@ -232,7 +232,7 @@ few_levels land w root t h =
     ]
 
 module _ (xs : List ℕ) (heap blocks_are structure root : ℕ) (area : IsArea xs heap blocks_are) where
-  whole_part : (t : Tree) → IsTree (land_of heap (slice_index xs) structure) (slice_index xs) root t → IsPart (land_of heap (slice_index xs) structure) (slice_index xs) root None None (slice_index xs (root + 1)) t
+  whole_part : (t : Tree) → IsTree (land_of heap (slice_index xs) structure) (slice_index xs) root t → IsSubtree (land_of heap (slice_index xs) structure) (slice_index xs) root None None (slice_index xs (root + 1)) t
   whole_part t h = record {
     top_is = h.top_is;
     laid = h.laid;
@@ -248,7 +248,7 @@ module _ (xs : List ℕ) (heap blocks_are structure root : ℕ) (area : IsArea x
   pub no_tree-measured : (link : ℕ) → link ≡ slice_index xs (root + 1) → HasNoPart (land_of heap (slice_index xs) structure) (slice_index xs) root None None link 33
       → HasTreeOf (land_of heap (slice_index xs) structure) (slice_index xs) root → ⊥
   no_tree-measured link here none h = none h.tree
-      (subst (λ x. IsPart (land_of heap (slice_index xs) structure) (slice_index xs) root None None x h.tree) (sym here) (whole_part h.tree h.is))
+      (subst (λ x. IsSubtree (land_of heap (slice_index xs) structure) (slice_index xs) root None None x h.tree) (sym here) (whole_part h.tree h.is))
       (few_levels (land_of heap (slice_index xs) structure) (slice_index xs) root h.tree h.is)
 
   each_counted : (t : Tree) → IsOwn (land_of heap (slice_index xs) structure) root → AreOwn (land_of heap (slice_index xs) structure) t

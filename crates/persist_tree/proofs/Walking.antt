@@ -6,7 +6,7 @@ use Rattle.lane_traits.specs.declared.words.Pair.{Pair}
 use Rattle.region_layout.specs.FiniteMap.{FiniteMap}
 use Rattle.region_layout.specs.TreeMap.{Tree, Leaf, Node, entries}
 use Rattle.persist_tree.specs.Changes.{StandsAt, HasTree}
-use Rattle.persist_tree.specs.Calls.{Holds, IsMap, entry_of}
+use Rattle.persist_tree.specs.Calls.{Holds, HoldsMap, entry_of}
 use Rattle.persist_tree.proofs.Turning.{node_at, on_left, on_right, stands_in}
 use Rattle.persist_tree.proofs.Whole.{whole_stands}
 
@@ -41,5 +41,5 @@ collects_node s a key value f₀ f₁ f₂ f₃ positive key_is value_is on_l pu
 pub walked : (s : Space) (root a : ℕ) (found : List Pair) → a ≡ s.word (root + 1) → Collects s a [] found → (m : FiniteMap) → Holds s root m → map entry_of found ≡ m
 walked s root a found here collects m h = collects h.tree (stands_in s s (s.word (root + 1)) a h.tree refl here (whole_stands s root h.tree h.is)) ∙ sym h.entries_are
 
-pub map_tree : (s : Space) (root : ℕ) → IsMap s root → HasTree s (s.word (root + 1))
+pub map_tree : (s : Space) (root : ℕ) → HoldsMap s root → HasTree s (s.word (root + 1))
 map_tree s root h = record { tree = h.is.tree; stands = whole_stands s root h.is.tree h.is.is }

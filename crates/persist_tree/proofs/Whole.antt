@@ -5,13 +5,13 @@ use Rattle.std.specs.Prelude.{is_none}
 use Rattle.persist_model.specs.Region.{Words}
 use Rattle.persist_model.specs.Records.{IsAmong}
 use Rattle.persist_model.specs.Chain.{HasNoRepeats}
-use Rattle.lane_traits.specs.Space.{Land, Space, IsOwn, IsBlock, IsDataWord, IsTaken, AreSpare, put_word, written, taken, given, with_owner}
+use Rattle.lane_traits.specs.Space.{Land, Space, IsOwn, IsBlock, IsDataWordOf, IsTaken, AreSpare, put_word, written, taken, given, with_owner}
 use Rattle.region_layout.specs.FiniteMap.{FiniteMap, lookup, with_pair, without_key}
 use Rattle.region_layout.specs.TreeMap.{Tree, Leaf, Node, top, height, IsNode, IsLaid, EachNode, AreOwn, blocks, IsTree}
 use Rattle.persist_tree.specs.Trees.{IsIn, IsApart, IsAbsent, block_of, with_node, with_value, without_node}
 use Rattle.persist_tree.specs.Changes.{StandsAt, IsRebuilt}
 use Rattle.persist_tree.specs.Below.{IsGrowing, CanGrow, Grows, CanShrink, Shrinks}
-use Rattle.persist_tree.specs.Calls.{Holds, IsMap, needed, KeepsBlocks, GivesOne, KeepsOthers, WritesFew}
+use Rattle.persist_tree.specs.Calls.{Holds, HoldsMap, needed, KeepsBlocks, GivesOne, KeepsOthers, WritesFew}
 use Rattle.persist_tree.specs.Located.{Locates, CanInsert, IsInserted, Inserts}
 use Rattle.persist_tree.proofs.Nodes.{EachNode-weaker, EachNode-in, each_in, in_blocks, of_blocks}
 use Rattle.persist_tree.proofs.Balancing.{with_node-grown, without_node-shrunk}
@@ -43,7 +43,7 @@ among_of root t b (inr m) = inr (in_blocks t b m)
 positive_blocks : (land : Land) (t : Tree) → AreOwn land t → EachNode (λ b k v. 0 < b) t
 positive_blocks land t own = EachNode-weaker (λ b k v. IsOwn land b) (λ b k v. 0 < b) (λ b k v o. o.0.positive) t own
 
-root_word : (land : Land) (root : ℕ) → IsOwn land root → IsDataWord land (root + 1)
+root_word : (land : Land) (root : ℕ) → IsOwn land root → IsDataWordOf land (root + 1)
 root_word land root own = record { block = root; index = 1; own = own; place = refl; above = omega arith; below = omega arith }
 
 -- ---- what a search tells of the map
@@ -66,7 +66,7 @@ value_some s root key b locates some m h =
 pub located_in : (s : Space) (root key b : ℕ) (t : Tree) → Locates s root key b → (b ≡ 0 → ⊥) → IsTree s.land s.word root t → IsIn t b
 located_in s root key b t locates some h = subst (IsIn t) (sym (locates t h)) (found_in key t (some_at s root key b t locates some h))
 
-pub located_own : (s : Space) (root key b : ℕ) → Locates s root key b → (b ≡ 0 → ⊥) → IsMap s root → IsOwn s.land b
+pub located_own : (s : Space) (root key b : ℕ) → Locates s root key b → (b ≡ 0 → ⊥) → HoldsMap s root → IsOwn s.land b
 located_own s root key b locates some h = block_own s.land h.is.tree b h.is.is.own (located_in s root key b h.is.tree locates some h.is.is)
 
 pub needed_none : (s : Space) (root key b : ℕ) → Locates s root key b → b ≡ 0 → (m : FiniteMap) → Holds s root m → 1 ≡ needed key m
@@ -149,7 +149,7 @@ module _ (s : Space) (fresh : ℕ) (block : IsBlock s.land fresh) (apart : s.lan
         balanced = (with_node-grown fresh key value t h.balanced).balanced;
         filled = with_node-each (λ b k v. 1 ≤ v) fresh key value t positive h.filled;
       };
-      others = λ a out_before out_after. put_other (root + 1) link a u.word (λ e. out_before (subst (IsDataWord s.land) (sym e) (root_word s.land root h.root_own)))
+      others = λ a out_before out_after. put_other (root + 1) link a u.word (λ e. out_before (subst (IsDataWordOf s.land) (sym e) (root_word s.land root h.root_own)))
           ∙ built.changes.elsewhere a (λ b i m above below e. out_after (record { block = b; index = i; own = own_changed b m; place = e; above = above; below = below }));
       writes = let few = built.changes.writes in omega (arith, few);
     }
@@ -335,7 +335,7 @@ module _ (s u : Space) (root key link : ℕ) (t : Tree) (h : IsTree s.land s.wor
       balanced = (without_node-shrunk key t h.balanced).balanced;
       filled = without_node-each (λ b k v. 1 ≤ v) key t h.filled;
     };
-    others = λ a out_before out_after. put_other (root + 1) link a u.word (λ e. out_before (subst (IsDataWord s.land) (sym e) (root_word s.land root h.root_own)))
+    others = λ a out_before out_after. put_other (root + 1) link a u.word (λ e. out_before (subst (IsDataWordOf s.land) (sym e) (root_word s.land root h.root_own)))
         ∙ shrunk.changes.elsewhere a (λ b i m above below e. out_before (record { block = b; index = i; own = block_own s.land t b h.own m; place = e; above = above; below = below }));
     writes = let few = shrunk.changes.writes in omega (arith, few);
   }
@@ -364,10 +364,10 @@ module _ (s t u : Space) (root key value top fresh link : ℕ) (spare : AreSpare
 
 -- ---- the calls
 
-pub map_in : (s t : Space) (root : ℕ) → t ≡ s → IsMap s root → IsMap t root
-map_in s t root same h = subst (λ (y : Space). IsMap y root) (sym same) h
+pub map_in : (s t : Space) (root : ℕ) → t ≡ s → HoldsMap s root → HoldsMap t root
+map_in s t root same h = subst (λ (y : Space). HoldsMap y root) (sym same) h
 
-pub can_insert : (s t : Space) (root key b : ℕ) → t ≡ s → Locates s root key b → b ≡ 0 → IsMap s root → CanInsert t root key
+pub can_insert : (s t : Space) (root key b : ℕ) → t ≡ s → Locates s root key b → b ≡ 0 → HoldsMap s root → CanInsert t root key
 can_insert s t root key b same locates none h =
     subst (λ (y : Space). CanInsert y root key) (sym same) (record { tree = h.is.tree; is = h.is.is; absent = located_absent s root key b h.is.tree locates none h.is.is })
 
@@ -381,7 +381,7 @@ module _ (s u : Space) (root key value b : ℕ) (locates : Locates s root key b)
       let done = inserts h.tree h.is absent in
       record { tree = with_node done.taken.block key value h.tree; is = done.tree; entries_are = ap (with_pair key value) h.entries_are ∙ sym (with_node-entries done.taken.block key value h.tree h.is.ordered absent) }
 
-  pub put_new : (h : IsMap s root) → IsInserted s u root key value h.is.tree
+  pub put_new : (h : HoldsMap s root) → IsInserted s u root key value h.is.tree
   put_new h = inserts h.is.tree h.is.is (located_absent s root key b h.is.tree locates none h.is.is)
 
   pub put_new-writes : WritesFew s u root
@@ -394,7 +394,7 @@ module _ (s u : Space) (root key value b : ℕ) (locates : Locates s root key b)
       subst (λ (y : Space). Holds y root (with_pair key value m)) (sym (made ∙ ap (λ x. written (x + 2) value s) (locates h.tree h.is)))
       (record { tree = with_value key value h.tree; is = overwritten s root key value h.tree h.is there positive; entries_are = ap (with_pair key value) h.entries_are ∙ sym (with_value-entries key value h.tree h.is.ordered there) })
 
-  pub put_old-others : IsMap s root → KeepsOthers s u
+  pub put_old-others : HoldsMap s root → KeepsOthers s u
   put_old-others h a out_before out_after =
       ap (λ (y : Space). y.word a) made
       ∙ put_other (b + 2) value a s.word (λ e. out_before (record { block = b; index = 2; own = located_own s root key b locates some h; place = e; above = omega arith; below = omega arith }))
@@ -405,7 +405,7 @@ module _ (s u : Space) (root key value b : ℕ) (locates : Locates s root key b)
   pub put_old-blocks : KeepsBlocks s u
   put_old-blocks = record { land = ap (λ (y : Space). y.land) made; spare = ap (λ (y : Space). y.spare) made }
 
-pub can_shrink : (s t : Space) (root key top b : ℕ) → t ≡ s → top ≡ s.word (root + 1) → Locates s root key b → (b ≡ 0 → ⊥) → IsMap s root → CanShrink t top key
+pub can_shrink : (s t : Space) (root key top b : ℕ) → t ≡ s → top ≡ s.word (root + 1) → Locates s root key b → (b ≡ 0 → ⊥) → HoldsMap s root → CanShrink t top key
 can_shrink s t root key top b same here locates some h =
     subst (λ (y : Space). CanShrink y top key) (sym same) (subst (λ x. CanShrink s x key) (sym here)
     (record { tree = h.is.tree; is = record { stands = whole_stands s root h.is.tree h.is.is; ordered = h.is.is.ordered; present = some_at s root key b h.is.tree locates some h.is.is } }))
@@ -414,14 +414,14 @@ module _ (s t u : Space) (root key top link b : ℕ) (locates : Locates s root k
   shrinks_from : Shrinks s u (s.word (root + 1)) key link
   shrinks_from = subst (λ (y : Space). Shrinks y u (s.word (root + 1)) key link) same (subst (λ x. Shrinks t u x key link) here shrinks)
 
-  pub remove_land : IsMap s root → u.land ≡ s.land
+  pub remove_land : HoldsMap s root → u.land ≡ s.land
   remove_land h = (shrinks_from h.is.tree (record { stands = whole_stands s root h.is.tree h.is.is; ordered = h.is.is.ordered; present = some_at s root key b h.is.tree locates some h.is.is })).changes.land
 
-  pub remove_own : IsMap s root → IsOwn u.land root
+  pub remove_own : HoldsMap s root → IsOwn u.land root
   remove_own h = subst (λ (y : Land). IsOwn y root) (sym (remove_land h)) h.is.is.root_own
 
   module _ (v w : Space) (x : ℕ) (made : v ≡ written (root + 1) x u) (is_link : x ≡ link) where
-    pub remove_give : IsMap s root → IsOwn v.land b
+    pub remove_give : HoldsMap s root → IsOwn v.land b
     remove_give h = subst (λ (y : Space). IsOwn y.land b) (sym made) (subst (λ (y : Land). IsOwn y b) (sym (remove_land h)) (located_own s root key b locates some h))
 
     module _ (gave : w ≡ given b v) where

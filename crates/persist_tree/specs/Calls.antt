@@ -1,7 +1,7 @@
 -- What the calls promise.
 use Rattle.std.specs.Prelude.{◌≡◌, ℕ, ◌+◌, ◌*◌, ◌≤◌, if◌then◌else◌, is_none}
 use Rattle.persist_model.specs.Records.{IsAmong}
-use Rattle.lane_traits.specs.Space.{Space, IsOwn, IsDataWord, taken, given}
+use Rattle.lane_traits.specs.Space.{Space, IsOwn, IsDataWordOf, taken, given}
 use Rattle.lane_traits.specs.declared.words.Pair.{Pair}
 use Rattle.region_layout.specs.FiniteMap.{FiniteMap, lookup}
 use Rattle.region_layout.specs.TreeMap.{Tree, height, IsTree}
@@ -13,7 +13,7 @@ abbrev pub Holds : Space → ℕ → FiniteMap → Type 0
 Holds s root contents = IsMapIn kind.Tree s.land s.word root contents
 
 -- the words are a map
-pub record IsMap (s : Space) (root : ℕ) : Type 0 where
+pub record HoldsMap (s : Space) (root : ℕ) : Type 0 where
   pub contents : FiniteMap
   pub is : Holds s root contents
 
@@ -42,7 +42,7 @@ pub record GivesOne (s u : Space) : Type 0 where
 
 -- the words that are no data words of the structure's blocks stay
 abbrev pub KeepsOthers : Space → Space → Type 0
-KeepsOthers s u = (a : ℕ) → (IsDataWord s.land a → ⊥) → (IsDataWord u.land a → ⊥) → u.word a ≡ s.word a
+KeepsOthers s u = (a : ℕ) → (IsDataWordOf s.land a → ⊥) → (IsDataWordOf u.land a → ⊥) → u.word a ≡ s.word a
 
 -- at most 12 writes and 9 for each level of the tree
 abbrev pub WritesFew : Space → Space → ℕ → Type 0

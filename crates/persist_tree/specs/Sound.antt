@@ -35,7 +35,7 @@ pub record IsSoundNode (land : Land) (w : Words) (root : ℕ) (low high : Option
   pub under : IsUnder high (w (b + 1))
 
 -- a tree in the structure's blocks, without the root block, with keys between these
-pub record IsPart (land : Land) (w : Words) (root : ℕ) (low high : Option ℕ) (link : ℕ) (t : Tree) : Type 0 where
+pub record IsSubtree (land : Land) (w : Words) (root : ℕ) (low high : Option ℕ) (link : ℕ) (t : Tree) : Type 0 where
   pub top_is : link ≡ top t
   pub laid : IsLaid w t
   pub own : AreOwn land t
@@ -48,14 +48,14 @@ pub record IsPart (land : Land) (w : Words) (root : ℕ) (low high : Option ℕ)
 
 pub record HasPart (land : Land) (w : Words) (root : ℕ) (low high : Option ℕ) (link depth levels nodes : ℕ) : Type 0 where
   pub tree : Tree
-  pub part : IsPart land w root low high link tree
+  pub part : IsSubtree land w root low high link tree
   pub height_is : height tree ≡ levels
   pub nodes_are : length (blocks tree) ≡ nodes
   pub low_enough : levels ≤ depth
 
 -- there is no such tree of at most so many levels
 abbrev pub HasNoPart : Land → Words → ℕ → Option ℕ → Option ℕ → ℕ → ℕ → Type 0
-HasNoPart land w root low high link depth = (t : Tree) → IsPart land w root low high link t → height t ≤ depth → ⊥
+HasNoPart land w root low high link depth = (t : Tree) → IsSubtree land w root low high link t → height t ≤ depth → ⊥
 
 -- how many of the first n blocks have this owner
 abbrev pub owned_count : Words → ℕ → ℕ → ℕ → ℕ

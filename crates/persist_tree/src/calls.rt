@@ -2,7 +2,7 @@
 ghost use Rattle.std.specs.Prelude.{◌≡◌, ◌↔◌, ◌+◌, ◌<◌, ◌≤◌, Err, length, IfOk, OnOk, OnErr, MatchOption};
 ghost use Rattle.lane_traits.specs.Space.{Space};
 ghost use Rattle.region_layout.specs.FiniteMap.{FiniteMap, lookup, with_pair, without_key};
-ghost use Rattle.persist_tree.specs.Calls.{IsMap, Holds, needed, KeepsBlocks, TakesOne, GivesOne, KeepsOthers, WritesFew};
+ghost use Rattle.persist_tree.specs.Calls.{HoldsMap, Holds, needed, KeepsBlocks, TakesOne, GivesOne, KeepsOthers, WritesFew};
 
 use crate::fields::{field, set};
 use crate::locate::{insert, locate};
@@ -11,7 +11,7 @@ use lane_traits::{Words, WordsRefusal};
 
 /// The value of a key.
 pub fn get<W: Words>(words: &mut W, root: u32, key: u64) -> Option<u64>
-    requires { IsMap (W.space words.old) root }
+    requires { HoldsMap (W.space words.old) root }
     ensures value { (m : FiniteMap) → Holds (W.space words.old) root m → result ≡ lookup key m }
     ensures same { W.space words.new ≡ W.space words.old }
 {
@@ -24,7 +24,7 @@ pub fn get<W: Words>(words: &mut W, root: u32, key: u64) -> Option<u64>
 
 /// How many blocks a put of the key takes.
 pub fn needs<W: Words>(words: &mut W, root: u32, key: u64) -> u32
-    requires { IsMap (W.space words.old) root }
+    requires { HoldsMap (W.space words.old) root }
     ensures count { (m : FiniteMap) → Holds (W.space words.old) root m → result ≡ needed key m }
     ensures same { W.space words.new ≡ W.space words.old }
 {
@@ -40,7 +40,7 @@ pub fn put<W: Words>(
     key: u64,
     value: u64,
 ) -> Result<Option<u64>, WordsRefusal>
-    requires map { IsMap (W.space words.old) root }
+    requires map { HoldsMap (W.space words.old) root }
     requires value { 1 ≤ value }
 
     ensures answer { IfOk result (λ before. (m : FiniteMap) → Holds (W.space words.old) root m → before ≡ lookup key m) }
@@ -69,7 +69,7 @@ pub fn put<W: Words>(
 /// The key then has no value. The answer is the value before.
 /// After `NoMemory` some of the writes may have been made; the words are then to be given up.
 pub fn remove<W: Words>(words: &mut W, root: u32, key: u64) -> Result<Option<u64>, WordsRefusal>
-    requires { IsMap (W.space words.old) root }
+    requires { HoldsMap (W.space words.old) root }
 
     ensures answer { IfOk result (λ before. (m : FiniteMap) → Holds (W.space words.old) root m → before ≡ lookup key m) }
     ensures contents { OnOk result ((m : FiniteMap) → Holds (W.space words.old) root m → Holds (W.space words.new) root (without_key key m)) }

@@ -4,7 +4,7 @@ ghost use Rattle.lane_traits.specs.Space.{Space};
 ghost use Rattle.region_layout.specs.FiniteMap.{FiniteMap};
 ghost use Rattle.region_layout.specs.TreeMap.{Tree, entries};
 ghost use Rattle.persist_tree.specs.Changes.{StandsAt, HasTree, stored_height};
-ghost use Rattle.persist_tree.specs.Calls.{IsMap, Holds, entry_of};
+ghost use Rattle.persist_tree.specs.Calls.{HoldsMap, Holds, entry_of};
 
 use crate::fields::{field, sides_of};
 use lane_traits::{Pair, Words};
@@ -38,7 +38,7 @@ fn collect<W: Words>(words: &mut W, at: u32, found: &mut List<Pair>) -> Result<(
 
 /// All keys with their values, ascending by key.
 pub fn walk<W: Words>(alloc: Global, words: &mut W, root: u32) -> Result<List<Pair>, NoMemory>
-    requires { IsMap (W.space words.old) root }
+    requires { HoldsMap (W.space words.old) root }
     ensures entries { IfOk result (λ found. (m : FiniteMap) → Holds (W.space words.old) root m → map entry_of found ≡ m) }
     ensures same { W.space words.new ≡ W.space words.old }
 {

@@ -1,7 +1,7 @@
 // The tree below the root block.
 ghost use Rattle.std.specs.Prelude.{◌≡◌, ◌↔◌, ◌+◌, ◌≤◌, [], Err, OnOk};
 ghost use Rattle.lane_traits.specs.Space.{Space};
-ghost use Rattle.persist_tree.specs.Calls.{IsMap};
+ghost use Rattle.persist_tree.specs.Calls.{HoldsMap};
 ghost use Rattle.persist_tree.specs.Located.{Locates, CanInsert, Inserts};
 
 use crate::fields::{field, set};
@@ -18,7 +18,7 @@ pub(crate) struct Place {
 
 /// Where a key is.
 pub(crate) fn locate<W: Words>(words: &mut W, root: u32, key: u64) -> Place
-    requires { IsMap (W.space words.old) root }
+    requires { HoldsMap (W.space words.old) root }
     ensures top { result.top ≡ (W.space words.old).word (root + 1) }
     ensures at { Locates (W.space words.old) root key result.at }
     ensures same { W.space words.new ≡ W.space words.old }

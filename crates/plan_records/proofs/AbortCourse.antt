@@ -4,15 +4,15 @@ use Rattle.persist_model.specs.Records.{Record, Log, IsAmong, Has, HasNo, IsOf, 
 use Rattle.persist_model.specs.Shape.{Shape, part_of}
 use Rattle.persist_model.specs.Need.{rest, to_undo}
 use Rattle.persist_model.specs.State.{State}
-use Rattle.log_laws.specs.Recovery.{IsCovered}
+use Rattle.log_laws.specs.Recovery.{HasDecidingRecord}
 use Rattle.region_layout.specs.declared.cell.Cell.{Cell}
 use Rattle.region_layout.specs.declared.layout.Policy.{Policy}
 use Rattle.region_layout.specs.declared.layout.Policy.TheVariants.{Force, NoForce}
 use Rattle.bucket_log.specs.declared.append.Place.{Place}
-use Rattle.bucket_log.specs.declared.parts.Part.{Part}
-use Rattle.bucket_log.specs.declared.parts.Part.TheVariants.{Append, Word, Fence, Clear}
+use Rattle.plan_records.specs.declared.parts.Part.{Part}
+use Rattle.plan_records.specs.declared.parts.Part.TheVariants.{Append, Word, Fence, Clear}
 use Rattle.bucket_log.specs.Plans.{place_address}
-use Rattle.plan_records.specs.declared.cells.Outcome.TheVariants.{RolledBack}
+use Rattle.persist_model.specs.declared.kinds.Outcome.TheVariants.{RolledBack}
 use Rattle.plan_records.specs.Cells.{cell_of_compensation, cell_of_rollback, cell_of_end, appended, IsCellOf}
 use Rattle.plan_records.specs.Sequences.{store_of, undo_parts}
 use Rattle.plan_records.specs.Passing.{inserted}
@@ -31,9 +31,9 @@ data Next (policy : Policy) (shape : Shape) (p t : ℕ) (o : Log) : Part → Lis
   rolls : (us : List Cell) → IsGoing shape p t o → HasNo (λ x. IsOf t x × IsRollback x) o → AreCellsOf us (to_undo t o) →
       Next policy shape p t o (Append (cell_of_rollback t)) (undo_parts policy us ++ undo_end policy t)
   compensates : (u : Cell) (us : List Cell) → IsGoing shape p t o → AreCellsOf (u ∷ us) (to_undo t o) →
-      Next policy shape p t o (Append (cell_of_compensation u)) (Word (store_of policy u.address u.before) ∷ (undo_parts policy us ++ undo_end policy t))
-  restores : (u : Cell) (us : List Cell) → IsGoing shape p t o → AreCellsOf us (to_undo t o) → HasUpdated t o u.address →
-      Next policy shape p t o (Word (store_of policy u.address u.before)) (undo_parts policy us ++ undo_end policy t)
+      Next policy shape p t o (Append (cell_of_compensation u)) (Word (store_of policy u.word u.before) ∷ (undo_parts policy us ++ undo_end policy t))
+  restores : (u : Cell) (us : List Cell) → IsGoing shape p t o → AreCellsOf us (to_undo t o) → HasUpdated t o u.word →
+      Next policy shape p t o (Word (store_of policy u.word u.before)) (undo_parts policy us ++ undo_end policy t)
   waits : IsGoing shape p t o → to_undo t o ≡ [] → Next policy shape p t o Fence (Append (cell_of_end t RolledBack) ∷ Clear ∷ [])
   ends : IsGoing shape p t o → to_undo t o ≡ [] → Next policy shape p t o (Append (cell_of_end t RolledBack)) []
   ends_to_clear : IsGoing shape p t o → to_undo t o ≡ [] → Next policy shape p t o (Append (cell_of_end t RolledBack)) (Clear ∷ [])
@@ -162,10 +162,10 @@ module _ (policy : Policy) (shape : Shape) (p t : ℕ) where
       }
   begin x _ _ (restores u us going cells has) = by policy
     where
-      covered : IsCovered shape.policy x.log u.address
+      covered : HasDecidingRecord shape.policy x.log u.word
       covered = inl (has.0, (own_out t x.log has.0 has.1).0, (has.2.0, has.2.1, subst (λ y. IsRunning x.log y) (sym has.2.2) (going_all shape p t x.log going).running))
 
-      by : (q : Policy) → IsCoveredStore shape.policy x.log (store_of q u.address u.before)
+      by : (q : Policy) → IsCoveredStore shape.policy x.log (store_of q u.word u.before)
       by Force = covered
       by NoForce = covered
   begin x _ _ (waits going left) = tt

@@ -5,10 +5,10 @@ use Rattle.persist_model.specs.declared.event.Event.TheVariants.{PStore}
 use Rattle.persist_model.specs.Progress.{Progress, write, latest, advance, advance_all}
 use Rattle.persist_model.specs.Records.{Record, Log, IsAmong, Has, IsOf, IsEnd, IsRunning, IsCommitted}
 use Rattle.persist_model.proofs.Projecting.{latest-push}
-use Rattle.log_laws.specs.Closing.{IsPart, empty, stays, goes}
+use Rattle.log_laws.specs.Closing.{IsSublog, empty, stays, goes}
 use Rattle.log_laws.specs.Moves.{IsDeletionBy}
-use Rattle.bucket_log.specs.declared.parts.Part.TheVariants.{Fence as Wait}
-use Rattle.plan_records.specs.declared.cells.Outcome.TheVariants.{Committed, RolledBack}
+use Rattle.plan_records.specs.declared.parts.Part.TheVariants.{Fence as Wait}
+use Rattle.persist_model.specs.declared.kinds.Outcome.TheVariants.{Committed, RolledBack}
 use Rattle.plan_records.specs.Cells.{cell_of_end, appended}
 use Rattle.plan_records.specs.Sequences.{zero_parts, owner_parts}
 use Rattle.plan_records.specs.Passing.{inserted}
@@ -20,7 +20,7 @@ use Rattle.plan_records.proofs.OwnRecords.{own_other, own_either, own_beside}
 
 -- ---- what others do
 
-pub own_part : (P : Record → Type 0) (t : ℕ) (later log : Log) → ((r : Record) → IsAmong log r → P r → IsOf t r → ⊥) → IsPart P later log → own_records t later ≡ own_records t log
+pub own_part : (P : Record → Type 0) (t : ℕ) (later log : Log) → ((r : Record) → IsAmong log r → P r → IsOf t r → ⊥) → IsSublog P later log → own_records t later ≡ own_records t log
 own_part P t _ _ off empty = refl
 own_part P t _ _ off (stays r {later = later} {log = log} part) = own_either t r later log (own_part P t later log (λ x m. off x (inr m)) part)
 own_part P t _ _ off (goes r {later = later} {log = log} p part) = own_part P t later log (λ x m. off x (inr m)) part ∙ sym (own_other t r log (off r (inl refl) p))

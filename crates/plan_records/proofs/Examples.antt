@@ -7,10 +7,10 @@ use Rattle.persist_model.specs.Need.{to_undo}
 use Rattle.persist_model.specs.State.{State}
 use Rattle.region_layout.specs.declared.layout.Policy.TheVariants.{Force, NoForce}
 use Rattle.bucket_log.specs.declared.append.Place.{Place}
-use Rattle.bucket_log.specs.declared.parts.Update.{Update}
-use Rattle.bucket_log.specs.declared.parts.Part.{Part}
-use Rattle.bucket_log.specs.declared.parts.Part.TheVariants.{Append, Word, Fence, Clear}
-use Rattle.plan_records.specs.declared.cells.Outcome.TheVariants.{Committed, RolledBack}
+use Rattle.plan_records.specs.declared.parts.Update.{Update}
+use Rattle.plan_records.specs.declared.parts.Part.{Part}
+use Rattle.plan_records.specs.declared.parts.Part.TheVariants.{Append, Word, Fence, Clear}
+use Rattle.persist_model.specs.declared.kinds.Outcome.TheVariants.{Committed, RolledBack}
 use Rattle.plan_records.specs.Cells.{cell_of_update, cell_of_compensation, cell_of_rollback, cell_of_end, cell_of_checkpoint, appended}
 use Rattle.plan_records.specs.Sequences.{undo_parts}
 use Rattle.plan_records.specs.Passing.{inserted, MayPass, Passes}
@@ -21,10 +21,10 @@ abbrev shape : Shape
 shape = record { policy = 1; cells = 1; buckets = 8; blocks = 16; structures = 2; format = 2; partitions = 1 }
 
 abbrev first_update : Update
-first_update = record { transaction = 7; word = 170; before = 5; after = 6; previous = 0 }
+first_update = record { transaction = 7; word = 170; before = 5; after = 6; undo_next = 0 }
 
 abbrev second_update : Update
-second_update = record { transaction = 7; word = 170; before = 6; after = 9; previous = 1 }
+second_update = record { transaction = 7; word = 170; before = 6; after = 9; undo_next = 1 }
 
 abbrev place : ℕ → Place
 place bucket = record { bucket = bucket; cell = 0; fresh = true; tail = 0 }
@@ -51,9 +51,9 @@ compensation_is : appended (place 80) 5 (cell_of_compensation (cell_of_update se
     record { at = 88; lsn = 5; transaction = 7; kind = 2; word = 170; before = 9; after = 6; undo_next = 1; outcome = 0 }
 compensation_is = refl
 
-ends_are : (cell_of_end 7 Committed ≡ record { gate = 0; transaction = 7; kind = 4; address = 0; before = 0; after = 0; undo_next = 0; outcome = 1 })
-    × (cell_of_end 7 RolledBack ≡ record { gate = 0; transaction = 7; kind = 4; address = 0; before = 0; after = 0; undo_next = 0; outcome = 2 })
-    × (cell_of_checkpoint ≡ record { gate = 0; transaction = 0; kind = 5; address = 0; before = 0; after = 0; undo_next = 0; outcome = 0 })
+ends_are : (cell_of_end 7 Committed ≡ record { lsn = 0; transaction = 7; kind = 4; word = 0; before = 0; after = 0; undo_next = 0; outcome = 1 })
+    × (cell_of_end 7 RolledBack ≡ record { lsn = 0; transaction = 7; kind = 4; word = 0; before = 0; after = 0; undo_next = 0; outcome = 2 })
+    × (cell_of_checkpoint ≡ record { lsn = 0; transaction = 0; kind = 5; word = 0; before = 0; after = 0; undo_next = 0; outcome = 0 })
 ends_are = (refl, refl, refl)
 
 -- ---- a transaction's own records

@@ -11,7 +11,7 @@ use Rattle.region_layout.specs.Layout.{IsAllowed}
 use Rattle.region_layout.specs.Fresh.{fresh_words, empty_state, IsEmptyRegion}
 use Rattle.region_layout.proofs.Empty.{fresh_is_empty}
 use Rattle.bucket_log.specs.declared.append.Place.{Place}
-use Rattle.bucket_log.specs.declared.parts.Update.{Update}
+use Rattle.plan_records.specs.declared.parts.Update.{Update}
 use Rattle.bucket_log.specs.Appends.{CanAppend}
 use Rattle.plan_records.specs.Cells.{cell_of_update, appended}
 use Rattle.plan_records.specs.Appends.{MayAppend, AppendKeeps}
@@ -46,7 +46,7 @@ state = empty_state shape words
 
 -- a put of 7 under key 3
 abbrev update : Update
-update = record { transaction = 1; word = 103; before = 0; after = 7; previous = 0 }
+update = record { transaction = 1; word = 103; before = 0; after = 7; undo_next = 0 }
 
 abbrev place : Place
 place = record { bucket = 32; cell = 0; fresh = true; tail = 0 }

@@ -11,8 +11,8 @@ use Rattle.log_laws.specs.MoveRoom.{HasItsCells}
 use Rattle.log_laws.specs.Moves.{IsOfRunning}
 use Rattle.log_laws.proofs.Deciding.{has_or_none, decide_to_undo}
 use Rattle.bucket_log.specs.declared.append.Place.{Place}
-use Rattle.bucket_log.specs.declared.parts.Part.{Part}
-use Rattle.bucket_log.specs.declared.parts.Part.TheVariants.{Append}
+use Rattle.plan_records.specs.declared.parts.Part.{Part}
+use Rattle.plan_records.specs.declared.parts.Part.TheVariants.{Append}
 use Rattle.bucket_log.specs.States.{less_room}
 use Rattle.log_clearing.specs.Closed.{IsListed}
 use Rattle.log_clearing.proofs.ClearingStates.{closings_keep}
@@ -20,7 +20,7 @@ use Rattle.plan_records.specs.Cells.{appended}
 use Rattle.plan_records.specs.Appends.{MayAppend}
 use Rattle.plan_records.specs.Conditions.{IsOfOpen}
 use Rattle.plan_records.specs.Courses.{own_records, Course, begins, appends, makes, meanwhile, AreDeleted, AreGatesOf, ClearServes, IsGoing, CoursesKeepRecords}
-use Rattle.plan_records.proofs.Appending.{takes}
+use Rattle.plan_records.proofs.RecordAppends.{takes}
 use Rattle.plan_records.proofs.OwnRecords.{own_in, own_out}
 use Rattle.plan_records.proofs.Passing.{inserted_in}
 

@@ -11,10 +11,10 @@ use Rattle.log_laws.specs.Recovering.{AreOnLog}
 use Rattle.region_layout.specs.declared.cell.Cell.{Cell}
 use Rattle.region_layout.specs.declared.layout.Policy.TheVariants.{Force}
 use Rattle.bucket_log.specs.declared.append.Place.{Place}
-use Rattle.bucket_log.specs.declared.parts.Part.{Part}
-use Rattle.bucket_log.specs.declared.parts.Part.TheVariants.{Append, Word, Fence as Wait, Clear}
+use Rattle.plan_records.specs.declared.parts.Part.{Part}
+use Rattle.plan_records.specs.declared.parts.Part.TheVariants.{Append, Word, Fence as Wait, Clear}
 use Rattle.bucket_log.specs.Appends.{region_append}
-use Rattle.plan_records.specs.declared.cells.Outcome.TheVariants.{RolledBack}
+use Rattle.persist_model.specs.declared.kinds.Outcome.TheVariants.{RolledBack}
 use Rattle.plan_records.specs.Cells.{cell_of_compensation, cell_of_rollback, cell_of_end, appended}
 use Rattle.plan_records.specs.Sequences.{undo_parts}
 use Rattle.plan_records.specs.Courses.{own_records, AreCellsOf, CanAbort, undo_end, abort_parts}
@@ -27,7 +27,7 @@ use Rattle.plan_records.proofs.HeapWrites.{holds_first}
 -- the cells are of t, and name words of the heap
 abbrev AreOfHeap : Shape → ℕ → List Cell → Type 0
 AreOfHeap shape t [] = Unit {0}
-AreOfHeap shape t (u ∷ us) = (u.transaction ≡ t) × (heap shape ≤ u.address) × AreOfHeap shape t us
+AreOfHeap shape t (u ∷ us) = (u.transaction ≡ t) × (heap shape ≤ u.word) × AreOfHeap shape t us
 
 cells_of : (shape : Shape) (t : ℕ) (cells : List Cell) (us : Log) → AreCellsOf cells us → ((u : Record) → IsAmong us u → (u.transaction ≡ t) × (heap shape ≤ u.word)) → AreOfHeap shape t cells
 cells_of shape t [] us are each = tt
@@ -42,9 +42,9 @@ cells_of shape t (cell ∷ cells) (u ∷ us) are each = (
 data Aborting (shape : Shape) (t : ℕ) (o : Log) (z : Progress) : List Part → Type 0 where
   rolls : (us : List Cell) → AreOfHeap shape t us → Holds shape t o z → Aborting shape t o z (Append (cell_of_rollback t) ∷ (undo_parts Force us ++ undo_end Force t))
   compensates : (u : Cell) (us : List Cell) → AreOfHeap shape t (u ∷ us) → Holds shape t o z →
-      Aborting shape t o z (Append (cell_of_compensation u) ∷ Word (PStore u.address u.before) ∷ (undo_parts Force us ++ undo_end Force t))
-  restores : (u : Cell) (us : List Cell) → AreOfHeap shape t us → Holds shape t o (advance z (PStore u.address u.before)) →
-      Aborting shape t o z (Word (PStore u.address u.before) ∷ (undo_parts Force us ++ undo_end Force t))
+      Aborting shape t o z (Append (cell_of_compensation u) ∷ Word (PStore u.word u.before) ∷ (undo_parts Force us ++ undo_end Force t))
+  restores : (u : Cell) (us : List Cell) → AreOfHeap shape t us → Holds shape t o (advance z (PStore u.word u.before)) →
+      Aborting shape t o z (Word (PStore u.word u.before) ∷ (undo_parts Force us ++ undo_end Force t))
   fences : Holds shape t o z → Aborting shape t o z (Wait ∷ Append (cell_of_end t RolledBack) ∷ Clear ∷ [])
   ends : Kept shape t o z → Aborting shape t o z (Append (cell_of_end t RolledBack) ∷ Clear ∷ [])
   clears : Aborting shape t o z (Clear ∷ [])
@@ -73,7 +73,7 @@ module _ (shape : Shape) (p t : ℕ) where
   abort_add o z _ _ place number (ends h) above on = clears
 
   abort_store : (o : Log) (z : Progress) (e : Event) (others : List Part) → Aborting shape t o z (Word e ∷ others) → Aborting shape t o (advance z e) others
-  abort_store o z _ _ (restores u us high h) = enter o (advance z (PStore u.address u.before)) us high h
+  abort_store o z _ _ (restores u us high h) = enter o (advance z (PStore u.word u.before)) us high h
 
   abort_wait : (o : Log) (z : Progress) (others : List Part) → Aborting shape t o z (Wait ∷ others) → Aborting shape t o (advance z Fence) others
   abort_wait o z _ (fences h) = ends (kept_fenced shape t o z h)

@@ -13,8 +13,8 @@ use Rattle.log_laws.proofs.Growing.{has_back}
 use Rattle.region_layout.specs.declared.cell.Cell.{Cell}
 use Rattle.region_layout.specs.declared.layout.Policy.TheVariants.{Force}
 use Rattle.bucket_log.specs.declared.append.Place.{Place}
-use Rattle.bucket_log.specs.declared.parts.Part.{Part}
-use Rattle.bucket_log.specs.declared.parts.Part.TheVariants.{Append, Word, Fence as Wait, Clear}
+use Rattle.plan_records.specs.declared.parts.Part.{Part}
+use Rattle.plan_records.specs.declared.parts.Part.TheVariants.{Append, Word, Fence as Wait, Clear}
 use Rattle.bucket_log.specs.Appends.{region_append}
 use Rattle.plan_records.specs.Cells.{appended}
 use Rattle.plan_records.specs.Sequences.{undo_parts}

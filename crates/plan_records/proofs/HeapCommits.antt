@@ -12,10 +12,10 @@ use Rattle.log_laws.specs.Recovering.{AreOnLog}
 use Rattle.region_layout.specs.declared.cell.Cell.{Cell}
 use Rattle.region_layout.specs.declared.layout.Policy.TheVariants.{Force}
 use Rattle.bucket_log.specs.declared.append.Place.{Place}
-use Rattle.bucket_log.specs.declared.parts.Part.{Part}
-use Rattle.bucket_log.specs.declared.parts.Part.TheVariants.{Append, Word, Fence as Wait, Clear}
+use Rattle.plan_records.specs.declared.parts.Part.{Part}
+use Rattle.plan_records.specs.declared.parts.Part.TheVariants.{Append, Word, Fence as Wait, Clear}
 use Rattle.bucket_log.specs.Appends.{region_append}
-use Rattle.plan_records.specs.declared.cells.Outcome.TheVariants.{Committed}
+use Rattle.persist_model.specs.declared.kinds.Outcome.TheVariants.{Committed}
 use Rattle.plan_records.specs.Cells.{cell_of_end, appended}
 use Rattle.plan_records.specs.Sequences.{zero_parts, owner_parts}
 use Rattle.plan_records.specs.Courses.{own_records, commit_parts}

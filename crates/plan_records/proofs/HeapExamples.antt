@@ -12,7 +12,7 @@ use Rattle.log_laws.specs.Moves.{IsChangeBy, IsDeletionBy}
 use Rattle.log_laws.specs.Recovering.{AreOnLog}
 use Rattle.region_layout.specs.declared.layout.Policy.TheVariants.{Force}
 use Rattle.bucket_log.specs.declared.append.Place.{Place}
-use Rattle.bucket_log.specs.declared.parts.Update.{Update}
+use Rattle.plan_records.specs.declared.parts.Update.{Update}
 use Rattle.bucket_log.specs.Appends.{region_append}
 use Rattle.plan_records.specs.Cells.{cell_of_update, appended}
 use Rattle.plan_records.specs.Appends.{with_record}
@@ -31,7 +31,7 @@ abbrev empty : State
 empty = record { log = []; words = words; room = λ p. 4 }
 
 abbrev update : Update
-update = record { transaction = 1; word = 103; before = 0; after = 7; previous = 0 }
+update = record { transaction = 1; word = 103; before = 0; after = 7; undo_next = 0 }
 
 abbrev place : Place
 place = record { bucket = 32; cell = 0; fresh = false; tail = 0 }

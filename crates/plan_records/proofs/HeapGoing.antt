@@ -15,8 +15,8 @@ use Rattle.log_laws.specs.Moves.{IsChangeBy}
 use Rattle.log_laws.specs.Recovering.{IsOnLog, AreOnLog}
 use Rattle.region_layout.specs.declared.cell.Cell.{Cell}
 use Rattle.bucket_log.specs.declared.append.Place.{Place}
-use Rattle.bucket_log.specs.declared.parts.Part.{Part}
-use Rattle.bucket_log.specs.declared.parts.Part.TheVariants.{Append, Word, Fence as Wait}
+use Rattle.plan_records.specs.declared.parts.Part.{Part}
+use Rattle.plan_records.specs.declared.parts.Part.TheVariants.{Append, Word, Fence as Wait}
 use Rattle.bucket_log.specs.Appends.{region_append}
 use Rattle.plan_records.specs.Cells.{appended}
 use Rattle.plan_records.specs.Courses.{own_records, begins, appends, makes, meanwhile}

@@ -6,10 +6,10 @@ use Rattle.persist_model.specs.Shape.{Shape, heap_words}
 use Rattle.persist_model.specs.State.{State}
 use Rattle.region_layout.specs.declared.layout.Policy.TheVariants.{Force}
 use Rattle.bucket_log.specs.declared.append.Place.{Place}
-use Rattle.bucket_log.specs.declared.parts.Part.TheVariants.{Append, Clear}
+use Rattle.plan_records.specs.declared.parts.Part.TheVariants.{Append, Clear}
 use Rattle.bucket_log.specs.Appends.{region_append}
 use Rattle.log_clearing.specs.Plans.{closing_plan}
-use Rattle.plan_records.specs.declared.cells.Outcome.TheVariants.{Committed, RolledBack}
+use Rattle.persist_model.specs.declared.kinds.Outcome.TheVariants.{Committed, RolledBack}
 use Rattle.plan_records.specs.Cells.{cell_of_update, cell_of_end, appended}
 use Rattle.plan_records.specs.Appends.{MayStandAt, AppendKeeps, AppendCommits}
 use Rattle.plan_records.specs.Conditions.{IsUpdateOf, AreWritten, AreLast}

@@ -22,7 +22,7 @@ use Rattle.bucket_log.specs.declared.append.Place.{Place}
 use Rattle.bucket_log.specs.Words.{IsLogWord, IsPartWord}
 use Rattle.bucket_log.specs.Plans.{append_plan}
 use Rattle.bucket_log.specs.Appends.{region_append}
-use Rattle.bucket_log.proofs.Appending.{append_stores}
+use Rattle.bucket_log.proofs.AppendImages.{append_stores}
 use Rattle.bucket_log.proofs.Appended.{AreOnLog-stores, AreDurable-out, append_durable}
 use Rattle.bucket_log.proofs.Partitions.{part_word_below, log_word_out}
 use Rattle.log_clearing.specs.Plans.{closes, group, closing_plan}

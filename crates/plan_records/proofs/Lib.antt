@@ -7,7 +7,7 @@ pub mod PassingOrder
 pub mod PassingStands
 pub mod PassingNeeds
 pub mod PassingLaw
-pub mod Appending
+pub mod RecordAppends
 pub mod RoomBound
 pub mod Groups
 pub mod Records

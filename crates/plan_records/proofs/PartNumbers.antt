@@ -5,8 +5,8 @@ use Rattle.std.proofs.lemmas.Option.{slice_get_past}
 use Rattle.persist_model.specs.declared.event.Event.TheVariants.{PStore}
 use Rattle.region_layout.specs.declared.cell.Cell.{Cell}
 use Rattle.region_layout.specs.declared.layout.Policy.{Policy}
-use Rattle.bucket_log.specs.declared.parts.Part.{Part}
-use Rattle.bucket_log.specs.declared.parts.Part.TheVariants.{Append, Word, Fence}
+use Rattle.plan_records.specs.declared.parts.Part.{Part}
+use Rattle.plan_records.specs.declared.parts.Part.TheVariants.{Append, Word, Fence}
 use Rattle.plan_records.specs.Cells.{cell_of_compensation}
 use Rattle.plan_records.specs.Sequences.{store_of, undo_parts, zero_parts, owner_parts}
 
@@ -15,9 +15,9 @@ even policy [] k u e = cc
 even policy (c ∷ us) zero u e = let same : c ≡ u = cc in ap (λ x. Some (Append (cell_of_compensation x))) same
 even policy (c ∷ us) (suc k) u e = let n : suc k + suc k ≡ suc (suc (k + k)) = omega arith in rw n (even policy us k u e)
 
-odd : (policy : Policy) (us : List Cell) (k : ℕ) (u : Cell) → slice_get us k ≡ Some u → slice_get (undo_parts policy us) (k + k + 1) ≡ Some (Word (store_of policy u.address u.before))
+odd : (policy : Policy) (us : List Cell) (k : ℕ) (u : Cell) → slice_get us k ≡ Some u → slice_get (undo_parts policy us) (k + k + 1) ≡ Some (Word (store_of policy u.word u.before))
 odd policy [] k u e = cc
-odd policy (c ∷ us) zero u e = let same : c ≡ u = cc in ap (λ (x : Cell). Some (Word (store_of policy x.address x.before))) same
+odd policy (c ∷ us) zero u e = let same : c ≡ u = cc in ap (λ (x : Cell). Some (Word (store_of policy x.word x.before))) same
 odd policy (c ∷ us) (suc k) u e = let n : suc k + suc k + 1 ≡ suc (suc (k + k + 1)) = omega arith in rw n (odd policy us k u e)
 
 pub length-undo_parts : (policy : Policy) (us : List Cell) → length (undo_parts policy us) ≡ length us + length us
@@ -32,7 +32,7 @@ past (u ∷ us) (suc k) e = let h = past us k e in omega (arith, h)
 pub undo_even : (policy : Policy) (us : List Cell) (i : ℕ) (u : Cell) → slice_get us (i / 2) ≡ Some u → i % 2 ≡ 0 → slice_get (undo_parts policy us) i ≡ Some (Append (cell_of_compensation u))
 undo_even policy us i u e two = let n : i ≡ i / 2 + i / 2 = omega (arith, two) in ap (slice_get (undo_parts policy us)) n ∙ even policy us (i / 2) u e
 
-pub undo_odd : (policy : Policy) (us : List Cell) (i : ℕ) (u : Cell) → slice_get us (i / 2) ≡ Some u → i % 2 ≢ 0 → slice_get (undo_parts policy us) i ≡ Some (Word (store_of policy u.address u.before))
+pub undo_odd : (policy : Policy) (us : List Cell) (i : ℕ) (u : Cell) → slice_get us (i / 2) ≡ Some u → i % 2 ≢ 0 → slice_get (undo_parts policy us) i ≡ Some (Word (store_of policy u.word u.before))
 undo_odd policy us i u e two = let n : i ≡ i / 2 + i / 2 + 1 = omega (arith, two) in ap (slice_get (undo_parts policy us)) n ∙ odd policy us (i / 2) u e
 
 pub undo_past : (policy : Policy) (us : List Cell) (i : ℕ) → slice_get us (i / 2) ≡ None → slice_get (undo_parts policy us) i ≡ None

@@ -3,7 +3,7 @@ use Rattle.std.proofs.Common.{◌≡◌, ◌≢◌, inl, inr, ℕ, ◌+◌, ◌<
 use Rattle.std.proofs.lemmas.Bool.Decides.{eqb_tells, nat_tests}
 use Rattle.persist_model.specs.Records.{Record, Log, IsAmong}
 use Rattle.persist_model.specs.Order.{is_kind_of}
-use Rattle.persist_model.specs.Need.{rest, to_undo, has_kind_of, need_of, is_of, has_of, counted, sum_over, need_in}
+use Rattle.persist_model.specs.Need.{rest, to_undo, has_kind_of, need_of, is_of, has_of, need_at, sum_over, need_in}
 use Rattle.plan_records.specs.Passing.{inserted, renumbered}
 use Rattle.plan_records.proofs.Passing.{compared, inserted_fold}
 
@@ -52,7 +52,7 @@ module _ (r : Record) (log : Log) (others : (x : Record) → IsAmong log x → r
       λ i. need_by (ended i) (rolled i) (left i)
 
 counted_alike : (part : ℕ → ℕ) (p : ℕ) (number : ℕ → ℕ) (x : Record) (log later : Log) → has_of x.transaction later ≡ has_of x.transaction log →
-    counted part p number x later ≡ counted part p number x log
+    need_at part p number x later ≡ need_at part p number x log
 counted_alike part p number x log later e = ap (λ b. if not (x.kind == 5) && (not b && (part x.at == p)) then number x.transaction else 0) e
 
 sum_inserted : (part : ℕ → ℕ) (p : ℕ) (number : ℕ → ℕ) (r : Record) (log : Log) → ((x : Record) → IsAmong log x → r.lsn < x.lsn → x.transaction ≢ r.transaction) →

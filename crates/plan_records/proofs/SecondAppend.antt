@@ -15,7 +15,7 @@ use Rattle.region_layout.specs.Layout.{IsAllowed}
 use Rattle.region_layout.specs.Fresh.{fresh_words, empty_state, IsEmptyRegion}
 use Rattle.region_layout.proofs.Empty.{fresh_is_empty}
 use Rattle.bucket_log.specs.declared.append.Place.{Place}
-use Rattle.bucket_log.specs.declared.parts.Update.{Update}
+use Rattle.plan_records.specs.declared.parts.Update.{Update}
 use Rattle.bucket_log.specs.Appends.{CanAppend, region_append}
 use Rattle.plan_records.specs.Cells.{cell_of_update, appended}
 use Rattle.plan_records.specs.Passing.{MayPass, Passes}
@@ -69,7 +69,7 @@ sound = record {
 -- ---- number 6 in partition 1
 
 abbrev other_update : Update
-other_update = record { transaction = 2; word = 167; before = 0; after = 4; previous = 0 }
+other_update = record { transaction = 2; word = 167; before = 0; after = 4; undo_next = 0 }
 
 abbrev other_place : Place
 other_place = record { bucket = 96; cell = 0; fresh = true; tail = 0 }
@@ -137,7 +137,7 @@ later = seen shape later_words (with_record 1 state six)
 -- ---- number 5 in partition 0
 
 abbrev own_update : Update
-own_update = record { transaction = 1; word = 168; before = 0; after = 7; previous = 0 }
+own_update = record { transaction = 1; word = 168; before = 0; after = 7; undo_next = 0 }
 
 abbrev own_place : Place
 own_place = record { bucket = 32; cell = 0; fresh = true; tail = 0 }

@@ -8,7 +8,7 @@ use Rattle.persist_model.specs.Need.{to_undo}
 use Rattle.persist_model.specs.State.{State, IsSoundState}
 use Rattle.log_laws.specs.Moves.{Arrives, IsOfRunning, IsChangeBy, adds_rolled_end}
 use Rattle.log_laws.specs.Recovering.{with_heap}
-use Rattle.log_laws.specs.Recovery.{grown, IsCovered, IsStored, KeepsStanding}
+use Rattle.log_laws.specs.Recovery.{grown, HasDecidingRecord, IsStored, KeepsStanding}
 use Rattle.log_laws.proofs.Deciding.{IsDecided, decide_equal}
 use Rattle.log_laws.proofs.Keeping.{good_of}
 use Rattle.log_laws.proofs.Undoing.{IsGood, last_new_is}
@@ -19,12 +19,12 @@ use Rattle.log_laws.proofs.Stacks.{IsUpdateBy, update_test, first_old, top_new, 
 use Rattle.log_laws.proofs.Standings.{AreNumbered, earliest_some, latest_some, stands_stored}
 use Rattle.bucket_log.specs.States.{less_room}
 use Rattle.log_clearing.proofs.ClearingStates.{sound_with_heap}
-use Rattle.plan_records.specs.declared.cells.Outcome.TheVariants.{RolledBack}
+use Rattle.persist_model.specs.declared.kinds.Outcome.TheVariants.{RolledBack}
 use Rattle.plan_records.specs.Cells.{cell_of_end, appended}
 use Rattle.plan_records.specs.Conditions.{AreLast}
 use Rattle.plan_records.specs.Laws.{UndoneEndsKeep}
 use Rattle.plan_records.proofs.Changes.{decide_change}
-use Rattle.plan_records.proofs.Appending.{takes, arrives, append_keeps, running_raised, kept_raised}
+use Rattle.plan_records.proofs.RecordAppends.{takes, arrives, append_keeps, running_raised, kept_raised}
 use Rattle.plan_records.proofs.Records.{plain_formed}
 
 module _ (policy t : ℕ) (log : Log) (h : Words) (apart : AreNumbered log) (running : IsRunning log t) where
@@ -53,10 +53,10 @@ module _ (policy t : ℕ) (log : Log) (h : Words) (apart : AreNumbered log) (run
           let le = x.1.first u first.among first.has in let ge = first.first x.0 x.1.among x.1.has in omega (arith, le, ge)))
       by (inr none) = absurd (none u first.among first.has)
 
-  pub covered_before : (a : ℕ) → (undone_words a ≡ h a) ⊎ IsCovered policy log a
+  pub covered_before : (a : ℕ) → (undone_words a ≡ h a) ⊎ HasDecidingRecord policy log a
   covered_before a = by (found a)
     where
-      by : (d : Found a) → (value a d ≡ h a) ⊎ IsCovered policy log a
+      by : (d : Found a) → (value a d ≡ h a) ⊎ HasDecidingRecord policy log a
       by (inl x) = inr (inl (x.0, x.1.among, (x.1.has.0, x.1.has.1, subst (λ y. IsRunning log y) (sym x.1.has.2) running)))
       by (inr none) = inl refl
 
@@ -69,13 +69,13 @@ module _ (policy t : ℕ) (log : Log) (h : Words) (apart : AreNumbered log) (run
           | inr m ↦ running k.0 m k.2.0
         ]
 
-    pub covered_behind : (a : ℕ) → (h a ≡ undone_words a) ⊎ IsCovered policy (e ∷ log) a
+    pub covered_behind : (a : ℕ) → (h a ≡ undone_words a) ⊎ HasDecidingRecord policy (e ∷ log) a
     covered_behind a = by (found a)
       where
         redo : (u : Record) → IsUpdateBy t a u → IsToRedo policy (e ∷ log) a u
         redo u k = (two, inl k.0, k.1, (e, inl refl, (end, owner ∙ sym k.2)), (λ x. not_skipped (subst (λ y. IsSkipped (e ∷ log) y) k.2 x)))
 
-        by : (d : Found a) → (h a ≡ value a d) ⊎ IsCovered policy (e ∷ log) a
+        by : (d : Found a) → (h a ≡ value a d) ⊎ HasDecidingRecord policy (e ∷ log) a
         by (inl x) = inr (inr (inr (x.0, inr x.1.among, redo x.0 x.1.has)))
         by (inr none) = inl refl
 

@@ -3,15 +3,15 @@ use Rattle.std.proofs.Common.{◌≡◌, ◌≢◌, inl, inr, ℕ, List, [], ◌
 use Rattle.persist_model.specs.Records.{Record, Log, Has, IsUpdate, IsRunning}
 use Rattle.persist_model.specs.Shape.{Shape}
 use Rattle.persist_model.specs.State.{State}
-use Rattle.log_laws.specs.Recovery.{IsCovered}
+use Rattle.log_laws.specs.Recovery.{HasDecidingRecord}
 use Rattle.region_layout.specs.declared.cell.Cell.{Cell}
 use Rattle.region_layout.specs.declared.layout.Policy.{Policy}
 use Rattle.region_layout.specs.declared.layout.Policy.TheVariants.{Force, NoForce}
 use Rattle.bucket_log.specs.declared.append.Place.{Place}
-use Rattle.bucket_log.specs.declared.parts.Update.{Update}
-use Rattle.bucket_log.specs.declared.parts.Giving.{Giving}
-use Rattle.bucket_log.specs.declared.parts.Part.{Part}
-use Rattle.bucket_log.specs.declared.parts.Part.TheVariants.{Append, Word}
+use Rattle.plan_records.specs.declared.parts.Update.{Update}
+use Rattle.plan_records.specs.declared.parts.Giving.{Giving}
+use Rattle.plan_records.specs.declared.parts.Part.{Part}
+use Rattle.plan_records.specs.declared.parts.Part.TheVariants.{Append, Word}
 use Rattle.plan_records.specs.Cells.{cell_of_update, cell_of_deletion, appended}
 use Rattle.plan_records.specs.Sequences.{store_of}
 use Rattle.plan_records.specs.Passing.{inserted}
@@ -74,7 +74,7 @@ module _ (policy : Policy) (shape : Shape) (p : ℕ) (u : Update) where
   }
   begin x _ _ (stores running has) = by policy
     where
-      covered : IsCovered shape.policy x.log u.word
+      covered : HasDecidingRecord shape.policy x.log u.word
       covered = inl (has.0, (own_out u.transaction x.log has.0 has.1).0, (has.2.0, has.2.1, subst (λ y. IsRunning x.log y) (sym has.2.2) (running_all u.transaction x.log running)))
 
       by : (q : Policy) → IsCoveredStore shape.policy x.log (store_of q u.word u.after)

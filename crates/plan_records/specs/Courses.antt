@@ -1,6 +1,7 @@
 -- How a lane follows a plan of its transaction, part by part, while others go on with theirs.
 use Rattle.std.specs.Prelude.{◌≡◌, ◌≢◌, ◌↔◌, ℕ, ◌<◌, ◌≤◌, if◌then◌else◌, List, [], ◌∷◌, ◌++◌}
 use Rattle.persist_model.specs.declared.event.Event.{Event}
+use Rattle.persist_model.specs.Kinds.{COMMITTED, DELETION, END, ROLLED_BACK, UPDATE}
 use Rattle.persist_model.specs.declared.event.Event.TheVariants.{Store, PStore, WriteBack, Fence}
 use Rattle.persist_model.specs.Region.{Words}
 use Rattle.persist_model.specs.Records.{Record, Log, IsAmong, Has, HasNo, IsOf, IsUpdate, IsRollback, IsEnd, IsDeletion, IsRunning, IsCommitted}
@@ -10,20 +11,20 @@ use Rattle.persist_model.specs.State.{State, IsSoundState}
 use Rattle.persist_model.specs.Sound.{HasState}
 use Rattle.log_laws.specs.Moves.{IsDeletionBy}
 use Rattle.log_laws.specs.MoveRoom.{HasItsCells}
-use Rattle.log_laws.specs.Recovery.{IsCovered}
+use Rattle.log_laws.specs.Recovery.{HasDecidingRecord}
 use Rattle.region_layout.specs.declared.cell.Cell.{Cell}
 use Rattle.region_layout.specs.declared.layout.Policy.{Policy}
 use Rattle.region_layout.specs.declared.layout.Policy.TheVariants.{Force, NoForce}
 use Rattle.bucket_log.specs.declared.append.Place.{Place}
-use Rattle.bucket_log.specs.declared.parts.Update.{Update}
-use Rattle.bucket_log.specs.declared.parts.Giving.{Giving}
-use Rattle.bucket_log.specs.declared.parts.Part.{Part}
-use Rattle.bucket_log.specs.declared.parts.Part.TheVariants.{Append, Word, Fence as Wait, Clear}
+use Rattle.plan_records.specs.declared.parts.Update.{Update}
+use Rattle.plan_records.specs.declared.parts.Giving.{Giving}
+use Rattle.plan_records.specs.declared.parts.Part.{Part}
+use Rattle.plan_records.specs.declared.parts.Part.TheVariants.{Append, Word, Fence as Wait, Clear}
 use Rattle.bucket_log.specs.Plans.{place_address}
 use Rattle.log_clearing.specs.Plans.{closing_plan}
 use Rattle.log_clearing.specs.Closed.{AreGroups, IsListed}
 use Rattle.log_clearing.specs.Clearing.{IsClearing}
-use Rattle.plan_records.specs.declared.cells.Outcome.TheVariants.{Committed, RolledBack}
+use Rattle.persist_model.specs.declared.kinds.Outcome.TheVariants.{Committed, RolledBack}
 use Rattle.plan_records.specs.Cells.{cell_of_update, cell_of_rollback, cell_of_end, cell_of_deletion, appended, IsCellOf}
 use Rattle.plan_records.specs.Sequences.{store_of, undo_parts, owner_parts}
 use Rattle.plan_records.specs.Appends.{MayAppend, MayStandAt, with_record, AppendKeeps, AppendCommits}
@@ -62,14 +63,14 @@ pub data Course (shape : Shape) (p t : ℕ) (s : State) (plan : List Part) : Lis
 pub record AppendServes (shape : Shape) (p : ℕ) (w : Words) (x : State) (place : Place) (r : Record) : Type 0 where
   pub updates : IsUpdate r → CanUpdate shape x r → AppendKeeps shape p w x place r (IsUpdateOf shape x r)
   pub deletes : IsDeletion r → CanDelete shape x r → AppendKeeps shape p w x place r (λ h. Unit {0})
-  pub commits : IsEnd r → r.outcome ≡ 1 → HasItsCells shape x r 1 → AppendCommits shape p w x place r (AreWritten shape x r.transaction)
-  pub ends : IsEnd r → r.outcome ≡ 2 → HasItsCells shape x r 1 → AppendKeeps shape p w x place r (AreLast shape x r.transaction)
-  pub keeps : r.kind ≢ 1 → r.kind ≢ 4 → r.kind ≢ 6 → (IsRollback r → HasItsCells shape x r 2) → AppendKeeps shape p w x place r (λ h. Unit {0})
+  pub commits : IsEnd r → r.outcome ≡ COMMITTED → HasItsCells shape x r 1 → AppendCommits shape p w x place r (AreWritten shape x r.transaction)
+  pub ends : IsEnd r → r.outcome ≡ ROLLED_BACK → HasItsCells shape x r 1 → AppendKeeps shape p w x place r (AreLast shape x r.transaction)
+  pub keeps : r.kind ≢ UPDATE → r.kind ≢ END → r.kind ≢ DELETION → (IsRollback r → HasItsCells shape x r 2) → AppendKeeps shape p w x place r (λ h. Unit {0})
 
 -- a store to a word whose standing value a record decides
 abbrev pub IsCoveredStore : ℕ → Log → Event → Type 0
-IsCoveredStore policy log (Store a v) = IsCovered policy log a
-IsCoveredStore policy log (PStore a v) = IsCovered policy log a
+IsCoveredStore policy log (Store a v) = HasDecidingRecord policy log a
+IsCoveredStore policy log (PStore a v) = HasDecidingRecord policy log a
 IsCoveredStore policy log (WriteBack a) = Unit {0}
 IsCoveredStore policy log Fence = Unit {0}
 

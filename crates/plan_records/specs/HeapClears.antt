@@ -8,8 +8,8 @@ use Rattle.persist_model.specs.State.{State, IsSoundState}
 use Rattle.log_laws.specs.Moves.{IsDeletionBy}
 use Rattle.region_layout.specs.declared.cell.Cell.{Cell}
 use Rattle.region_layout.specs.declared.layout.Policy.TheVariants.{Force}
-use Rattle.bucket_log.specs.declared.parts.Part.{Part}
-use Rattle.bucket_log.specs.declared.parts.Part.TheVariants.{Clear}
+use Rattle.plan_records.specs.declared.parts.Part.{Part}
+use Rattle.plan_records.specs.declared.parts.Part.TheVariants.{Clear}
 use Rattle.plan_records.specs.Courses.{AreDeleted, CanCommit, CanAbort, commit_parts, abort_parts}
 use Rattle.plan_records.specs.HeapCourses.{Goes, MayReach}
 

@@ -10,13 +10,13 @@ use Rattle.log_laws.specs.MoveRoom.{HasItsCells}
 use Rattle.region_layout.specs.declared.cell.Cell.{Cell}
 use Rattle.region_layout.specs.declared.layout.Policy.TheVariants.{Force}
 use Rattle.bucket_log.specs.declared.append.Place.{Place}
-use Rattle.bucket_log.specs.declared.parts.Update.{Update}
-use Rattle.bucket_log.specs.declared.parts.Part.{Part}
-use Rattle.bucket_log.specs.declared.parts.Part.TheVariants.{Append, Clear}
+use Rattle.plan_records.specs.declared.parts.Update.{Update}
+use Rattle.plan_records.specs.declared.parts.Part.{Part}
+use Rattle.plan_records.specs.declared.parts.Part.TheVariants.{Append, Clear}
 use Rattle.bucket_log.specs.Appends.{region_append}
 use Rattle.log_clearing.specs.Plans.{closing_plan}
 use Rattle.log_clearing.specs.Clearing.{IsClearing}
-use Rattle.plan_records.specs.declared.cells.Outcome.TheVariants.{Committed, RolledBack}
+use Rattle.persist_model.specs.declared.kinds.Outcome.TheVariants.{Committed, RolledBack}
 use Rattle.plan_records.specs.Cells.{cell_of_update, cell_of_end, appended}
 use Rattle.plan_records.specs.Appends.{MayAppend, MayStandAt, Keeps, Commits, with_record}
 use Rattle.plan_records.specs.Conditions.{CanUpdate}
@@ -39,7 +39,7 @@ abbrev pub UpdatesLeave : Type 0
 UpdatesLeave = (shape : Shape) (p : ℕ) (w : Words) (x : State) (u : Update) (chain : List ℕ) (place : Place) (number : ℕ) (z : Progress) (k : ℕ) (test : ℕ → Bool) (lane : ℕ)
     (region : Region) (i : Words) →
     let r = appended place number (cell_of_update u) in
-    shape.policy ≢ 2 → MayAppend shape p w x chain place r → CanUpdate shape x r → u.previous ≡ undo_point u.transaction x.log → IsInStep shape x.log u.transaction z →
+    shape.policy ≢ 2 → MayAppend shape p w x chain place r → CanUpdate shape x r → u.undo_next ≡ undo_point u.transaction x.log → IsInStep shape x.log u.transaction z →
     u.before ≡ newest z u.word → IsTrue (test u.word) → IsTrackedImage test lane z (take k (region_append shape p place r)) region i →
     MayStandAt shape w (region_append shape p place r) k i → LeavesKept shape p x place r k i
 

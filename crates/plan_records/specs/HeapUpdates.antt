@@ -9,7 +9,7 @@ use Rattle.persist_model.specs.Shape.{Shape}
 use Rattle.persist_model.specs.State.{State, IsSoundState}
 use Rattle.log_laws.specs.Moves.{MayName, IsChangeBy}
 use Rattle.bucket_log.specs.declared.append.Place.{Place}
-use Rattle.bucket_log.specs.declared.parts.Update.{Update}
+use Rattle.plan_records.specs.declared.parts.Update.{Update}
 use Rattle.plan_records.specs.Cells.{cell_of_update, appended}
 use Rattle.plan_records.specs.Conditions.{CanUpdate, IsUpdateOf}
 use Rattle.plan_records.specs.HeapCourses.{newest, IsInStep, MayReach}
@@ -31,5 +31,5 @@ OldsMeet = (shape : Shape) (x : State) (u : Record) (h : Words) → IsSoundState
 abbrev pub UpdatesMeet : Type 0
 UpdatesMeet = (shape : Shape) (x : State) (u : Update) (place : Place) (number : ℕ) (z : Progress) (h : Words) →
     let r = appended place number (cell_of_update u) in
-    shape.policy ≢ 2 → IsSoundState shape x → CanUpdate shape x r → u.previous ≡ undo_point u.transaction x.log → IsInStep shape x.log u.transaction z →
+    shape.policy ≢ 2 → IsSoundState shape x → CanUpdate shape x r → u.undo_next ≡ undo_point u.transaction x.log → IsInStep shape x.log u.transaction z →
     u.before ≡ newest z u.word → MayReach shape (λ a. a ≡ u.word) z h → IsUpdateOf shape x r h

@@ -6,16 +6,16 @@ use Rattle.persist_model.specs.Shape.{Shape, log_words}
 use Rattle.persist_model.specs.Chain.{view}
 use Rattle.persist_model.specs.State.{State, IsSoundState}
 use Rattle.persist_model.specs.Sound.{HasState}
-use Rattle.log_laws.specs.Recovery.{IsCovered, KeepsStanding}
+use Rattle.log_laws.specs.Recovery.{HasDecidingRecord, KeepsStanding}
 use Rattle.log_laws.specs.Recovering.{with_heap}
 use Rattle.atomic_list.specs.declared.plans.Remove.{Remove}
 use Rattle.region_layout.specs.declared.cell.Cell.{Cell}
 use Rattle.region_layout.specs.Layout.{IsAllowed}
 use Rattle.bucket_log.specs.declared.append.Place.{Place}
-use Rattle.bucket_log.specs.declared.parts.Update.{Update}
-use Rattle.bucket_log.specs.declared.parts.Giving.{Giving}
+use Rattle.plan_records.specs.declared.parts.Update.{Update}
+use Rattle.plan_records.specs.declared.parts.Giving.{Giving}
 use Rattle.log_clearing.specs.Removals.{CanDrop, region_removal, more_room}
-use Rattle.plan_records.specs.declared.cells.Outcome.TheVariants.{Committed, RolledBack}
+use Rattle.persist_model.specs.declared.kinds.Outcome.TheVariants.{Committed, RolledBack}
 use Rattle.plan_records.specs.Cells.{cell_of_update, cell_of_compensation, cell_of_rollback, cell_of_end, cell_of_checkpoint, cell_of_deletion, appended, IsCellOf}
 use Rattle.plan_records.specs.Appends.{MayAppend, MayStandAt, Keeps, AppendKeeps, AppendCommits}
 use Rattle.plan_records.specs.Conditions.{CanUpdate, CanDelete, CanRollBack, CanCompensate, CanEndUndone, CanCheckpoint, IsOfOpen, IsUpdateOf, AreLast, AreSweptIn, AreWritten}
@@ -58,7 +58,7 @@ CommitEndsWrite = (shape : Shape) (p : ℕ) (w : Words) (s : State) (chain : Lis
 
 -- Stores to words whose standing value a record decides keep all standing words.
 abbrev pub StoresKeep : Type 0
-StoresKeep = (policy : ℕ) (s : State) (h x : Words) → ((a : ℕ) → (x a ≡ h a) ⊎ IsCovered policy s.log a) → KeepsStanding policy (with_heap s h) (with_heap s x)
+StoresKeep = (policy : ℕ) (s : State) (h x : Words) → ((a : ℕ) → (x a ≡ h a) ⊎ HasDecidingRecord policy s.log a) → KeepsStanding policy (with_heap s h) (with_heap s x)
 
 -- At each prefix of the removal of a closed bucket each image has the records before, is sound, and has the standing words before.
 abbrev pub DropsKeep : Type 0

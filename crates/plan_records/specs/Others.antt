@@ -10,10 +10,10 @@ use Rattle.persist_model.specs.State.{State}
 use Rattle.log_laws.specs.Closing.{IsClosedBy}
 use Rattle.log_laws.specs.Moves.{IsDeletionBy}
 use Rattle.bucket_log.specs.declared.append.Place.{Place}
-use Rattle.bucket_log.specs.declared.parts.Part.{Part}
-use Rattle.bucket_log.specs.declared.parts.Part.TheVariants.{Append, Word, Fence as Wait, Clear}
+use Rattle.plan_records.specs.declared.parts.Part.{Part}
+use Rattle.plan_records.specs.declared.parts.Part.TheVariants.{Append, Word, Fence as Wait, Clear}
 use Rattle.log_clearing.specs.Closed.{IsListed}
-use Rattle.plan_records.specs.declared.cells.Outcome.TheVariants.{Committed, RolledBack}
+use Rattle.persist_model.specs.declared.kinds.Outcome.TheVariants.{Committed, RolledBack}
 use Rattle.plan_records.specs.Cells.{cell_of_end, appended}
 use Rattle.plan_records.specs.Sequences.{owner_parts}
 use Rattle.plan_records.specs.Passing.{inserted}

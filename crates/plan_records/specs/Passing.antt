@@ -1,6 +1,7 @@
 -- A record that comes into the middle of the log: newer records of other partitions drew their numbers later, and were there before it.
 use Rattle.std.specs.Prelude.{◌≢◌, ◌↔◌, ℕ, ◌<◌, ◌≤◌, nat_lt, if◌then◌else◌, [], ◌∷◌}
 use Rattle.persist_model.specs.Records.{Record, Log, IsAmong, IsOf, IsCheckpoint, NamesWord}
+use Rattle.persist_model.specs.Kinds.{CHECKPOINT}
 use Rattle.persist_model.specs.Shape.{Shape}
 use Rattle.persist_model.specs.Standing.{Stands}
 use Rattle.persist_model.specs.State.{State, IsSoundState}
@@ -14,7 +15,7 @@ inserted r (x ∷ log) = if nat_lt r.lsn x.lsn then x ∷ inserted r log else r 
 -- The newer record x may be there before r: it is another transaction's, is no checkpoint record, and names another word.
 pub record MayPass (r x : Record) : Type 0 where
   pub other : IsOf r.transaction x → ⊥
-  pub no_checkpoint : x.kind ≢ 5
+  pub no_checkpoint : x.kind ≢ CHECKPOINT
   pub word : NamesWord r → NamesWord x → x.word ≢ r.word
 
 -- r's number isn't in the log, each newer record may be there before r, and none is newer than a checkpoint record.

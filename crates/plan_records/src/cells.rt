@@ -1,5 +1,6 @@
 //! The cells of the six kinds of record. Their gates are closed: the number is drawn when the append is made.
 ghost use Rattle.std.specs.Prelude.{◌≡◌};
+ghost use Rattle.persist_model.specs.Kinds.{kind_number};
 ghost use Rattle.plan_records.specs.Cells.{
   cell_of_update,
   cell_of_compensation,
@@ -7,47 +8,28 @@ ghost use Rattle.plan_records.specs.Cells.{
   cell_of_end,
   cell_of_checkpoint,
   cell_of_deletion,
-  number_of,
   plain,
   with_number,
 };
 
-use bucket_log::{Giving, Update};
-use persist_model::format::{
-    CHECKPOINT, COMMITTED, COMPENSATION, DELETION, END, ROLLBACK, ROLLED_BACK, UPDATE,
-};
+use crate::parts::{Giving, Update};
+use persist_model::format::NO_OUTCOME;
+use persist_model::{Outcome, RecordKind};
 use region_layout::Cell;
-
-/// How a transaction ended.
-#[derive(Clone, Copy, Debug, PartialEq, Eq)]
-pub enum Outcome {
-    Committed,
-    RolledBack,
-}
-
-// The number of an outcome in an end record.
-fn outcome_number(outcome: Outcome) -> u64
-    ensures { result ≡ number_of outcome }
-{
-    match outcome {
-        Outcome::Committed => COMMITTED,
-        Outcome::RolledBack => ROLLED_BACK,
-    }
-}
 
 /// A word's change by a transaction.
 pub fn update_cell(update: &Update) -> Cell
     ensures { result ≡ cell_of_update update.now }
 {
     Cell {
-        gate: 0,
+        lsn: 0,
         transaction: update.transaction,
-        kind: UPDATE,
-        address: update.word as u64,
+        kind: RecordKind::Update.number(),
+        word: update.word as u64,
         before: update.before,
         after: update.after,
-        undo_next: update.previous,
-        outcome: 0,
+        undo_next: update.undo_next,
+        outcome: NO_OUTCOME,
     }
 }
 
@@ -56,26 +38,26 @@ pub fn compensation_cell(update: &Cell) -> Cell
     ensures { result ≡ cell_of_compensation update.now }
 {
     Cell {
-        gate: 0,
+        lsn: 0,
         transaction: update.transaction,
-        kind: COMPENSATION,
-        address: update.address,
+        kind: RecordKind::Compensation.number(),
+        word: update.word,
         before: update.after,
         after: update.before,
         undo_next: update.undo_next,
-        outcome: 0,
+        outcome: NO_OUTCOME,
     }
 }
 
 // A record without a word.
-fn plain_cell(transaction: u64, kind: u64, outcome: u64) -> Cell
-    ensures { result ≡ plain transaction kind outcome }
+fn plain_cell(transaction: u64, kind: RecordKind, outcome: u64) -> Cell
+    ensures { result ≡ plain transaction (kind_number kind) outcome }
 {
     Cell {
-        gate: 0,
+        lsn: 0,
         transaction,
-        kind,
-        address: 0,
+        kind: kind.number(),
+        word: 0,
         before: 0,
         after: 0,
         undo_next: 0,
@@ -87,21 +69,21 @@ fn plain_cell(transaction: u64, kind: u64, outcome: u64) -> Cell
 pub fn rollback_cell(transaction: u64) -> Cell
     ensures { result ≡ cell_of_rollback transaction }
 {
-    plain_cell(transaction, ROLLBACK, 0)
+    plain_cell(transaction, RecordKind::Rollback, NO_OUTCOME)
 }
 
 /// The end of a transaction.
 pub fn end_cell(transaction: u64, outcome: Outcome) -> Cell
     ensures { result ≡ cell_of_end transaction outcome }
 {
-    plain_cell(transaction, END, outcome_number(outcome))
+    plain_cell(transaction, RecordKind::End, outcome.number())
 }
 
 /// A checkpoint, which is of no transaction.
 pub fn checkpoint_cell() -> Cell
     ensures { result ≡ cell_of_checkpoint }
 {
-    plain_cell(0, CHECKPOINT, 0)
+    plain_cell(0, RecordKind::Checkpoint, NO_OUTCOME)
 }
 
 /// A block's deletion, which is deferred to its transaction's commit.
@@ -109,14 +91,14 @@ pub fn deletion_cell(giving: &Giving) -> Cell
     ensures { result ≡ cell_of_deletion giving.now }
 {
     Cell {
-        gate: 0,
+        lsn: 0,
         transaction: giving.transaction,
-        kind: DELETION,
-        address: giving.owner_word as u64,
+        kind: RecordKind::Deletion.number(),
+        word: giving.owner_word as u64,
         before: giving.owner,
         after: 0,
         undo_next: 0,
-        outcome: 0,
+        outcome: NO_OUTCOME,
     }
 }
 
@@ -125,7 +107,7 @@ pub fn numbered(cell: Cell, number: u64) -> Cell
     ensures { result ≡ with_number number cell }
 {
     Cell {
-        gate: number,
+        lsn: number,
         ..cell
     }
 }

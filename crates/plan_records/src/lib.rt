@@ -3,10 +3,12 @@
 
 mod cells;
 pub mod laws;
+mod parts;
 mod sequences;
 
 pub use cells::{
-    Outcome, checkpoint_cell, compensation_cell, deletion_cell, end_cell, numbered, rollback_cell,
+    checkpoint_cell, compensation_cell, deletion_cell, end_cell, numbered, rollback_cell,
     update_cell,
 };
+pub use parts::{Closing, Giving, Part, Undoing, Update};
 pub use sequences::{owner_part, owner_part_count, undo_part, word_store};

@@ -3,7 +3,7 @@ ghost use Rattle.std.specs.Prelude.{◌≡◌, ◌<◌, ◌^◌, All, length, sl
 ghost use Rattle.plan_records.specs.Sequences.{store_of, undo_parts, owner_parts, HasAddress};
 
 use crate::cells::compensation_cell;
-use bucket_log::Part;
+use crate::parts::Part;
 use persist_model::{Event, List};
 use region_layout::{Cell, Policy};
 
@@ -28,7 +28,7 @@ pub fn undo_part(updates: &List<Cell>, policy: Policy, i: u64) -> Option<Part>
             if i % 2 == 0 {
                 Some(Part::Append(compensation_cell(update)))
             } else {
-                Some(Part::Word(word_store(policy, update.address as u32, update.before)))
+                Some(Part::Word(word_store(policy, update.word as u32, update.before)))
             }
         }
     }

@@ -14,7 +14,7 @@ use Rattle.recovery_analysis.specs.Works.{next_lsn}
 abbrev placed : ℕ → ℕ → ℕ → ℕ → ℕ → Placed
 placed gate t kind address value = record {
   at = gate + 100;
-  cell = record { gate = gate; transaction = t; kind = kind; address = address; before = 0; after = value; undo_next = 0; outcome = 1 };
+  cell = record { lsn = gate; transaction = t; kind = kind; word = address; before = 0; after = value; undo_next = 0; outcome = 1 };
 }
 
 -- by the transactions 7, 9 and 8; 9 is committed

@@ -129,14 +129,14 @@ pub true_less : (a b : ℕ) → a < b → nat_lt a b ≡ true
 true_less a b h = grind (arith, nat_tests, h)
 
 abbrev pub is_end_below : ℕ → Placed → Bool
-is_end_below c x = (x.cell.kind == 4) && nat_lt x.cell.gate c
+is_end_below c x = (x.cell.kind == 4) && nat_lt x.cell.lsn c
 
 pub skipped_is : (log : Log) (t : Transaction) (c : ℕ) (result : Bool) → IsTransactionOf log t → IsNewestCheckpoint log c → result ≡ list_any (is_end_below c) t.records →
     IsTrue result ↔ IsSkipped log t.number
 skipped_is log t c result h newest is = (
   (λ on. (let k = any_some (is_end_below c) t.records (sym is ∙ on) in let own = own_record log t h k.0 k.1 in
-      let both = both_true (k.0.cell.kind == 4) (nat_lt k.0.cell.gate c) k.2 in
-      (record_of_placed k.0, own.0, ((eq_true k.0.cell.kind 4 both.0, own.1.0), (newest k.0.cell.gate).0 (less_true k.0.cell.gate c both.1))))),
+      let both = both_true (k.0.cell.kind == 4) (nat_lt k.0.cell.lsn c) k.2 in
+      (record_of_placed k.0, own.0, ((eq_true k.0.cell.kind 4 both.0, own.1.0), (newest k.0.cell.lsn).0 (less_true k.0.cell.lsn c both.1))))),
   (λ skipped. by (list_any (is_end_below c) t.records) refl skipped),
 )
   where
@@ -144,10 +144,10 @@ skipped_is log t c result h newest is = (
     by true found skipped = is ∙ found
     by false found skipped =
         let k = is_end_kind log t h skipped.0 skipped.1 skipped.2.0 in
-        let lsn : skipped.0.lsn ≡ k.0.cell.gate = ap (λ (y : Record). y.lsn) k.2 in
-        let lt : k.0.cell.gate < c = (newest k.0.cell.gate).1 (subst (λ n. Has (λ (r : Record). IsCheckpoint r × (n < r.lsn)) log) lsn skipped.2.1) in
-        absurd (any_none (is_end_below c) t.records found k.0 k.1 (true_both (k.0.cell.kind == 4) (nat_lt k.0.cell.gate c)
-        (true_eq k.0.cell.kind 4 (sym (ap (λ (y : Record). y.kind) k.2) ∙ skipped.2.0.0)) (true_less k.0.cell.gate c lt)))
+        let lsn : skipped.0.lsn ≡ k.0.cell.lsn = ap (λ (y : Record). y.lsn) k.2 in
+        let lt : k.0.cell.lsn < c = (newest k.0.cell.lsn).1 (subst (λ n. Has (λ (r : Record). IsCheckpoint r × (n < r.lsn)) log) lsn skipped.2.1) in
+        absurd (any_none (is_end_below c) t.records found k.0 k.1 (true_both (k.0.cell.kind == 4) (nat_lt k.0.cell.lsn c)
+        (true_eq k.0.cell.kind 4 (sym (ap (λ (y : Record). y.kind) k.2) ∙ skipped.2.0.0)) (true_less k.0.cell.lsn c lt)))
 
 -- ---- one record more
 
@@ -181,7 +181,7 @@ checkpoint_more log later r c d more says h = subst (λ rs. IsNewestCheckpoint r
 ))
 
 pub checkpoint_read : (xs : List Placed) (i c later : ℕ) (d : Placed) → i < length xs →
-    ((e : ℕ) → (e < later) ↔ ((e < c) ⊎ (((get_or xs i d).cell.kind ≡ 5) × (e < (get_or xs i d).cell.gate)))) →
+    ((e : ℕ) → (e < later) ↔ ((e < c) ⊎ (((get_or xs i d).cell.kind ≡ 5) × (e < (get_or xs i d).cell.lsn)))) →
     IsNewestCheckpoint (reverse (map record_of_placed (take i xs))) c → IsNewestCheckpoint (reverse (map record_of_placed (take (i + 1) xs))) later
 checkpoint_read xs i c later d lt says h =
     checkpoint_more (reverse (map record_of_placed (take i xs))) (reverse (map record_of_placed (take (i + 1) xs))) (record_of_placed (get_or xs i d)) c later (log_more xs i d lt) says h

@@ -197,7 +197,7 @@ last_is (x ∷ y ∷ ys) d lt =
     let e : length (x ∷ y ∷ ys) - 1 ≡ suc (length (y ∷ ys) - 1) = omega arith in
     (x ∷ k.0, ap (λ zs. x ∷ zs) k.1 ∙ ap (λ n. x ∷ (k.0 ++ get_or (x ∷ y ∷ ys) n d ∷ [])) (sym e))
 
-pub next_is : (xs : List Placed) (d : Placed) → 0 < length xs → (get_or xs (length xs - 1) d).cell.gate + 1 ≡ next_lsn (reverse (map record_of_placed xs))
+pub next_is : (xs : List Placed) (d : Placed) → 0 < length xs → (get_or xs (length xs - 1) d).cell.lsn + 1 ≡ next_lsn (reverse (map record_of_placed xs))
 next_is xs d lt =
     let k = last_is xs d lt in
     sym (ap (λ ys. next_lsn (reverse (map record_of_placed ys))) k.1 ∙ ap (λ l. next_lsn (reverse l)) (map-append record_of_placed k.0 (get_or xs (length xs - 1) d ∷ []))

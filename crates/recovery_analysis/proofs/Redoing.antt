@@ -101,7 +101,7 @@ changes_all f p xs i first later le h = h ∙ ap (λ ys. first ++ map f (filter 
 -- ---- what the tests say
 
 pub redone_test : (policy : ℕ) (log : Log) (unskipped : List ℕ) (x : Placed) → AreThose (IsUnskipped log) unskipped →
-    (is_redone policy unskipped x ≡ true) ↔ IsToRedo policy log x.cell.address (record_of_placed x)
+    (is_redone policy unskipped x ≡ true) ↔ IsToRedo policy log x.cell.word (record_of_placed x)
 redone_test policy log unskipped x h = (
   (λ on. (
       let a = both_true (policy == 2) (((x.cell.kind == 1) || (x.cell.kind == 2)) && has_number unskipped x.cell.transaction) on in
@@ -123,7 +123,7 @@ redone_test policy log unskipped x h = (
     or_right true = refl
     or_right false = refl
 
-pub deleted_test : (log : Log) (winners : List ℕ) (x : Placed) → AreThose (IsCommitted log) winners → (is_deleted winners x ≡ true) ↔ IsToDelete log x.cell.address (record_of_placed x)
+pub deleted_test : (log : Log) (winners : List ℕ) (x : Placed) → AreThose (IsCommitted log) winners → (is_deleted winners x ≡ true) ↔ IsToDelete log x.cell.word (record_of_placed x)
 deleted_test log winners x h = (
   (λ on. (let a = both_true (x.cell.kind == 6) (has_number winners x.cell.transaction) on in
       (eq_true x.cell.kind 6 a.0, refl, (h.each x.cell.transaction).0 (has_among winners x.cell.transaction a.1)))),
@@ -157,25 +157,25 @@ map_cond : (f : Placed → Change) (t : Bool) (x : Placed) (xs : List Placed) �
 map_cond f true x xs = refl
 map_cond f false x xs = refl
 
-redo_is : (policy : ℕ) (all : Log) (t : Placed → Bool) (xs : List Placed) (w : Words) → ((x : Placed) → (t x ≡ true) ↔ IsToRedo policy all x.cell.address (record_of_placed x)) →
+redo_is : (policy : ℕ) (all : Log) (t : Placed → Bool) (xs : List Placed) (w : Words) → ((x : Placed) → (t x ≡ true) ↔ IsToRedo policy all x.cell.word (record_of_placed x)) →
     stored (map new_value (filter t xs)) w ≡ redone_words policy all (reverse (map record_of_placed xs)) w
 redo_is policy all t [] w says = refl
 redo_is policy all t (x ∷ xs) w says =
     ap (λ cs. stored cs w) (map_cond new_value (t x) x (filter t xs)) ∙ stored_one (t x) (new_value x) (map new_value (filter t xs)) w
-    ∙ redo_is policy all t xs (cond (t x) (with_value w x.cell.address x.cell.after) w) says
+    ∙ redo_is policy all t xs (cond (t x) (with_value w x.cell.word x.cell.after) w) says
     ∙ ap (redone_words policy all (reverse (map record_of_placed xs)))
-    (sym (decided_is (IsToRedo policy all x.cell.address (record_of_placed x)) (t x) (decide_to_redo policy all x.cell.address (record_of_placed x)) (with_value w x.cell.address x.cell.after) w (says x)))
+    (sym (decided_is (IsToRedo policy all x.cell.word (record_of_placed x)) (t x) (decide_to_redo policy all x.cell.word (record_of_placed x)) (with_value w x.cell.word x.cell.after) w (says x)))
     ∙ sym (redone-append policy all (reverse (map record_of_placed xs)) (record_of_placed x ∷ []) w)
     ∙ ap (λ log. redone_words policy all log w) (sym (reverse-cons (record_of_placed x) (map record_of_placed xs)))
 
-deletion_is : (all : Log) (t : Placed → Bool) (xs : List Placed) (w : Words) → ((x : Placed) → (t x ≡ true) ↔ IsToDelete all x.cell.address (record_of_placed x)) →
+deletion_is : (all : Log) (t : Placed → Bool) (xs : List Placed) (w : Words) → ((x : Placed) → (t x ≡ true) ↔ IsToDelete all x.cell.word (record_of_placed x)) →
     stored (map given_back (filter t xs)) w ≡ deleted_words all (reverse (map record_of_placed xs)) w
 deletion_is all t [] w says = refl
 deletion_is all t (x ∷ xs) w says =
     ap (λ cs. stored cs w) (map_cond given_back (t x) x (filter t xs)) ∙ stored_one (t x) (given_back x) (map given_back (filter t xs)) w
-    ∙ deletion_is all t xs (cond (t x) (with_value w x.cell.address 0) w) says
+    ∙ deletion_is all t xs (cond (t x) (with_value w x.cell.word 0) w) says
     ∙ ap (deleted_words all (reverse (map record_of_placed xs)))
-    (sym (decided_is (IsToDelete all x.cell.address (record_of_placed x)) (t x) (decide_to_delete all x.cell.address (record_of_placed x)) (with_value w x.cell.address 0) w (says x)))
+    (sym (decided_is (IsToDelete all x.cell.word (record_of_placed x)) (t x) (decide_to_delete all x.cell.word (record_of_placed x)) (with_value w x.cell.word 0) w (says x)))
     ∙ sym (deleted-append all (reverse (map record_of_placed xs)) (record_of_placed x ∷ []) w)
     ∙ ap (λ log. deleted_words all log w) (sym (reverse-cons (record_of_placed x) (map record_of_placed xs)))
 

@@ -59,7 +59,7 @@ tie_test a b = by_bools (nat_lt a b) (a == b) (nat_lt b a) (b == a) ∙ elim (eq
 placed_of : ℕ → Placed
 placed_of t = record {
   at = 0;
-  cell = record { gate = 0; transaction = t; kind = 0; address = 0; before = 0; after = 0; undo_next = 0; outcome = 0 };
+  cell = record { lsn = 0; transaction = t; kind = 0; word = 0; before = 0; after = 0; undo_next = 0; outcome = 0 };
 }
 
 -- a stable sort by transaction keeps the records of each

@@ -6,7 +6,7 @@ use Rattle.std.proofs.lemmas.List.{length-reverse, length-map}
 use Rattle.std.proofs.lemmas.List.Sums.{sum_by-cons, sum_by_more, sum_by_more_le}
 use Rattle.std.proofs.lemmas.Bool.Decides.{nat_tests, eqb_tells}
 use Rattle.persist_model.specs.Records.{Record, Log, IsAmong, Has, IsOf, IsEnded, IsLoser}
-use Rattle.persist_model.specs.Need.{need_of, is_of, has_of, counted, sum_over, need_in}
+use Rattle.persist_model.specs.Need.{need_of, is_of, has_of, need_at, sum_over, need_in}
 use Rattle.persist_model.specs.State.{total_need}
 use Rattle.log_laws.proofs.Needs.{of_test, has_of_true, has_kind_true}
 use Rattle.log_laws.proofs.Deciding.{ended_or_running}
@@ -143,7 +143,7 @@ unfolding parts_sum
 parts_none part f zero = refl
 parts_none part f (suc n) = ap (λ k. k + 0) (parts_none part f n)
 
-counted_is : (part f : ℕ → ℕ) (p : ℕ) (r : Record) (earlier : Log) → counted part p f r earlier ≡ (if part r.at == p then first f r earlier else 0)
+counted_is : (part f : ℕ → ℕ) (p : ℕ) (r : Record) (earlier : Log) → need_at part p f r earlier ≡ (if part r.at == p then first f r earlier else 0)
 counted_is part f p r earlier = by (not (r.kind == 5)) (not (has_of r.transaction earlier)) (part r.at == p)
   where
     by : (a b c : Bool) → (if a && (b && c) then f r.transaction else 0) ≡ (if c then (if a && b then f r.transaction else 0) else 0)
@@ -159,7 +159,7 @@ unfolding parts_sum
 parts_past part f zero r log le = refl
 parts_past part f (suc n) r log le =
     let off : (part r.at == n) ≡ false = not_eq (part r.at) n (λ e. omega (arith, le, e)) in
-    let none : counted part n f r log ≡ 0 = counted_is part f n r log ∙ ap (λ b. if b then first f r log else 0) off in
+    let none : need_at part n f r log ≡ 0 = counted_is part f n r log ∙ ap (λ b. if b then first f r log else 0) off in
     ap (λ k. k + sum_over part n f (r ∷ log)) (parts_past part f n r log (omega (arith, le))) ∙ ap (λ k. parts_sum part f n log + (k + sum_over part n f log)) none
     ∙ ap (λ k. parts_sum part f n log + k) (zero-add (sum_over part n f log))
   where
@@ -171,15 +171,15 @@ unfolding parts_sum
 parts_more part f zero r log lt = absurd (omega (arith, lt))
 parts_more part f (suc n) r log lt = elim (eqb_tells (part r.at) n) [
   | inl e ↦ (
-      let here : counted part n f r log ≡ first f r log = counted_is part f n r log ∙ ap (λ b. if b then first f r log else 0) e.0 in
+      let here : need_at part n f r log ≡ first f r log = counted_is part f n r log ∙ ap (λ b. if b then first f r log else 0) e.0 in
       let same = e.1 in
       let past = parts_past part f n r log (omega (arith, same)) in
-      join (parts_sum part f n (r ∷ log)) (parts_sum part f n log) (counted part n f r log) (first f r log) (sum_over part n f log) past here)
+      join (parts_sum part f n (r ∷ log)) (parts_sum part f n log) (need_at part n f r log) (first f r log) (sum_over part n f log) past here)
   | inr e ↦ (
-      let none : counted part n f r log ≡ 0 = counted_is part f n r log ∙ ap (λ b. if b then first f r log else 0) e.0 in
+      let none : need_at part n f r log ≡ 0 = counted_is part f n r log ∙ ap (λ b. if b then first f r log else 0) e.0 in
       let ne = e.1 in
       let more = parts_more part f n r log (omega (arith, lt, ne)) in
-      join_later (parts_sum part f n (r ∷ log)) (parts_sum part f n log) (counted part n f r log) (first f r log) (sum_over part n f log) more none)
+      join_later (parts_sum part f n (r ∷ log)) (parts_sum part f n log) (need_at part n f r log) (first f r log) (sum_over part n f log) more none)
 ]
   where
     join : (a b c d e : ℕ) → a ≡ b → c ≡ d → a + (c + e) ≡ d + (b + e)

@@ -13,7 +13,7 @@ use Rattle.persist_model.specs.ImageRecords.{cell_address, AreWellFormed}
 use Rattle.persist_model.specs.Need.{need_of, need_in}
 use Rattle.persist_model.specs.State.{State, HasOpen, total_need, IsSoundState}
 use Rattle.persist_model.specs.Sound.{closed_cells, room_of}
-use Rattle.log_laws.specs.Recovery.{IsCovered}
+use Rattle.log_laws.specs.Recovery.{HasDecidingRecord}
 use Rattle.log_laws.proofs.Keeping.{good_of}
 use Rattle.log_laws.proofs.Passes.{part_inside}
 use Rattle.atomic_list.proofs.Parts.{parts_fit}
@@ -91,7 +91,7 @@ heap_bounded : (shape : Shape) (a : ℕ) → IsAllowed shape → IsHeapWord shap
 heap_bounded shape a ok h = let most = sizes_bounded shape ok in let lt = h.1 in omega (arith, most, lt)
 
 -- a word whose standing value some record decides is one of the heap
-covered_is_heap : (shape : Shape) (log : Log) (a : ℕ) → IsAllowed shape → AreWellFormed shape log → IsCovered shape.policy log a → IsHeapWord shape a
+covered_is_heap : (shape : Shape) (log : Log) (a : ℕ) → IsAllowed shape → AreWellFormed shape log → HasDecidingRecord shape.policy log a → IsHeapWord shape a
 covered_is_heap shape log a ok formed (inl u) = subst (IsHeapWord shape) u.2.1 ((formed u.0 u.1).change (inl u.2.0)).0
 covered_is_heap shape log a ok formed (inr (inl d)) = subst (IsHeapWord shape) d.2.1 (owner_is_heap ((formed d.0 d.1).deletion d.2.0))
   where
@@ -157,20 +157,20 @@ module _ (layout : Layout) (merged : List Placed) (h : IsSoundMerge layout merge
   in_log : (x : Placed) → IsAmong merged x → IsAmong (log_of merged) (record_of_placed x)
   in_log x m = reverse_among (map record_of_placed merged) (record_of_placed x) (map_among record_of_placed merged x m)
 
-  covered_bounded : (a : ℕ) → IsCovered (layout_shape layout).policy (log_of merged) a → a < 2 ^ 32
+  covered_bounded : (a : ℕ) → HasDecidingRecord (layout_shape layout).policy (log_of merged) a → a < 2 ^ 32
   covered_bounded a covered = heap_bounded (layout_shape layout) a h.allowed (covered_is_heap (layout_shape layout) (log_of merged) a h.allowed sound.formed covered)
 
   pub redone_bounded : (unskipped : List ℕ) (x : Placed) → AreThose (IsUnskipped (log_of merged)) unskipped → IsAmong merged x → IsTrue (is_redone (layout_shape layout).policy unskipped x) →
-      x.cell.address < 2 ^ 32
-  redone_bounded unskipped x ended m on = covered_bounded x.cell.address (inr (inr (record_of_placed x, in_log x m, (redone_test (layout_shape layout).policy (log_of merged) unskipped x ended).0 on)))
+      x.cell.word < 2 ^ 32
+  redone_bounded unskipped x ended m on = covered_bounded x.cell.word (inr (inr (record_of_placed x, in_log x m, (redone_test (layout_shape layout).policy (log_of merged) unskipped x ended).0 on)))
 
-  pub deleted_bounded : (winners : List ℕ) (x : Placed) → AreThose (IsCommitted (log_of merged)) winners → IsAmong merged x → IsTrue (is_deleted winners x) → x.cell.address < 2 ^ 32
-  deleted_bounded winners x won m on = covered_bounded x.cell.address (inr (inl (record_of_placed x, in_log x m, (deleted_test (log_of merged) winners x won).0 on)))
+  pub deleted_bounded : (winners : List ℕ) (x : Placed) → AreThose (IsCommitted (log_of merged)) winners → IsAmong merged x → IsTrue (is_deleted winners x) → x.cell.word < 2 ^ 32
+  deleted_bounded winners x won m on = covered_bounded x.cell.word (inr (inl (record_of_placed x, in_log x m, (deleted_test (log_of merged) winners x won).0 on)))
 
   number_bounded : (r : Record) → IsAmong (log_of merged) r → r.lsn ≤ 2 ^ 63
   number_bounded r m = let k = (sound.numbers r m).undo in omega (arith, k)
 
-  pub gate_bounded : (x : Placed) → IsAmong merged x → x.cell.gate + 1 < 2 ^ 64
+  pub gate_bounded : (x : Placed) → IsAmong merged x → x.cell.lsn + 1 < 2 ^ 64
   gate_bounded x m = let k = number_bounded (record_of_placed x) (in_log x m) in omega (arith, k)
 
   pub undo_small : (all undo : List Transaction) → AreTransactionsOf (log_of merged) all → undo ≡ filter runs all → AreSmall (log_of merged) undo
@@ -230,7 +230,7 @@ module _ (layout : Layout) (merged : List Placed) (h : IsSoundMerge layout merge
       either true b e = inl refl
       either false b e = inr e
 
-      apart_kinds : (x : Placed) → IsToRedo (layout_shape layout).policy (log_of merged) x.cell.address (record_of_placed x) → IsToDelete (log_of merged) x.cell.address (record_of_placed x) → ⊥
+      apart_kinds : (x : Placed) → IsToRedo (layout_shape layout).policy (log_of merged) x.cell.word (record_of_placed x) → IsToDelete (log_of merged) x.cell.word (record_of_placed x) → ⊥
       apart_kinds x r d = let six = d.0 in elim r.1 [ inl one ↦ omega (arith, one, six) | inr two ↦ omega (arith, two, six) ]
 
       apart_ended : (x : Placed) → AreThose (IsLoser (log_of merged)) (map number_of undo) → of_numbers (map number_of undo) x ≡ true → IsEnded (log_of merged) x.cell.transaction → ⊥

@@ -79,12 +79,12 @@ fn add_redone(
     unskipped: &[u64],
 ) -> Result<(), NoMemory>
     requires ascending { IsAscending unskipped.now }
-    requires words { (x : Placed) → IsAmong merged.now x → IsTrue (is_redone_of (policy_number policy) unskipped.now x) → x.cell.address < 2 ^ 32 }
+    requires words { (x : Placed) → IsAmong merged.now x → IsTrue (is_redone_of (policy_number policy) unskipped.now x) → x.cell.word < 2 ^ 32 }
     ensures { OnOk result (changes.new ≡ changes.old ++ map new_value (filter (is_redone_of (policy_number policy) unskipped.now) merged.now)) }
 {
     for placed in merged {
         let wanted = is_redone(policy, unskipped, *placed);
-        keep_change(changes, placed.cell.address, placed.cell.after, wanted)?;
+        keep_change(changes, placed.cell.word, placed.cell.after, wanted)?;
     }
     Ok(())
 }
@@ -96,12 +96,12 @@ fn add_deleted(
     winners: &[u64],
 ) -> Result<(), NoMemory>
     requires ascending { IsAscending winners.now }
-    requires words { (x : Placed) → IsAmong merged.now x → IsTrue (is_deleted_of winners.now x) → x.cell.address < 2 ^ 32 }
+    requires words { (x : Placed) → IsAmong merged.now x → IsTrue (is_deleted_of winners.now x) → x.cell.word < 2 ^ 32 }
     ensures { OnOk result (changes.new ≡ changes.old ++ map given_back (filter (is_deleted_of winners.now) merged.now)) }
 {
     for deletion in merged {
         let wanted = is_deleted(winners, *deletion);
-        keep_change(changes, deletion.cell.address, 0, wanted)?;
+        keep_change(changes, deletion.cell.word, 0, wanted)?;
     }
     Ok(())
 }
@@ -116,8 +116,8 @@ pub(crate) fn redo_of(
 ) -> Result<List<Change>, NoMemory>
     requires unskipped { IsAscending unskipped.now }
     requires winners { IsAscending winners.now }
-    requires redone { (x : Placed) → IsAmong merged.now x → IsTrue (is_redone_of (policy_number policy) unskipped.now x) → x.cell.address < 2 ^ 32 }
-    requires deleted { (x : Placed) → IsAmong merged.now x → IsTrue (is_deleted_of winners.now x) → x.cell.address < 2 ^ 32 }
+    requires redone { (x : Placed) → IsAmong merged.now x → IsTrue (is_redone_of (policy_number policy) unskipped.now x) → x.cell.word < 2 ^ 32 }
+    requires deleted { (x : Placed) → IsAmong merged.now x → IsTrue (is_deleted_of winners.now x) → x.cell.word < 2 ^ 32 }
     ensures { IfOk result (λ changes. changes ≡ map new_value (filter (is_redone_of (policy_number policy) unskipped.now) merged.now)
         ++ map given_back (filter (is_deleted_of winners.now) merged.now)) }
 {

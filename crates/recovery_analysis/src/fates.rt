@@ -28,9 +28,9 @@ fn has_commit(records: &[Placed]) -> bool
 
 // Whether there is an end with a number below this one.
 fn has_end_below(records: &[Placed], number: u64) -> bool
-    ensures { result ≡ list_any (λ x. (x.cell.kind == 4) && nat_lt x.cell.gate number) records.now }
+    ensures { result ≡ list_any (λ x. (x.cell.kind == 4) && nat_lt x.cell.lsn number) records.now }
 {
-    records.iter().any(|placed| placed.cell.kind == END && placed.cell.gate < number)
+    records.iter().any(|placed| placed.cell.kind == END && placed.cell.lsn < number)
 }
 
 /// Whether the transaction has no end.
@@ -58,10 +58,10 @@ pub fn is_skipped(transaction: &Transaction, checkpoint: u64) -> bool
 
 // The newest checkpoint record's number with one record more.
 fn later_checkpoint(newest: u64, cell: Cell) -> u64
-    ensures { (e : ℕ) → (e < result) ↔ ((e < newest) ⊎ ((cell.kind ≡ 5) × (e < cell.gate))) }
+    ensures { (e : ℕ) → (e < result) ↔ ((e < newest) ⊎ ((cell.kind ≡ 5) × (e < cell.lsn))) }
 {
-    if cell.kind == CHECKPOINT && newest < cell.gate {
-        cell.gate
+    if cell.kind == CHECKPOINT && newest < cell.lsn {
+        cell.lsn
     } else {
         newest
     }

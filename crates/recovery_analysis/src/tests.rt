@@ -19,19 +19,19 @@ use std::alloc::Global;
 use std::test::Fail;
 
 /// A record with this number, whose values tell it from others. An end is that of a commit.
-fn record(gate: u32, transaction: u64, kind: u64, address: u32) -> Placed
-    ensures small { result.cell.address < 2 ^ 32 }
-    ensures low { result.cell.gate < 2 ^ 32 }
+fn record(lsn: u32, transaction: u64, kind: u64, address: u32) -> Placed
+    ensures small { result.cell.word < 2 ^ 32 }
+    ensures low { result.cell.lsn < 2 ^ 32 }
 {
     Placed {
-        at: gate,
+        at: lsn,
         cell: Cell {
-            gate: u64::from(gate),
+            lsn: u64::from(lsn),
             transaction,
             kind,
-            address: u64::from(address),
+            word: u64::from(address),
             before: 0,
-            after: u64::from(gate) * 10,
+            after: u64::from(lsn) * 10,
             undo_next: 0,
             outcome: if kind == END { 1 } else { 0 },
         },

@@ -23,7 +23,7 @@ use bucket_log::Placed;
 use log_partition::merge;
 use persist_model::format::{CHECKPOINT, END};
 use persist_model::{List, Look, NoMemory};
-use recovery_run::{Gates, put};
+use recovery_run::{Gates, put_gate};
 use region_layout::{Layout, Policy};
 use std::alloc::Global;
 
@@ -62,13 +62,13 @@ fn has_open(all: &[Transaction], checkpoint: u64) -> bool
 
 // One more than the newest record's number.
 fn next_number(merged: &[Placed]) -> u64
-    requires { (x : Placed) → IsAmong merged.now x → x.cell.gate + 1 < 2 ^ 64 }
+    requires { (x : Placed) → IsAmong merged.now x → x.cell.lsn + 1 < 2 ^ 64 }
     ensures { result ≡ next_lsn (reverse (map record_of_placed merged.now)) }
 {
     if merged.is_empty() {
         return 1;
     }
-    merged[merged.len() - 1].cell.gate + 1
+    merged[merged.len() - 1].cell.lsn + 1
 }
 
 // The transactions that have no end.
@@ -101,9 +101,9 @@ fn put_gate(gates: &mut Gates, placed: Placed)
     ensures spare { (more ends checkpoints : ℕ) → HasSpare gates.old (more + 1) (ends + 1) (checkpoints + 1) → HasSpare gates.new more ends checkpoints }
 {
     match placed.cell.kind {
-        END => put(&mut gates.ends, placed.at),
-        CHECKPOINT => put(&mut gates.checkpoints, placed.at),
-        _ => put(&mut gates.gates, placed.at),
+        END => put_gate(&mut gates.ends, placed.at),
+        CHECKPOINT => put_gate(&mut gates.checkpoints, placed.at),
+        _ => put_gate(&mut gates.gates, placed.at),
     }
 }
 

@@ -12,7 +12,7 @@ use Rattle.atomic_list.proofs.Walks.{chain_of_list}
 use Rattle.region_layout.specs.Layout.{IsAllowed}
 use Rattle.log_clearing.specs.Dropping.{IsRemovalOf}
 use Rattle.log_clearing.specs.Removals.{CanDrop}
-use Rattle.recovery_run.specs.Edges.{HasCounted, counts_with, KeepsWords, IsHeaderWord}
+use Rattle.recovery_run.specs.Edges.{HasCounted, counts_with, KeepsWords, IsPlainHeaderWord}
 use Rattle.recovery_run.specs.Reached.{newest_at, HasSettled, HasFewBuckets}
 use Rattle.recovery_lists.specs.Repairs.{seen}
 use Rattle.recovery_lists.specs.Lists.{IsAtState, IsAtEmptyLog, KeepsLists, HasDropped}
@@ -33,7 +33,7 @@ pub record IsDropping (shape : Shape) (p : ℕ) (before now : Region) (counts la
   pub counted : later ≡ counts_with counts events Made
   pub few : events + 7 * buckets_in shape p now ≤ 7 * buckets_in shape p before
   pub spare_left : spare + 7 * buckets_in shape p now ≤ left + 7 * buckets_in shape p before
-  pub header : KeepsWords (IsHeaderWord shape) before now
+  pub header : KeepsWords (IsPlainHeaderWord shape) before now
   pub size : now.size ≡ before.size
   pub none_closed : HasFewBuckets shape p (newest_at before) → (now ≡ before) × (later ≡ counts)
 
@@ -69,7 +69,7 @@ module _ (shape : Shape) (ok : IsAllowed shape) (p : ℕ) (inside : p < shape.pa
   -- one bucket more
   pub dropping_goes_on : (next : Region) (after : Counts) (rest : ℕ) → ((first y : State) → HasSettled shape first y now → y.log ≡ [] → HasDropped shape first y next) →
       KeepsLists shape now next → buckets_in shape p next + 1 ≡ buckets_in shape p now → HasCounted 7 Made later after → left ≤ rest + 7 →
-      KeepsWords (IsHeaderWord shape) now next → next.size ≡ now.size → IsDropping shape p before next counts after spare rest
+      KeepsWords (IsPlainHeaderWord shape) now next → next.size ≡ now.size → IsDropping shape p before next counts after spare rest
   dropping_goes_on next after rest made lists shorter counted less header size = record {
     at = (let d = made h.at.at.first h.at.at.state h.at.at.settled h.at.empty in record {
       at = record { first = h.at.at.first; state = d.state; settled = d.settled };

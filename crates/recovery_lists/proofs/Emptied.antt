@@ -16,7 +16,7 @@ use Rattle.atomic_list.proofs.Cases.{chain_is_buckets, chain_has_no_repeats}
 use Rattle.atomic_list.proofs.Walks.{chain_of_list}
 use Rattle.region_layout.specs.Layout.{IsAllowed}
 use Rattle.bucket_log.proofs.Addresses.{bucket_above}
-use Rattle.bucket_log.proofs.Appending.{Each-among}
+use Rattle.bucket_log.proofs.AppendImages.{Each-among}
 use Rattle.log_clearing.specs.Dropping.{IsRemovalOf}
 use Rattle.log_clearing.specs.Removals.{CanDrop}
 use Rattle.log_clearing.proofs.RemovalStates.{read_removals_may_be_made}

@@ -22,7 +22,7 @@ use Rattle.atomic_list.specs.Plans.{repair_plan}
 use Rattle.bucket_log.specs.Words.{IsPartWord}
 use Rattle.bucket_log.proofs.Partitions.{bucket_word_above}
 use Rattle.log_clearing.specs.Removals.{region_removal}
-use Rattle.recovery_run.specs.Edges.{StoresElsewhere, StoreElsewhere, IsHeaderWord, AreOffHeader}
+use Rattle.recovery_run.specs.Edges.{StoresElsewhere, StoreElsewhere, IsPlainHeaderWord, AreOffHeader}
 use Rattle.recovery_lists.specs.Repairs.{region_repair}
 
 -- an event of the view's plan is one of the region's
@@ -60,7 +60,7 @@ elsewhere_of A a off (e ∷ plan) on = (of_event e on.0, elsewhere_of A a off pl
 pub off_header : (shape : Shape) (p : ℕ) → p < shape.partitions → (plan : List Event) → AreStoresOn (IsPartWord shape p) plan → AreOffHeader shape plan
 off_header shape p inside plan on = λ a is. elsewhere_of (IsPartWord shape p) a (λ b m e. apart a is b m e) plan on
   where
-    apart : (a : ℕ) → IsHeaderWord shape a → (b : ℕ) → IsPartWord shape p b → a ≡ b → ⊥
+    apart : (a : ℕ) → IsPlainHeaderWord shape a → (b : ℕ) → IsPartWord shape p b → a ≡ b → ⊥
     apart a is b (inl k) e = (let low = k.0 in let high = k.1 in elim (is.apart p inside) [ inl x ↦ omega (arith, x, low, e) | inr x ↦ omega (arith, x, high, e) ])
     apart a is b (inr k) e = (let above = bucket_word_above shape p b k in let below = is.below in omega (arith, above, below, e))
 

@@ -23,7 +23,7 @@ use Rattle.region_layout.specs.Layout.{IsAllowed}
 use Rattle.bucket_log.specs.Words.{IsLogWord, SameRecords}
 use Rattle.bucket_log.proofs.Addresses.{list_word_is_log_word, cell_word_is_log_word}
 use Rattle.bucket_log.proofs.Appended.{AreDurable-out, inside_log}
-use Rattle.bucket_log.proofs.Appending.{Each-among, among_last}
+use Rattle.bucket_log.proofs.AppendImages.{Each-among, among_last}
 use Rattle.bucket_log.proofs.ListFacts.{list_plan_stores}
 use Rattle.bucket_log.proofs.Partitions.{part_word_below}
 use Rattle.bucket_log.proofs.PartStates.{part_kept}

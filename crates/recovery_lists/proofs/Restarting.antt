@@ -12,7 +12,7 @@ use Rattle.persist_model.proofs.Images.{length-newest_words}
 use Rattle.persist_model.specs.Sound.{HasState}
 use Rattle.log_laws.specs.Recovery.{KeepsStanding}
 use Rattle.log_laws.specs.Parts.{EachKeeps}
-use Rattle.recovery_run.specs.Edges.{KeepsWords, IsHeaderWord}
+use Rattle.recovery_run.specs.Edges.{KeepsWords, IsPlainHeaderWord}
 use Rattle.recovery_run.specs.Reached.{newest_at, HasHeader, HasSettled}
 use Rattle.recovery_run.proofs.Reaching.{read_newest, log_word_one, settled_reached, read_is_header, header_same, settled_begins}
 use Rattle.recovery_lists.specs.Lists.{IsAtState}
@@ -30,7 +30,7 @@ index_below (Mix m) a n lt = omega arith
 picked_candidate : (pick : Pick) (a : ℕ) (cs : List Candidate) → 0 < length cs → IsCandidate cs (picked pick a cs).value
 picked_candidate pick a cs some = slice_candidate cs (index_of_pick pick a (length cs)) (index_below pick a (length cs) some)
 
-pub restarted_at : (shape : Shape) (pick : Pick) (first y : State) (before later : Region) → HasSettled shape first y before → KeepsWords (IsHeaderWord shape) before later →
+pub restarted_at : (shape : Shape) (pick : Pick) (first y : State) (before later : Region) → HasSettled shape first y before → KeepsWords (IsPlainHeaderWord shape) before later →
     later.size ≡ before.size → ((a : ℕ) → 0 < length (later.at a)) → EachKeeps shape first later → IsAtState shape (restarted pick later)
 restarted_at shape pick first y before later h keeps size full each = record { first = left.0; state = left.0; settled = settled_begins shape left.0 (restarted pick later) (λ a lt. refl) header left.1 }
   where

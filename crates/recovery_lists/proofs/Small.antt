@@ -14,7 +14,7 @@ use Rattle.recovery_run.specs.Reached.{newest_at, HasSettled, IsQuiet}
 use Rattle.recovery_run.proofs.ClosingPart.{same_heap}
 use Rattle.recovery_run.proofs.Reaching.{read_newest, settled_begins}
 use Rattle.bucket_log.proofs.PartStates.{log_words_same}
-use Rattle.recovery_lists.specs.Images.{small, Pair, word_in, words_in, unrepaired}
+use Rattle.recovery_lists.specs.ListRegion.{small, Pair, word_in, words_in, unrepaired}
 use Rattle.recovery_lists.specs.Lists.{IsAtState, IsAtEmptyLog}
 
 abbrev w : Words

@@ -1,4 +1,4 @@
 pub mod Repairs
 pub mod Lists
 pub mod Repairable
-pub mod Images
+pub mod ListRegion

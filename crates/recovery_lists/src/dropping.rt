@@ -7,7 +7,7 @@ ghost use Rattle.region_layout.specs.Layout.{layout_shape};
 ghost use Rattle.atomic_list.specs.Walk.{chain_of};
 ghost use Rattle.log_clearing.specs.Dropping.{IsRemovalOf};
 ghost use Rattle.log_clearing.specs.Removals.{CanDrop, region_removal};
-ghost use Rattle.recovery_run.specs.Edges.{HasCounted, KeepsWords, IsHeaderWord};
+ghost use Rattle.recovery_run.specs.Edges.{HasCounted, KeepsWords, IsPlainHeaderWord};
 ghost use Rattle.recovery_run.specs.Reached.{newest_at, HasSettled, HasFewBuckets};
 ghost use Rattle.recovery_lists.specs.Repairs.{seen};
 ghost use Rattle.recovery_lists.specs.Lists.{IsAtState, IsAtEmptyLog, KeepsLists, HasDropped};
@@ -15,7 +15,7 @@ ghost use Rattle.recovery_lists.specs.Lists.{IsAtState, IsAtEmptyLog, KeepsLists
 use atomic_list::{Remove, remove_event};
 use lane_traits::{Device, Done};
 use log_clearing::removal;
-use log_partition::{PartView, out};
+use log_partition::{PartView, region_event};
 use persist_model::Event;
 use recovery_run::{Plan, run};
 use region_layout::Layout;
@@ -37,7 +37,7 @@ impl Plan for RemovalPlan {
             return None;
         }
         let event = remove_event(self.removal, i as u32)?;
-        Some(out(self.p, event))
+        Some(region_event(self.p, event))
     }
 }
 
@@ -66,7 +66,7 @@ fn drop_bucket<D: Device>(device: &mut D, layout: Layout, p: u32, removal: Remov
         → HasSettled (layout_shape layout) first y (D.cells device.old) → y.log ≡ [] → EachKeeps (layout_shape layout) first (D.cells device.new) }
     ensures counted { HasCounted 7 result (D.counts device.old) (D.counts device.new) }
     ensures spare_left { D.spare device.old ≤ D.spare device.new + 7 }
-    ensures header { KeepsWords (IsHeaderWord (layout_shape layout)) (D.cells device.old) (D.cells device.new) }
+    ensures header { KeepsWords (IsPlainHeaderWord (layout_shape layout)) (D.cells device.old) (D.cells device.new) }
     ensures size { (D.cells device.new).size ≡ (D.cells device.old).size }
 {
     run(device, &RemovalPlan { p, removal })
@@ -87,7 +87,7 @@ pub fn drop_closed<D: Device>(device: &mut D, layout: Layout, p: u32) -> Done
         → HasSettled (layout_shape layout) first y (D.cells device.old) → y.log ≡ [] → EachKeeps (layout_shape layout) first (D.cells device.new) }
     ensures counted { HasCounted (7 * count_buckets (layout_shape layout) p) result (D.counts device.old) (D.counts device.new) }
     ensures spare_left { D.spare device.old ≤ D.spare device.new + 7 * count_buckets (layout_shape layout) p }
-    ensures header { KeepsWords (IsHeaderWord (layout_shape layout)) (D.cells device.old) (D.cells device.new) }
+    ensures header { KeepsWords (IsPlainHeaderWord (layout_shape layout)) (D.cells device.old) (D.cells device.new) }
     ensures size { (D.cells device.new).size ≡ (D.cells device.old).size }
     ensures none_closed { HasFewBuckets (layout_shape layout) p (newest_at (D.cells device.old)) → (result ≡ Done.Made)
         × (D.cells device.new ≡ D.cells device.old) × (D.counts device.new ≡ D.counts device.old) }

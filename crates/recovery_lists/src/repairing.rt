@@ -5,7 +5,7 @@ ghost use Rattle.persist_model.specs.State.{State, IsSoundState};
 ghost use Rattle.log_laws.specs.Parts.{EachKeeps};
 ghost use Rattle.region_layout.specs.Layout.{layout_shape};
 ghost use Rattle.atomic_list.specs.Repairing.{CanRepair};
-ghost use Rattle.recovery_run.specs.Edges.{HasCounted, KeepsWords, IsHeaderWord};
+ghost use Rattle.recovery_run.specs.Edges.{HasCounted, KeepsWords, IsPlainHeaderWord};
 ghost use Rattle.recovery_run.specs.Reached.{newest_at, HasSettled, IsQuiet};
 ghost use Rattle.recovery_lists.specs.Repairs.{asked_in, region_repair};
 ghost use Rattle.recovery_lists.specs.Lists.{IsAtState, KeepsLists};
@@ -13,7 +13,7 @@ ghost use Rattle.recovery_lists.specs.Repairable.{CanRepair-prop};
 
 use atomic_list::{Repair, repair_event, repair_of};
 use lane_traits::{Device, Done};
-use log_partition::{PartView, out};
+use log_partition::{PartView, region_event};
 use persist_model::Event;
 use recovery_run::{Plan, run};
 use region_layout::Layout;
@@ -35,7 +35,7 @@ impl Plan for RepairPlan {
             return None;
         }
         let event = repair_event(self.repair, i as u32)?;
-        Some(out(self.p, event))
+        Some(region_event(self.p, event))
     }
 }
 
@@ -63,7 +63,7 @@ pub fn repair<D: Device>(device: &mut D, layout: Layout, p: u32) -> Done
         → HasSettled (layout_shape layout) first y (D.cells device.old) → EachKeeps (layout_shape layout) first (D.cells device.new) }
     ensures counted { HasCounted 5 result (D.counts device.old) (D.counts device.new) }
     ensures spare_left { D.spare device.old ≤ D.spare device.new + 5 }
-    ensures header { KeepsWords (IsHeaderWord (layout_shape layout)) (D.cells device.old) (D.cells device.new) }
+    ensures header { KeepsWords (IsPlainHeaderWord (layout_shape layout)) (D.cells device.old) (D.cells device.new) }
     ensures size { (D.cells device.new).size ≡ (D.cells device.old).size }
     ensures none_asked { IsQuiet p (newest_at (D.cells device.old)) → (result ≡ Done.Made) × (D.cells device.new ≡ D.cells device.old)
         × (D.counts device.new ≡ D.counts device.old) }

@@ -4,9 +4,9 @@ ghost use Rattle.persist_model.specs.Region.{loaded};
 ghost use Rattle.persist_model.specs.State.{State, IsSoundState};
 ghost use Rattle.log_laws.specs.Parts.{EachKeeps};
 ghost use Rattle.region_layout.specs.Layout.{layout_shape};
-ghost use Rattle.recovery_run.specs.Edges.{KeepsWords, IsHeaderWord};
+ghost use Rattle.recovery_run.specs.Edges.{KeepsWords, IsPlainHeaderWord};
 ghost use Rattle.recovery_run.specs.Reached.{newest_at, HasSettled, IsQuiet};
-ghost use Rattle.recovery_lists.specs.Images.{small, word_in, words_in, unrepaired};
+ghost use Rattle.recovery_lists.specs.ListRegion.{small, word_in, words_in, unrepaired};
 ghost use Rattle.recovery_lists.specs.Lists.{IsAtState};
 
 use crate::{drop_closed, repair};
@@ -101,7 +101,7 @@ fn repair_both<D: Device>(device: &mut D, layout: Layout) -> Done
     ensures stopped { result ≡ Done.Stopped → (first y : State) → IsSoundState (layout_shape layout) first
         → HasSettled (layout_shape layout) first y (D.cells device.old) → EachKeeps (layout_shape layout) first (D.cells device.new) }
     ensures spare_left { D.spare device.old ≤ D.spare device.new + 10 }
-    ensures header { KeepsWords (IsHeaderWord (layout_shape layout)) (D.cells device.old) (D.cells device.new) }
+    ensures header { KeepsWords (IsPlainHeaderWord (layout_shape layout)) (D.cells device.old) (D.cells device.new) }
     ensures size { (D.cells device.new).size ≡ (D.cells device.old).size }
 {
     match repair(device, layout, 0) {

@@ -19,7 +19,7 @@ use Rattle.recovery_undo.specs.Undoing.{undo_events}
 use Rattle.recovery_undo.proofs.Going.{need_some}
 use Rattle.recovery_undo.specs.Numbers.{next_lsn}
 use Rattle.recovery_analysis.specs.Works.{next_lsn as next_of_log}
-use Rattle.recovery_passes.specs.Passing.{gates_len, undo_all_events, begin_events, clear_events, Begins, Undoes, HasNoGates}
+use Rattle.recovery_passes.specs.LoserPass.{gates_len, undo_all_events, begin_events, clear_events, Begins, Undoes, HasNoGates}
 use Rattle.recovery_passes.proofs.Closed.{no_items}
 use Rattle.recovery_passes.specs.Plans.{IsPlanned}
 

@@ -1,7 +1,7 @@
 -- How many events the last stages make.
 use Rattle.std.proofs.Common.{◌≡◌, ℕ, ◌+◌, ◌*◌, ◌≤◌, Bool, true, false, if◌then◌else◌, arith}
 use Rattle.region_layout.specs.declared.layout.Layout.{Layout}
-use Rattle.recovery_passes.specs.Passing.{clear_events}
+use Rattle.recovery_passes.specs.LoserPass.{clear_events}
 
 pub clear_fits : (layout : Layout) (wanted : Bool) (before later : ℕ) → later ≤ before + (if wanted then 1 else 0) →
     (if wanted then layout.cells + 21 else 0) + (later + 3) + 7 * layout.buckets ≤ clear_events layout wanted before

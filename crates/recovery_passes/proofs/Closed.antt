@@ -17,7 +17,7 @@ use Rattle.recovery_run.specs.Edges.{KeepsWords}
 use Rattle.recovery_run.specs.Reached.{newest_at, HasReached, HasSettled}
 use Rattle.recovery_run.proofs.Reaching.{read_newest, newest_one, log_word_one, settled_reached}
 use Rattle.recovery_passes.specs.Stages.{AreQuiet}
-use Rattle.recovery_passes.specs.Passing.{gates_len, HasNoGates, IsReady, IsClosedLog}
+use Rattle.recovery_passes.specs.LoserPass.{gates_len, HasNoGates, IsReady, IsClosedLog}
 
 -- ---- how many events a closing has
 

@@ -12,7 +12,7 @@ use Rattle.persist_model.proofs.Images.{settled_is}
 use Rattle.log_laws.specs.Parts.{EachKeeps}
 use Rattle.log_laws.proofs.Applying.{stands_empty}
 use Rattle.log_laws.proofs.Soundness.{same_log}
-use Rattle.recovery_run.specs.Edges.{HasOneValue, KeepsWords, IsHeaderWord}
+use Rattle.recovery_run.specs.Edges.{HasOnlyValue, KeepsWords, IsPlainHeaderWord}
 use Rattle.recovery_run.specs.Reached.{newest_at, HasHeader, HasReached, HasSettled, HasFewBuckets}
 use Rattle.recovery_run.proofs.Reaching.{read_newest, read_is_header, has_state, reached_sound, settled_reached}
 use Rattle.recovery_passes.specs.Recovered.{IsFinished, Restores, EachStands}
@@ -78,11 +78,11 @@ stands_first old s0 a v h st =
     let words_are : st.0.words ≡ s0.words = st.1.words ∙ sym h.has.words in
     subst (λ (z : Words). Stands (newest_at old 1) s0.log z a v) words_are (subst (λ (l : Log). Stands (newest_at old 1) l st.0.words a v) log_is st.2)
 
-module _ (old later : Region) (s0 : State) (h : IsBegun old s0) (size : later.size ≡ old.size) (keeps : KeepsWords (IsHeaderWord (shape_of (newest_at old))) old later) where
+module _ (old later : Region) (s0 : State) (h : IsBegun old s0) (size : later.size ≡ old.size) (keeps : KeepsWords (IsPlainHeaderWord (shape_of (newest_at old))) old later) where
   abbrev w : Words
   w = newest_at old
 
-  one_before : (a : ℕ) → a < old.size → HasOneValue (w a) (old.at a)
+  one_before : (a : ℕ) → a < old.size → HasOnlyValue (w a) (old.at a)
   one_before a lt v k = settled_is (old.at a) v (h.settled a lt) k ∙ sym (read_newest old a lt)
 
   -- each image has the header's words

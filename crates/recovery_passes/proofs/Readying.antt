@@ -10,7 +10,7 @@ use Rattle.log_laws.proofs.Keeping.{loser_open}
 use Rattle.recovery_run.specs.declared.gates.Gates.{Gates}
 use Rattle.recovery_run.proofs.Reaching.{settled_reached, reached_sound}
 use Rattle.recovery_undo.specs.Checkpoint.{CanCheckpoint, IsCheckpointed}
-use Rattle.recovery_passes.specs.Passing.{Undoes, IsReady}
+use Rattle.recovery_passes.specs.LoserPass.{Undoes, IsReady}
 
 among_append : (xs ys : Log) (r : Record) → IsAmong (xs ++ ys) r → IsAmong xs r ⊎ IsAmong ys r
 among_append [] ys r m = inr m

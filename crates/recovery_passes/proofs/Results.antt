@@ -15,13 +15,12 @@ use Rattle.log_laws.proofs.Soundness.{same_log}
 use Rattle.region_layout.specs.declared.layout.Layout.{Layout}
 use Rattle.region_layout.specs.Layout.{layout_shape}
 use Rattle.recovery_run.specs.declared.gates.Gates.{Gates}
-use Rattle.recovery_run.specs.Edges.{HasCounted, KeepsWords, IsHeaderWord}
+use Rattle.recovery_run.specs.Edges.{HasCounted, KeepsWords, IsPlainHeaderWord}
 use Rattle.recovery_run.specs.Reached.{newest_at, HasSettled}
 use Rattle.recovery_run.proofs.Reaching.{settled_begins}
 use Rattle.recovery_analysis.specs.declared.changing.Change.{Change}
 use Rattle.recovery_analysis.specs.declared.grouping.Transaction.{Transaction}
 use Rattle.recovery_analysis.specs.declared.working.Work.{Work}
-use Rattle.recovery_analysis.specs.Grouping.{IsAscending as IsRising}
 use Rattle.recovery_analysis.specs.Analyses.{AreThose}
 use Rattle.recovery_analysis.specs.Works.{IsWorkOf}
 use Rattle.recovery_analysis.specs.Conditions.{IsSoundImage}
@@ -32,9 +31,9 @@ use Rattle.recovery_passes.specs.declared.recovering.RecoverFault.TheVariants.{U
 use Rattle.recovery_passes.specs.declared.recovering.Unfinished.{Unfinished}
 use Rattle.recovery_passes.specs.declared.recovering.Unfinished.TheVariants as unfinished
 use Rattle.recovery_passes.specs.Refusals.{unfinished_fault, IfRefused}
-use Rattle.recovery_passes.specs.Recovered.{IsFinished, Restores, EachStands, IsAscending, Lists, AreFates, HasNeed, with_checkpoint, forced, settled as no_checkpoint, most_events, AreFew}
+use Rattle.recovery_passes.specs.Recovered.{IsFinished, Restores, EachStands, Lists, AreFates, HasNeed, with_checkpoint, forced, settled as no_checkpoint, most_events, AreFew}
 use Rattle.recovery_passes.specs.Stages.{AreQuiet, AreShort, IsIdle}
-use Rattle.recovery_passes.specs.Passing.{IsCleared}
+use Rattle.recovery_passes.specs.LoserPass.{IsCleared}
 use Rattle.recovery_passes.specs.Plans.{IsPlanned}
 use Rattle.recovery_passes.proofs.Ends.{IsBegun, begins_header, each_stands, restored, finished}
 
@@ -76,12 +75,9 @@ pub read_state : (layout : Layout) (words : List ℕ) (old : Region) (s0 : State
 read_state layout words old s0 is h =
     subst (λ (xs : List ℕ). HasState (layout_shape layout) (slice_index xs) s0) (sym is) (subst (λ (s : Shape). HasState s (newest_at old) s0) (sym h.shape_is) h.begun.has)
 
-ascending : (ns : List ℕ) → IsRising ns → IsAscending ns
-ascending [] h = tt
-ascending (n ∷ ns) h = (h.0, ascending ns h.1)
 
 lists_of : (P : ℕ → Type 0) (ns : List ℕ) → AreThose P ns → Lists P ns
-lists_of P ns h = record { ascending = ascending ns h.ascending; each = h.each }
+lists_of P ns h = record { ascending = h.ascending; each = h.each }
 
 module _ (layout : Layout) (old : Region) (s0 : State) (h : IsStart layout old s0) where
   abbrev w : Words
@@ -148,11 +144,11 @@ module _ (layout : Layout) (old : Region) (s0 : State) (h : IsStart layout old s
   pub size_there : (later : Region) → later.size ≡ words_of_shape (layout_shape layout) → later.size ≡ old.size
   size_there later is = is ∙ ap words_of_shape h.shape_is ∙ sym h.begun.shape.long
 
-  module _ (later : Region) (keeps : KeepsWords (IsHeaderWord (layout_shape layout)) old later) where
-    own_header : KeepsWords (IsHeaderWord (shape_of w)) old later
-    own_header = subst (λ (s : Shape). KeepsWords (IsHeaderWord s) old later) h.shape_is keeps
+  module _ (later : Region) (keeps : KeepsWords (IsPlainHeaderWord (layout_shape layout)) old later) where
+    own_header : KeepsWords (IsPlainHeaderWord (shape_of w)) old later
+    own_header = subst (λ (s : Shape). KeepsWords (IsPlainHeaderWord s) old later) h.shape_is keeps
 
-    pub header_there : KeepsWords (IsHeaderWord (shape_of w)) old later
+    pub header_there : KeepsWords (IsPlainHeaderWord (shape_of w)) old later
     header_there = own_header
 
     pub stopped_there : EachKeeps (layout_shape layout) s0 later → EachStands w later

@@ -16,7 +16,7 @@ use Rattle.recovery_analysis.specs.Changes.{stored}
 use Rattle.recovery_analysis.proofs.Lists.{map_among}
 use Rattle.recovery_run.proofs.Reaching.{settled_reached}
 use Rattle.recovery_passes.proofs.Closed.{quiet_kept}
-use Rattle.recovery_passes.specs.Passing.{Begins, Undoes}
+use Rattle.recovery_passes.specs.LoserPass.{Begins, Undoes}
 use Rattle.recovery_passes.specs.Stages.{AreQuiet, MayStore}
 
 module _ (layout : Layout) (first : State) (total : ℕ) (redo : List Change) (running : List Transaction) (next : ℕ) (gates : Gates) (region : Region)

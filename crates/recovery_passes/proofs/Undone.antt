@@ -21,7 +21,7 @@ use Rattle.recovery_undo.proofs.Going.{need_some}
 use Rattle.recovery_run.specs.Edges.{HasCounted}
 use Rattle.recovery_passes.specs.Going.{HasGoneOn}
 use Rattle.recovery_passes.proofs.Counting.{counted_more, counted_then}
-use Rattle.recovery_passes.specs.Passing.{undo_all_events, Undoes}
+use Rattle.recovery_passes.specs.LoserPass.{undo_all_events, Undoes}
 
 assoc : (xs ys zs : Log) → (xs ++ ys) ++ zs ≡ xs ++ (ys ++ zs)
 assoc [] ys zs = refl

@@ -8,7 +8,7 @@ use Rattle.region_layout.specs.declared.layout.Layout.{Layout}
 use Rattle.recovery_run.specs.declared.gates.Gates.{Gates}
 use Rattle.recovery_run.specs.Edges.{HasCounted}
 use Rattle.recovery_analysis.specs.declared.grouping.Transaction.{Transaction}
-use Rattle.recovery_passes.specs.Passing.{Undoes, undo_all_events}
+use Rattle.recovery_passes.specs.LoserPass.{Undoes, undo_all_events}
 
 -- These are still to be undone; so many events were made, and with those for what is left they are the events of all.
 pub record HasGoneOn (layout : Layout) (first : State) (total : ℕ) (all left : List Transaction) (next : ℕ) (gates : Gates) (region : Region)

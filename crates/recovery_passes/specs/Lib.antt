@@ -1,6 +1,6 @@
 pub mod Recovered
 pub mod Stages
-pub mod Passing
+pub mod LoserPass
 pub mod Going
 pub mod Plans
 pub mod Refusals

@@ -6,6 +6,7 @@ use Rattle.persist_model.specs.Shape.{Shape, shape_of, part_of, IsHeapWord}
 use Rattle.persist_model.specs.State.{State, HasOpen, total_need}
 use Rattle.persist_model.specs.Sound.{HasState, IsSound, StandsIn}
 use Rattle.recovery_run.specs.Reached.{IsQuiet, HasFewBuckets}
+use Rattle.recovery_analysis.specs.Grouping.{IsAscending}
 
 -- These words are sound and have been recovered: no gate is open, no recovery word asks for a repair, and each chain has at most one bucket.
 pub record IsFinished (size : ℕ) (w : Words) : Type 0 where
@@ -25,11 +26,6 @@ StandsAsIn w later = (a v : ℕ) → IsHeapWord (shape_of w) a → StandsIn w a 
 -- each image of the region is sound, with the standing words of w
 abbrev pub EachStands : Words → Region → Type 0
 EachStands w region = (words : List ℕ) → IsImage words region → IsSound (length words) (slice_index words) × StandsAsIn w (slice_index words)
-
--- each number is below those behind it
-abbrev pub IsAscending : List ℕ → Type 0
-IsAscending [] = Unit {0}
-IsAscending (n ∷ ns) = ((m : ℕ) → IsAmong ns m → n < m) × IsAscending ns
 
 -- all numbers that have P, ascending
 pub record Lists (P : ℕ → Type 0) (numbers : List ℕ) : Type 0 where

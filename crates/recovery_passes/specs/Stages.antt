@@ -4,7 +4,7 @@ use Rattle.persist_model.specs.Region.{Region}
 use Rattle.persist_model.specs.Records.{IsAmong}
 use Rattle.persist_model.specs.Shape.{Shape, heap, words_of_shape}
 use Rattle.persist_model.specs.State.{State}
-use Rattle.log_laws.specs.Recovery.{IsCovered}
+use Rattle.log_laws.specs.Recovery.{HasDecidingRecord}
 use Rattle.lane_traits.specs.declared.device.Done.{Done}
 use Rattle.lane_traits.specs.declared.device.Done.TheVariants.{Made}
 use Rattle.lane_traits.specs.Device.{Counts}
@@ -29,4 +29,4 @@ pub record IsIdle (done : Done) (before later : Region) (counts later_counts : C
 pub record MayStore (shape : Shape) (y : State) (changes : List Change) : Type 0 where
   pub above : (c : Change) → IsAmong changes c → heap shape ≤ c.word
   pub below : (c : Change) → IsAmong changes c → c.word < words_of_shape shape
-  pub covered : (c : Change) → IsAmong changes c → IsCovered shape.policy y.log c.word
+  pub covered : (c : Change) → IsAmong changes c → HasDecidingRecord shape.policy y.log c.word

@@ -3,15 +3,15 @@ ghost use Rattle.std.specs.Prelude.{◌≡◌, ◌≤◌, ◌+◌, [], ℕ};
 ghost use Rattle.persist_model.specs.State.{State, IsSoundState};
 ghost use Rattle.log_laws.specs.Parts.{EachKeeps};
 ghost use Rattle.region_layout.specs.Layout.{layout_shape};
-ghost use Rattle.recovery_run.specs.Edges.{HasCounted, KeepsWords, IsHeaderWord};
+ghost use Rattle.recovery_run.specs.Edges.{HasCounted, KeepsWords, IsPlainHeaderWord};
 ghost use Rattle.log_partition.specs.Used.{FitsBuckets};
-ghost use Rattle.recovery_undo.specs.Appending.{KnowsRegion};
-ghost use Rattle.recovery_passes.specs.Passing.{Begins, Undoes, begin_events};
+ghost use Rattle.recovery_undo.specs.RecoveryAppends.{KnowsRegion};
+ghost use Rattle.recovery_passes.specs.LoserPass.{Begins, Undoes, begin_events};
 ghost use Rattle.recovery_passes.specs.Stages.{AreQuiet, IsIdle};
 
-use crate::lists::repair_all;
+use crate::list_stages::repair_all;
 use crate::redo::redo_all;
-use crate::undoing::undo_all;
+use crate::undo_stage::undo_all;
 use lane_traits::{Device, Done};
 use log_partition::UsedBuckets;
 use recovery_analysis::{Change, Transaction};
@@ -43,7 +43,7 @@ pub fn bring_back<D: Device>(
     ensures spare_left { (first : State) (total : ℕ) → Begins layout first total redo.now running.now next.old gates.old (D.cells device.old)
         → IsSoundState (layout_shape layout) first → begin_events layout first.log redo.now running.now ≤ D.spare device.old
         → D.spare device.old ≤ D.spare device.new + begin_events layout first.log redo.now running.now }
-    ensures header { KeepsWords (IsHeaderWord (layout_shape layout)) (D.cells device.old) (D.cells device.new) }
+    ensures header { KeepsWords (IsPlainHeaderWord (layout_shape layout)) (D.cells device.old) (D.cells device.new) }
     ensures idle { AreQuiet (layout_shape layout) (D.cells device.old) → redo.now ≡ [] → running.now ≡ []
         → IsIdle result (D.cells device.old) (D.cells device.new) (D.counts device.old) (D.counts device.new) }
     ensures idle_gates { running.now ≡ [] → gates.new ≡ gates.old }

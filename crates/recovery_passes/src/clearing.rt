@@ -3,12 +3,12 @@ ghost use Rattle.std.specs.Prelude.{◌≡◌, ◌≤◌, ◌<◌, ◌+◌, ◌^
 ghost use Rattle.persist_model.specs.State.{State, IsSoundState};
 ghost use Rattle.log_laws.specs.Parts.{EachKeeps};
 ghost use Rattle.region_layout.specs.Layout.{layout_shape};
-ghost use Rattle.recovery_run.specs.Edges.{HasCounted, KeepsWords, IsHeaderWord};
-ghost use Rattle.recovery_undo.specs.Appending.{KnowsRegion};
-ghost use Rattle.recovery_passes.specs.Passing.{gates_len, Undoes, IsReady, IsWanted, IsCleared, clear_events, HasNoGates, IsClosedLog};
+ghost use Rattle.recovery_run.specs.Edges.{HasCounted, KeepsWords, IsPlainHeaderWord};
+ghost use Rattle.recovery_undo.specs.RecoveryAppends.{KnowsRegion};
+ghost use Rattle.recovery_passes.specs.LoserPass.{gates_len, Undoes, IsReady, IsWanted, IsCleared, clear_events, HasNoGates, IsClosedLog};
 ghost use Rattle.recovery_passes.specs.Stages.{AreShort, IsIdle};
 
-use crate::lists::drop_all;
+use crate::list_stages::drop_all;
 use lane_traits::{Device, Done};
 use log_partition::UsedBuckets;
 use recovery_run::{Gates, close_everything};
@@ -40,7 +40,7 @@ fn close_gates<D: Device>(device: &mut D, layout: Layout, gates: Gates) -> Done
         → EachKeeps (layout_shape layout) first (D.cells device.new) }
     ensures counted { HasCounted (gates_len gates + 3) result (D.counts device.old) (D.counts device.new) }
     ensures spare_left { D.spare device.old ≤ D.spare device.new + (gates_len gates + 3) }
-    ensures header { KeepsWords (IsHeaderWord (layout_shape layout)) (D.cells device.old) (D.cells device.new) }
+    ensures header { KeepsWords (IsPlainHeaderWord (layout_shape layout)) (D.cells device.old) (D.cells device.new) }
     ensures idle { HasNoGates gates → IsIdle result (D.cells device.old) (D.cells device.new) (D.counts device.old) (D.counts device.new) }
 {
     if has_no_gates(&gates) {
@@ -70,7 +70,7 @@ fn checkpoint_if<D: Device>(
         → IsSoundState (layout_shape layout) first → IsWanted layout first wanted → EachKeeps (layout_shape layout) first (D.cells device.new) }
     ensures counted { HasCounted (if wanted then layout.cells + 21 else 0) result (D.counts device.old) (D.counts device.new) }
     ensures spare_left { D.spare device.old ≤ D.spare device.new + (if wanted then layout.cells + 21 else 0) }
-    ensures header { KeepsWords (IsHeaderWord (layout_shape layout)) (D.cells device.old) (D.cells device.new) }
+    ensures header { KeepsWords (IsPlainHeaderWord (layout_shape layout)) (D.cells device.old) (D.cells device.new) }
     ensures idle { wanted ≡ false → IsIdle result (D.cells device.old) (D.cells device.new) (D.counts device.old) (D.counts device.new) }
     ensures idle_gates { wanted ≡ false → gates.new ≡ gates.old }
 {
@@ -100,7 +100,7 @@ pub fn clear<D: Device>(
     ensures stopped { result ≡ Done.Stopped → (first : State) (total : ℕ) → Undoes layout first total [] next gates (D.cells device.old)
         → IsSoundState (layout_shape layout) first → IsWanted layout first wanted → EachKeeps (layout_shape layout) first (D.cells device.new) }
     ensures counted { HasCounted (clear_events layout wanted (gates_len gates)) result (D.counts device.old) (D.counts device.new) }
-    ensures header { KeepsWords (IsHeaderWord (layout_shape layout)) (D.cells device.old) (D.cells device.new) }
+    ensures header { KeepsWords (IsPlainHeaderWord (layout_shape layout)) (D.cells device.old) (D.cells device.new) }
     ensures idle { wanted ≡ false → HasNoGates gates → AreShort (layout_shape layout) (D.cells device.old)
         → IsIdle result (D.cells device.old) (D.cells device.new) (D.counts device.old) (D.counts device.new) }
 {

@@ -5,11 +5,11 @@
 
 mod beginning;
 mod clearing;
-mod lists;
+mod list_stages;
 mod making;
 mod recovering;
 mod redo;
-mod undoing;
+mod undo_stage;
 
 pub use recovering::{RecoverFault, Recovered, Unfinished, recover, recover_sound};
 pub use recovery_analysis::{Analysis, analyse};

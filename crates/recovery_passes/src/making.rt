@@ -3,9 +3,9 @@ ghost use Rattle.std.specs.Prelude.{◌≡◌, ◌≤◌, ◌<◌, ◌+◌, ◌^
 ghost use Rattle.persist_model.specs.State.{State};
 ghost use Rattle.log_laws.specs.Parts.{EachKeeps};
 ghost use Rattle.region_layout.specs.Layout.{layout_shape};
-ghost use Rattle.recovery_run.specs.Edges.{HasCounted, KeepsWords, IsHeaderWord};
+ghost use Rattle.recovery_run.specs.Edges.{HasCounted, KeepsWords, IsPlainHeaderWord};
 ghost use Rattle.log_partition.specs.Used.{FitsBuckets};
-ghost use Rattle.recovery_passes.specs.Passing.{IsCleared};
+ghost use Rattle.recovery_passes.specs.LoserPass.{IsCleared};
 ghost use Rattle.recovery_passes.specs.Plans.{IsPlanned};
 ghost use Rattle.recovery_passes.specs.Stages.{AreQuiet, AreShort, IsIdle};
 
@@ -37,7 +37,7 @@ pub fn make_events<D: Device>(
         → EachKeeps (layout_shape layout) first (D.cells device.new) }
     ensures counted { (first : State) (most : ℕ) → IsPlanned layout first redo.now running.now checkpoint next gates (most + 1) (D.cells device.old) → most + 1 ≤ D.spare device.old
         → HasCounted most result (D.counts device.old) (D.counts device.new) }
-    ensures header { KeepsWords (IsHeaderWord (layout_shape layout)) (D.cells device.old) (D.cells device.new) }
+    ensures header { KeepsWords (IsPlainHeaderWord (layout_shape layout)) (D.cells device.old) (D.cells device.new) }
     ensures idle { (first : State) (most : ℕ) → IsPlanned layout first redo.now running.now checkpoint next gates most (D.cells device.old) → first.log ≡ []
         → AreQuiet (layout_shape layout) (D.cells device.old) → AreShort (layout_shape layout) (D.cells device.old)
         → IsIdle result (D.cells device.old) (D.cells device.new) (D.counts device.old) (D.counts device.new) }

@@ -5,7 +5,7 @@ ghost use Rattle.persist_model.specs.Sound.{IsSound};
 ghost use Rattle.persist_model.specs.Faults.{IsFirstFault};
 ghost use Rattle.region_layout.specs.declared.reading.ImageFault.{ImageFault};
 ghost use Rattle.lane_traits.specs.Device.{counted};
-ghost use Rattle.recovery_run.specs.Edges.{KeepsWords, IsHeaderWord};
+ghost use Rattle.recovery_run.specs.Edges.{KeepsWords, IsPlainHeaderWord};
 ghost use Rattle.recovery_run.specs.Reached.{newest_at};
 ghost use Rattle.recovery_passes.specs.Recovered.{IsFinished, Restores, EachStands, AreFates, AreFew};
 ghost use Rattle.recovery_passes.specs.Refusals.{recover_fault, unfinished_fault, IfRefused};
@@ -140,7 +140,7 @@ pub fn recover_sound<D: Device>(
         → AreFew (newest_at (D.cells device.old)) (n + 1) }
     ensures unfinished { IsFinished (D.cells device.old).size (newest_at (D.cells device.old)) → result ≡ Err Unfinished.Stopped → ⊥ }
     // Whatever it answers
-    ensures header { KeepsWords (IsHeaderWord (shape_of (newest_at (D.cells device.old)))) (D.cells device.old) (D.cells device.new) }
+    ensures header { KeepsWords (IsPlainHeaderWord (shape_of (newest_at (D.cells device.old)))) (D.cells device.old) (D.cells device.new) }
 {
     let work = work_of(alloc, device, layout)?;
     let Work {
@@ -209,7 +209,7 @@ pub fn recover<D: Device>(alloc: Global, device: &mut D) -> Result<Recovered, Re
         → AreFew (newest_at (D.cells device.old)) (n + 1) }
     ensures unfinished { IsFinished (D.cells device.old).size (newest_at (D.cells device.old)) → result ≡ Err RecoverFault.Stopped → ⊥ }
     // Whatever it answers
-    ensures header { KeepsWords (IsHeaderWord (shape_of (newest_at (D.cells device.old)))) (D.cells device.old) (D.cells device.new) }
+    ensures header { KeepsWords (IsPlainHeaderWord (shape_of (newest_at (D.cells device.old)))) (D.cells device.old) (D.cells device.new) }
 {
     let layout = match checked_layout(alloc, device) {
         Ok(layout) => layout,

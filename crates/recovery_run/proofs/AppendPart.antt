@@ -8,7 +8,7 @@ use Rattle.persist_model.specs.Runs.{progress_at}
 use Rattle.persist_model.specs.Records.{Record}
 use Rattle.persist_model.specs.Shape.{Shape, heap, words_of_shape, heap_words}
 use Rattle.persist_model.specs.State.{State}
-use Rattle.log_laws.specs.Recovery.{Step, Steps, start as begins, makes, IsCovered, grown}
+use Rattle.log_laws.specs.Recovery.{Step, Steps, start as begins, makes, HasDecidingRecord, grown}
 use Rattle.persist_model.specs.Sound.{HasState}
 use Rattle.log_laws.specs.Recovering.{RECOVERY, IsAtRest, with_heap}
 use Rattle.persist_model.proofs.Tracking.{Tracks-event}
@@ -16,7 +16,7 @@ use Rattle.log_laws.proofs.Parts.{part_image}
 use Rattle.persist_model.proofs.Projecting.{advance_all-append}
 use Rattle.log_laws.proofs.Recovering.{heap_step, rest_image, rest_store, rest_fence}
 use Rattle.log_laws.specs.Parts.{after_plan, HasCome, Leads}
-use Rattle.log_laws.specs.Appending.{IsAppend, MayCome}
+use Rattle.log_laws.specs.StateAppends.{IsAppend, MayCome}
 use Rattle.recovery_run.proofs.Composing.{parts_go_on}
 use Rattle.recovery_run.proofs.Making.{take_whole}
 
@@ -53,7 +53,7 @@ append_done shape first p w s r room plan region come append may =
     )
 
 -- a store to a covered heap word
-pub come_store : (shape : Shape) (first : State) (p : Progress) (w : Words) (s : State) (region : Region) (a x : ℕ) → heap shape ≤ a → IsCovered shape.policy s.log a →
+pub come_store : (shape : Shape) (first : State) (p : Progress) (w : Words) (s : State) (region : Region) (a x : ℕ) → heap shape ≤ a → HasDecidingRecord shape.policy s.log a →
     HasCome shape first p w s region → HasCome shape first (advance p (PStore a x)) w s (after region RECOVERY (PStore a x))
 come_store shape first p w s region a x le covered h = record {
   size = h.size;

@@ -13,13 +13,13 @@ use Rattle.persist_model.specs.Sound.{HasState}
 use Rattle.persist_model.proofs.Tracking.{latest_cases}
 use Rattle.persist_model.proofs.Projecting.{SameOn, SameOn-events, Reaches-same, AreAway, AreAway-append, IsDue-aways, advance_all-append}
 use Rattle.lane_traits.specs.Device.{stores_of}
-use Rattle.log_laws.specs.Recovery.{IsCovered, Step, Steps, start as begins, makes, stores, grown}
+use Rattle.log_laws.specs.Recovery.{HasDecidingRecord, Step, Steps, start as begins, makes, stores, grown}
 use Rattle.log_laws.specs.Recovering.{RECOVERY, IsOnLog, AreOnLog, with_heap}
-use Rattle.log_laws.specs.Appending.{IsAppend, MayCome}
+use Rattle.log_laws.specs.StateAppends.{IsAppend, MayCome}
 use Rattle.log_laws.specs.Parts.{after_plan, HasCome, Leads, EachKeeps}
 use Rattle.log_laws.proofs.Parts.{part_image}
 use Rattle.log_laws.proofs.Recovering.{heap_step}
-use Rattle.recovery_run.specs.Edges.{KeepsWords, IsHeaderWord, AreOffHeader}
+use Rattle.recovery_run.specs.Edges.{KeepsWords, IsPlainHeaderWord, AreOffHeader}
 use Rattle.recovery_run.specs.Reached.{newest_at, HasReached, HasSettled}
 use Rattle.recovery_run.proofs.Aside.{plan_keeps}
 use Rattle.recovery_run.proofs.Making.{take_whole}
@@ -115,20 +115,20 @@ module _ (shape : Shape) (first y : State) (region : Region) (r : Record) (room 
           | inr behind ↦ (with_heap (grown h.state r room) (heap_words shape v), behind, with_record v parts.1)
         ]
       where
-        with_record : (v : Words) → ((a : ℕ) → heap shape ≤ a → a < words_of_shape shape → (v a ≡ h.durable a) ⊎ IsCovered shape.policy h.state.log a) →
+        with_record : (v : Words) → ((a : ℕ) → heap shape ≤ a → a < words_of_shape shape → (v a ≡ h.durable a) ⊎ HasDecidingRecord shape.policy h.state.log a) →
             Steps shape h.state (with_heap (grown h.state r room) (heap_words shape v))
         with_record v each =
-            let moved : (a : ℕ) → heap shape ≤ a → a < words_of_shape shape → (v a ≡ newest_at region a) ⊎ IsCovered shape.policy y.log a =
+            let moved : (a : ℕ) → heap shape ≤ a → a < words_of_shape shape → (v a ≡ newest_at region a) ⊎ HasDecidingRecord shape.policy y.log a =
             λ a le lt. elim (each a le lt) [
-              | inr c ↦ inr (subst (λ (z : State). IsCovered shape.policy z.log a) (sym h.is) c)
-              | inl e ↦ elim (newest_cases a le lt) [ inr c ↦ inr (subst (λ (z : State). IsCovered shape.policy z.log a) (sym h.is) c) | inl d ↦ inl (e ∙ sym d) ]
+              | inr c ↦ inr (subst (λ (z : State). HasDecidingRecord shape.policy z.log a) (sym h.is) c)
+              | inl e ↦ elim (newest_cases a le lt) [ inr c ↦ inr (subst (λ (z : State). HasDecidingRecord shape.policy z.log a) (sym h.is) c) | inl d ↦ inl (e ∙ sym d) ]
             ] in
             let stored : Step shape y (with_heap y (heap_words shape v)) = heap_step shape (newest_at region) v y (ap (λ (z : State). z.words) h.is) moved in
             let record_there : Step shape (with_heap y (heap_words shape v)) (grown (with_heap y (heap_words shape v)) r room) = may (heap_words shape v) stored in
             let all : Steps shape h.state (grown (with_heap y (heap_words shape v)) r room) = makes (makes (makes begins (reached_step shape first y region h)) stored) record_there in
             subst (λ (z : State). Steps shape h.state z) (λ i. record { log = r ∷ (ap (λ (z : State). z.log) h.is) i; words = heap_words shape v; room = room }) all
           where
-            newest_cases : (a : ℕ) → heap shape ≤ a → a < words_of_shape shape → (newest_at region a ≡ h.durable a) ⊎ IsCovered shape.policy h.state.log a
+            newest_cases : (a : ℕ) → heap shape ≤ a → a < words_of_shape shape → (newest_at region a ≡ h.durable a) ⊎ HasDecidingRecord shape.policy h.state.log a
             newest_cases a le lt = elim (latest_cases h.progress.pending a (h.progress.durable a)) [
               | inl none ↦ inl (newest_latest shape first y region h a lt ∙ none.0 ∙ h.come.rest.durable a lt)
               | inr wrote ↦ inr (h.come.rest.heap a le (latest h.progress.pending a (h.progress.durable a)) wrote)

@@ -7,7 +7,7 @@ use Rattle.persist_model.specs.declared.event.Candidate.{Candidate}
 use Rattle.persist_model.specs.Region.{Region, after, IsCandidate, candidate, mark_last}
 use Rattle.persist_model.proofs.Candidates.{IsCandidate-fenced, IsCandidate_same_values, map-value_of-mark_last}
 use Rattle.log_laws.specs.Parts.{after_plan}
-use Rattle.recovery_run.specs.Edges.{StoresElsewhere, StoreElsewhere, HasOneValue}
+use Rattle.recovery_run.specs.Edges.{StoresElsewhere, StoreElsewhere, HasOnlyValue}
 
 -- what a word may be after an event that doesn't store to it, it may be before
 pub candidate_before : (region : Region) (lane : ℕ) (e : Event) (a v : ℕ) → StoresElsewhere a e → IsCandidate ((after region lane e).at a) v → IsCandidate (region.at a) v
@@ -32,6 +32,6 @@ elsewhere_take a (suc k) [] h = tt
 elsewhere_take a (suc k) (e ∷ plan) h = (h.0, elsewhere_take a k plan h.1)
 
 -- a word that can be nothing but v stays so
-pub plan_keeps : (lane : ℕ) (region : Region) (plan : List Event) (a v : ℕ) → StoreElsewhere a plan → HasOneValue v (region.at a) → HasOneValue v ((after_plan lane region plan).at a)
+pub plan_keeps : (lane : ℕ) (region : Region) (plan : List Event) (a v : ℕ) → StoreElsewhere a plan → HasOnlyValue v (region.at a) → HasOnlyValue v ((after_plan lane region plan).at a)
 plan_keeps lane region [] a v off one = one
 plan_keeps lane region (e ∷ plan) a v off one = plan_keeps lane (after region lane e) plan a v off.1 (λ x k. one x (candidate_before region lane e a x off.0 k))

@@ -7,7 +7,7 @@ use Rattle.persist_model.specs.declared.event.Event.TheVariants.{PStore, Fence}
 use Rattle.persist_model.specs.Region.{Words, Region}
 use Rattle.persist_model.specs.Progress.{Progress, Reaches, start, advance_all}
 use Rattle.persist_model.specs.Records.{Record, Log, IsAmong}
-use Rattle.log_laws.specs.Closing.{IsPart, empty, stays, goes}
+use Rattle.log_laws.specs.Closing.{IsSublog, empty, stays, goes}
 use Rattle.persist_model.specs.Shape.{Shape, heap, words_of_shape, heap_words, log_words, part_of}
 use Rattle.persist_model.specs.State.{State, IsSoundState}
 use Rattle.log_laws.specs.Recovery.{Steps, start as begins, makes, closes}
@@ -18,10 +18,10 @@ use Rattle.log_laws.proofs.Clearing.{closed_by}
 use Rattle.log_laws.proofs.Closings.{part_among}
 use Rattle.log_clearing.specs.Plans.{closes as zeroes, group, closing_plan}
 use Rattle.log_clearing.specs.Closed.{IsListed}
-use Rattle.log_clearing.proofs.Closing.{closed, closing_ends, latest_zero, latest_away}
+use Rattle.log_clearing.proofs.ClosingWords.{closed, closing_ends, latest_zero, latest_away}
 use Rattle.log_clearing.proofs.ClosingImages.{HasPart, closing_image}
 use Rattle.log_laws.specs.Parts.{after_plan, AreDurable, HasCome, Leads}
-use Rattle.recovery_run.specs.Closing.{CanClose, HasClosed}
+use Rattle.recovery_run.specs.ClosingParts.{CanClose, HasClosed}
 use Rattle.recovery_run.proofs.Composing.{parts_go_on}
 use Rattle.recovery_run.proofs.Making.{take_whole}
 
@@ -65,7 +65,7 @@ same_heap shape w v same = λ i a. each a (nat_lt a (heap shape)) refl i
 at_rest : (shape : Shape) (d : Words) (y : State) → HasState shape d y → IsAtRest shape (start d) d y
 at_rest shape d y has = record { state = has; durable = λ a lt. refl; log = λ a lt v k. k; heap = λ a le v k. elim k [ ] }
 
-part_in : (P : Record → Type 0) (later log : Log) → IsPart P later log → (r : Record) → IsAmong log r → (P r → ⊥) → IsAmong later r
+part_in : (P : Record → Type 0) (later log : Log) → IsSublog P later log → (r : Record) → IsAmong log r → (P r → ⊥) → IsAmong later r
 part_in P _ _ empty r m off = m
 part_in P _ _ (stays x {later = later} {log = log} part) r (inl e) off = inl e
 part_in P _ _ (stays x {later = later} {log = log} part) r (inr m) off = inr (part_in P later log part r m off)

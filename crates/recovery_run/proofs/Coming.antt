@@ -18,7 +18,7 @@ use Rattle.log_laws.proofs.Recovering.{heap_step}
 use Rattle.log_laws.specs.Parts.{after_plan, HasCome, Leads}
 use Rattle.recovery_run.proofs.Composing.{parts_go_on}
 use Rattle.recovery_run.proofs.Making.{take_whole}
-use Rattle.log_laws.specs.Appending.{IsAppend, MayCome}
+use Rattle.log_laws.specs.StateAppends.{IsAppend, MayCome}
 use Rattle.recovery_run.proofs.ClosingPart.{same_heap}
 
 appends_with : (shape : Shape) (s : State) (r : Record) (room : ℕ → ℕ) (h : Words) → Appends shape s r room → Appends shape (with_heap s h) r room

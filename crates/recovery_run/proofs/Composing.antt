@@ -7,7 +7,7 @@ use Rattle.persist_model.specs.Region.{Words, Region, IsImage, after}
 use Rattle.persist_model.specs.Progress.{Progress, Tracks, Reaches, Wrote, AreSettledAt, start, advance, advance_all}
 use Rattle.persist_model.specs.Shape.{Shape, heap, words_of_shape, heap_words}
 use Rattle.persist_model.specs.State.{State, IsSoundState}
-use Rattle.log_laws.specs.Recovery.{IsCovered, Step, Steps, start as begins, makes, KeepsStanding}
+use Rattle.log_laws.specs.Recovery.{HasDecidingRecord, Step, Steps, start as begins, makes, KeepsStanding}
 use Rattle.persist_model.specs.Sound.{HasState}
 use Rattle.log_laws.specs.Recovering.{RECOVERY, IsAtRest, IsRecovering}
 use Rattle.persist_model.proofs.Tracking.{Tracks-event, Tracks-settled, Reaches-image}

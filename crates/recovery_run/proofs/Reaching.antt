@@ -17,12 +17,12 @@ use Rattle.persist_model.proofs.Candidates.{IsCandidate_newest, newest-push, fen
 use Rattle.persist_model.proofs.Tracking.{latest_cases, Tracks-event, Wrote-push, Wrote-pushed}
 use Rattle.persist_model.proofs.Projecting.{latest_none}
 use Rattle.persist_model.proofs.Images.{get_or-newest_words, settled_is}
-use Rattle.log_laws.specs.Recovery.{IsCovered, Step, Steps, start as begins, makes, stores, KeepsStanding}
+use Rattle.log_laws.specs.Recovery.{HasDecidingRecord, Step, Steps, start as begins, makes, stores, KeepsStanding}
 use Rattle.log_laws.specs.Recovering.{RECOVERY, IsAtRest, with_heap}
 use Rattle.log_laws.specs.Parts.{after_plan, AreDurable, HasCome, Leads, EachKeeps}
 use Rattle.log_laws.proofs.Recovering.{same_log, state_with_heap, heap_step, rest_image}
 use Rattle.log_laws.proofs.Keeping.{runs_keep}
-use Rattle.recovery_run.specs.Edges.{HasOneValue, KeepsWords, IsHeaderWord}
+use Rattle.recovery_run.specs.Edges.{HasOnlyValue, KeepsWords, IsPlainHeaderWord}
 use Rattle.recovery_run.specs.Reached.{newest_at, with_value, HasHeader, AreSingle, HasReached, HasSettled}
 use Rattle.recovery_run.proofs.Composing.{parts_keep, parts_go_on, recovery_begins}
 use Rattle.recovery_run.proofs.AppendPart.{come_store}
@@ -45,7 +45,7 @@ pub read_newest : (region : Region) (a : ℕ) → a < region.size → newest_at 
 read_newest region a lt = get_or-newest_words region a lt
 
 -- a word that can be nothing but v, and is something, is read as v
-pub newest_one : (cs : List Candidate) (v : ℕ) → 0 < length cs → HasOneValue v cs → newest cs ≡ v
+pub newest_one : (cs : List Candidate) (v : ℕ) → 0 < length cs → HasOnlyValue v cs → newest cs ≡ v
 newest_one cs v some one = one (newest cs) (IsCandidate_newest cs some)
 
 -- ---- what a reached state says
@@ -63,7 +63,7 @@ module _ (shape : Shape) (first y : State) (region : Region) (h : HasReached sha
       newest_latest a fits ∙ latest_none h.progress.pending a (h.progress.durable a) (h.come.rest.log a lt) ∙ h.come.rest.durable a fits
 
   -- each word of the log and the header has one value
-  pub log_word_one : (a : ℕ) → a < heap shape → HasOneValue (newest_at region a) (region.at a)
+  pub log_word_one : (a : ℕ) → a < heap shape → HasOnlyValue (newest_at region a) (region.at a)
   log_word_one a lt v k =
       let fits : a < words_of_shape shape = omega (arith, lt) in
       elim ((h.come.tracks a fits).values v k) [
@@ -111,7 +111,7 @@ settled_reached shape first y region h = record {
 -- ---- the header
 
 -- the header's words that are read
-pub read_is_header : (shape : Shape) (a : ℕ) → (a ≤ 7) ⊎ ((13 ≤ a) × (a ≤ 20)) → IsHeaderWord shape a
+pub read_is_header : (shape : Shape) (a : ℕ) → (a ≤ 7) ⊎ ((13 ≤ a) × (a ≤ 20)) → IsPlainHeaderWord shape a
 read_is_header shape a where_is = record { below = elim where_is [ inl le ↦ omega (arith, le) | inr k ↦ (let le = k.1 in omega (arith, le)) ]; apart = λ p lt. apart p }
   where
     apart : (p : ℕ) → (a < list_words p) ⊎ (list_words p + 4 < a)
@@ -158,8 +158,8 @@ module _ (shape : Shape) (before later : Region) (h : HasHeader shape before) (s
 -- ---- how it goes on
 
 -- the header's words stay where they can be nothing else, and are something
-newest_kept : (shape : Shape) (first y : State) (before later : Region) → HasReached shape first y before → KeepsWords (IsHeaderWord shape) before later → later.size ≡ before.size →
-    ((a : ℕ) → IsHeaderWord shape a → 0 < length (later.at a)) → (a : ℕ) → IsHeaderWord shape a → newest_at later a ≡ newest_at before a
+newest_kept : (shape : Shape) (first y : State) (before later : Region) → HasReached shape first y before → KeepsWords (IsPlainHeaderWord shape) before later → later.size ≡ before.size →
+    ((a : ℕ) → IsPlainHeaderWord shape a → 0 < length (later.at a)) → (a : ℕ) → IsPlainHeaderWord shape a → newest_at later a ≡ newest_at before a
 newest_kept shape first y before later h keeps size some a is =
     let low = is.below in
     let enough = h.header.header.enough in
@@ -167,13 +167,13 @@ newest_kept shape first y before later h keeps size some a is =
     read_newest later a (omega (arith, low, enough, size))
     ∙ newest_one (later.at a) (newest_at before a) (some a is) (keeps a (newest_at before a) is (log_word_one shape first y before h a below))
 
-pub header_kept : (shape : Shape) (first y : State) (before later : Region) → HasReached shape first y before → KeepsWords (IsHeaderWord shape) before later → later.size ≡ before.size →
-    ((a : ℕ) → IsHeaderWord shape a → 0 < length (later.at a)) → HasHeader shape later
+pub header_kept : (shape : Shape) (first y : State) (before later : Region) → HasReached shape first y before → KeepsWords (IsPlainHeaderWord shape) before later → later.size ≡ before.size →
+    ((a : ℕ) → IsPlainHeaderWord shape a → 0 < length (later.at a)) → HasHeader shape later
 header_kept shape first y before later h keeps size some =
     header_same shape before later h.header size (λ a k. newest_kept shape first y before later h keeps size some a (read_is_header shape a k))
 
 -- a region with nothing pending behind a part
-pub settles : (shape : Shape) (first y z : State) (d : Words) (before later : Region) → HasReached shape first y before → KeepsWords (IsHeaderWord shape) before later →
+pub settles : (shape : Shape) (first y z : State) (d : Words) (before later : Region) → HasReached shape first y before → KeepsWords (IsPlainHeaderWord shape) before later →
     HasCome shape first (start d) d z later → AreSettled later → HasSettled shape first z later
 settles shape first y z d before later h keeps come settled = record {
   header = header_kept shape first y before later h keeps (come.size ∙ sym h.come.size) (λ a is.
@@ -187,7 +187,7 @@ settles shape first y z d before later h keeps come settled = record {
 }
 
 -- a region with heap words pending
-pub reaches : (shape : Shape) (first y s : State) (p : Progress) (w : Words) (before later : Region) → HasReached shape first y before → KeepsWords (IsHeaderWord shape) before later →
+pub reaches : (shape : Shape) (first y s : State) (p : Progress) (w : Words) (before later : Region) → HasReached shape first y before → KeepsWords (IsPlainHeaderWord shape) before later →
     HasCome shape first p w s later → AreSingle p later → HasReached shape first (with_heap s (heap_words shape (newest_at later))) later
 reaches shape first y s p w before later h keeps come single = record {
   header = header_kept shape first y before later h keeps (come.size ∙ sym h.come.size) (λ a is.
@@ -238,7 +238,7 @@ single_plan n p region (e ∷ plan) size durable tracks single =
 -- A whole part leads to a settled region: the part's images are steps further on, and its end is d with state z.
 pub plan_done : (shape : Shape) (first y z : State) (region : Region) (plan : List Event) (d : Words) → (h : HasReached shape first y region) →
     Leads shape h.progress h.state plan → advance_all h.progress plan ≡ start d → HasState shape d z → Steps shape h.state z →
-    KeepsWords (IsHeaderWord shape) region (after_plan RECOVERY region plan) → HasSettled shape first z (after_plan RECOVERY region plan)
+    KeepsWords (IsPlainHeaderWord shape) region (after_plan RECOVERY region plan) → HasSettled shape first z (after_plan RECOVERY region plan)
 plan_done shape first y z region plan d h leads ends has steps keeps =
     let come = parts_go_on shape first h.progress h.durable d h.state z region plan h.come leads ends has steps in
     settles shape first y z d region (after_plan RECOVERY region plan) h keeps come
@@ -285,13 +285,13 @@ stored_heap shape region a v le lt size = λ i b. each b i
     ]
 
 -- a store to a covered heap word
-pub store_done : (shape : Shape) (first y : State) (region : Region) (a v : ℕ) → heap shape ≤ a → a < region.size → IsCovered shape.policy y.log a → HasReached shape first y region →
+pub store_done : (shape : Shape) (first y : State) (region : Region) (a v : ℕ) → heap shape ≤ a → a < region.size → HasDecidingRecord shape.policy y.log a → HasReached shape first y region →
     HasReached shape first (with_heap y (with_value y.words a v)) (after region RECOVERY (PStore a v))
 store_done shape first y region a v le lt covered h =
     let later = after region RECOVERY (PStore a v) in
-    let covered_there : IsCovered shape.policy h.state.log a = subst (λ (z : State). IsCovered shape.policy z.log a) h.is covered in
+    let covered_there : HasDecidingRecord shape.policy h.state.log a = subst (λ (z : State). HasDecidingRecord shape.policy z.log a) h.is covered in
     let come = come_store shape first h.progress h.durable h.state region a v le covered_there h.come in
-    let keeps : KeepsWords (IsHeaderWord shape) region later = λ b x is one. plan_keeps RECOVERY region (PStore a v ∷ []) b x ((λ e. (let low = is.below in absurd (omega (arith, low, e, le)))), tt) one in
+    let keeps : KeepsWords (IsPlainHeaderWord shape) region later = λ b x is one. plan_keeps RECOVERY region (PStore a v ∷ []) b x ((λ e. (let low = is.below in absurd (omega (arith, low, e, le)))), tt) one in
     let reached = reaches shape first y h.state (advance h.progress (PStore a v)) h.durable region later h keeps come
     (single_event (words_of_shape shape) h.progress region (PStore a v) h.come.size tt h.come.tracks h.single) in
     let heap_is : heap_words shape (newest_at later) ≡ with_value y.words a v =

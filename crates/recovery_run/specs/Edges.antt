@@ -33,18 +33,18 @@ StoreElsewhere a [] = Unit {0}
 StoreElsewhere a (e ∷ plan) = StoresElsewhere a e × StoreElsewhere a plan
 
 -- the word can be nothing but v
-abbrev pub HasOneValue : ℕ → List Candidate → Type 0
-HasOneValue v cs = (x : ℕ) → IsCandidate cs x → x ≡ v
+abbrev pub HasOnlyValue : ℕ → List Candidate → Type 0
+HasOnlyValue v cs = (x : ℕ) → IsCandidate cs x → x ≡ v
 
 -- the words of A that can be nothing but one value stay so
 abbrev pub KeepsWords : (ℕ → Type 0) → Region → Region → Type 0
-KeepsWords A before later = (a v : ℕ) → A a → HasOneValue v (before.at a) → HasOneValue v (later.at a)
+KeepsWords A before later = (a v : ℕ) → A a → HasOnlyValue v (before.at a) → HasOnlyValue v (later.at a)
 
 -- a word of the header that is no list word of a partition
-pub record IsHeaderWord (shape : Shape) (a : ℕ) : Type 0 where
+pub record IsPlainHeaderWord (shape : Shape) (a : ℕ) : Type 0 where
   pub below : a < 32
   pub apart : (p : ℕ) → p < shape.partitions → (a < list_words p) ⊎ (list_words p + 4 < a)
 
 -- no event of the plan stores to a word of the header
 abbrev pub AreOffHeader : Shape → List Event → Type 0
-AreOffHeader shape plan = (a : ℕ) → IsHeaderWord shape a → StoreElsewhere a plan
+AreOffHeader shape plan = (a : ℕ) → IsPlainHeaderWord shape a → StoreElsewhere a plan

@@ -1,6 +1,6 @@
-pub mod Closing
+pub mod ClosingParts
 pub mod ClosingAll
-pub mod Appending
+pub mod AppendParts
 pub mod Edges
 pub mod Groups
 pub mod Reached

@@ -5,7 +5,7 @@ ghost use Rattle.persist_model.specs.Shape.{Shape};
 ghost use Rattle.persist_model.specs.State.{State, IsSoundState};
 ghost use Rattle.lane_traits.specs.Device.{IsWithin, stores_of};
 ghost use Rattle.log_laws.specs.Recovery.{Step, grown};
-ghost use Rattle.log_laws.specs.Appending.{IsAppend, MayCome};
+ghost use Rattle.log_laws.specs.StateAppends.{IsAppend, MayCome};
 ghost use Rattle.log_laws.specs.Parts.{after_plan, EachKeeps};
 ghost use Rattle.log_laws.specs.Recovering.{RECOVERY};
 ghost use Rattle.recovery_run.specs.Edges.{HasCounted, KeepsWords, StoreElsewhere, AreOffHeader};

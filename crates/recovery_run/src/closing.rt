@@ -6,8 +6,8 @@ ghost use Rattle.persist_model.specs.State.{State, IsSoundState};
 ghost use Rattle.lane_traits.specs.Device.{IsWithin, stores_of};
 ghost use Rattle.log_clearing.specs.Plans.{closing_plan};
 ghost use Rattle.log_laws.specs.Parts.{HasCome, EachKeeps};
-ghost use Rattle.recovery_run.specs.Closing.{CanClose, HasClosed};
-ghost use Rattle.recovery_run.specs.Edges.{HasCounted, KeepsWords, IsHeaderWord};
+ghost use Rattle.recovery_run.specs.ClosingParts.{CanClose, HasClosed};
+ghost use Rattle.recovery_run.specs.Edges.{HasCounted, KeepsWords, IsPlainHeaderWord};
 ghost use Rattle.recovery_run.specs.Groups.{ListsAll};
 ghost use Rattle.recovery_run.specs.Reached.{HasSettled};
 

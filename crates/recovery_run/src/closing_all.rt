@@ -6,7 +6,7 @@ ghost use Rattle.lane_traits.specs.Device.{IsWithin};
 ghost use Rattle.log_clearing.specs.Plans.{closing_plan};
 ghost use Rattle.log_laws.specs.Parts.{EachKeeps};
 ghost use Rattle.recovery_run.specs.ClosingAll.{CanCloseAll};
-ghost use Rattle.recovery_run.specs.Edges.{HasCounted, KeepsWords, IsHeaderWord};
+ghost use Rattle.recovery_run.specs.Edges.{HasCounted, KeepsWords, IsPlainHeaderWord};
 ghost use Rattle.recovery_run.specs.Reached.{HasSettled};
 
 use crate::runner::run;

@@ -47,7 +47,7 @@ impl Gates {
 }
 
 /// Puts a gate behind the others, in memory that was taken before.
-pub fn put(gates: &mut Vec<u32>, at: u32)
+pub fn put_gate(gates: &mut Vec<u32>, at: u32)
     requires { vec_len gates.old < vec_capacity gates.old }
     ensures items { gates.new.items ≡ gates.old.items ++ at ∷ [] }
     ensures len { vec_len gates.new ≡ vec_len gates.old + 1 }

@@ -4,11 +4,11 @@ ghost use Rattle.persist_model.specs.Records.{Record};
 ghost use Rattle.persist_model.specs.Progress.{Progress};
 ghost use Rattle.persist_model.specs.Shape.{Shape, heap};
 ghost use Rattle.persist_model.specs.State.{State, IsSoundState};
-ghost use Rattle.log_laws.specs.Recovery.{IsCovered};
+ghost use Rattle.log_laws.specs.Recovery.{HasDecidingRecord};
 ghost use Rattle.lane_traits.specs.Device.{IsWithin, stores_of};
 ghost use Rattle.log_laws.specs.Parts.{HasCome, EachKeeps};
-ghost use Rattle.log_laws.specs.Appending.{IsAppend, MayCome};
-ghost use Rattle.recovery_run.specs.Appending.{HasStored};
+ghost use Rattle.log_laws.specs.StateAppends.{IsAppend, MayCome};
+ghost use Rattle.recovery_run.specs.AppendParts.{HasStored};
 
 use crate::runner::{Plan, run};
 use lane_traits::{Device, Done};
@@ -22,7 +22,7 @@ pub fn append_then_store<D: Device, P: Plan>(device: &mut D, append: &P, a: u32,
     requires few { length (P.events append.now) < 2 ^ 64 }
     ensures made { result ≡ Done.Made → (shape : Shape) (first s : State) (p : Progress) (w : Words) (r : Record) (room : ℕ → ℕ)
         → HasCome shape first p w s (D.cells device.old) → IsAppend shape w s r room (P.events append.now) → MayCome shape s r room
-        → heap shape ≤ a → IsCovered shape.policy (r ∷ s.log) a → HasStored shape first s r room a value (D.cells device.new) }
+        → heap shape ≤ a → HasDecidingRecord shape.policy (r ∷ s.log) a → HasStored shape first s r room a value (D.cells device.new) }
     ensures stopped { result ≡ Done.Stopped → (shape : Shape) (first s : State) (p : Progress) (w : Words) (r : Record) (room : ℕ → ℕ)
         → IsSoundState shape first → HasCome shape first p w s (D.cells device.old) → IsAppend shape w s r room (P.events append.now)
         → MayCome shape s r room → EachKeeps shape first (D.cells device.new) }

@@ -2,7 +2,7 @@
 ghost use Rattle.std.specs.Prelude.{◌≡◌, ◌≤◌, ◌<◌, ◌+◌};
 ghost use Rattle.persist_model.specs.Shape.{Shape, heap};
 ghost use Rattle.persist_model.specs.State.{State, IsSoundState};
-ghost use Rattle.log_laws.specs.Recovery.{IsCovered};
+ghost use Rattle.log_laws.specs.Recovery.{HasDecidingRecord};
 ghost use Rattle.log_laws.specs.Recovering.{with_heap};
 ghost use Rattle.log_laws.specs.Parts.{EachKeeps};
 ghost use Rattle.recovery_run.specs.Edges.{HasCounted, KeepsWords};
@@ -18,7 +18,7 @@ pub fn store<D: Device>(device: &mut D, a: u32, value: u64) -> Done
     requires word { a < (D.cells device.old).size }
     requires spare { 1 ≤ D.spare device.old }
     ensures made { result ≡ Done.Made → (shape : Shape) (first y : State) → HasReached shape first y (D.cells device.old) → heap shape ≤ a
-        → IsCovered shape.policy y.log a → HasReached shape first (with_heap y (with_value y.words a value)) (D.cells device.new) }
+        → HasDecidingRecord shape.policy y.log a → HasReached shape first (with_heap y (with_value y.words a value)) (D.cells device.new) }
     ensures stopped { result ≡ Done.Stopped → (shape : Shape) (first y : State) → IsSoundState shape first
         → HasReached shape first y (D.cells device.old) → EachKeeps shape first (D.cells device.new) }
     ensures counted { HasCounted 1 result (D.counts device.old) (D.counts device.new) }

@@ -8,7 +8,7 @@ use Rattle.persist_model.specs.Shape.{Shape, part_of}
 use Rattle.persist_model.specs.Need.{to_undo, need_of}
 use Rattle.persist_model.specs.State.{State, IsSoundState}
 use Rattle.lane_traits.specs.declared.device.Done.TheVariants.{Made}
-use Rattle.log_laws.specs.Appending.{MayCome}
+use Rattle.log_laws.specs.StateAppends.{MayCome}
 use Rattle.log_laws.specs.Recovery.{grown}
 use Rattle.region_layout.specs.declared.cell.Cell.{Cell}
 use Rattle.region_layout.specs.declared.layout.Layout.{Layout}
@@ -22,13 +22,13 @@ use Rattle.recovery_run.specs.declared.gates.Gates.{Gates}
 use Rattle.recovery_run.specs.Groups.{records_of}
 use Rattle.recovery_run.proofs.Reaching.{settled_reached, reached_sound}
 use Rattle.recovery_undo.specs.declared.target.Target.{Target}
-use Rattle.recovery_undo.specs.Appending.{with_cell}
+use Rattle.recovery_undo.specs.RecoveryAppends.{with_cell}
 use Rattle.recovery_undo.specs.Numbers.{next_lsn}
 use Rattle.recovery_undo.specs.Records.{plain_record}
 use Rattle.recovery_undo.specs.Undoing.{undo_events, CanUndo}
-use Rattle.recovery_undo.specs.Passing.{IsUndoing, IsPassing, Seen, HasSpent, Start, HasGone, CanNote, Begins, Passes}
+use Rattle.recovery_undo.specs.UndoProgress.{IsUndoing, IsPassing, Seen, HasSpent, Start, HasGone, CanNote, Begins, Passes}
 use Rattle.recovery_undo.proofs.Noting.{undoing_begins, rollback_comes, rollback_less, rolled_back}
-use Rattle.recovery_undo.proofs.Passing.{pass_begins, rolled_stack}
+use Rattle.recovery_undo.proofs.UndoPass.{pass_begins, rolled_stack}
 use Rattle.recovery_undo.proofs.RecordsOf.{records_of_are, are_records_of}
 use Rattle.recovery_undo.proofs.Going.{few_partitions}
 

@@ -29,7 +29,7 @@ use Rattle.recovery_run.specs.Reached.{newest_at, AreSingle, HasReached}
 use Rattle.recovery_run.proofs.Composing.{size_plan, tracks_plan}
 use Rattle.recovery_run.proofs.Making.{take_whole}
 use Rattle.recovery_run.proofs.Reaching.{newest_tracked, read_newest, newest_one, newest_log, log_word_one, single_plan}
-use Rattle.recovery_undo.specs.Appending.{KnowsRegion, KeepsLogWords}
+use Rattle.recovery_undo.specs.RecoveryAppends.{KnowsRegion, KeepsLogWords}
 use Rattle.recovery_undo.proofs.Places.{allowed, has, list_here}
 
 -- words have the chain of their log words

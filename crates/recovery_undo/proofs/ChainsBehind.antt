@@ -26,7 +26,7 @@ use Rattle.log_partition.specs.declared.used.UsedBuckets.{UsedBuckets}
 use Rattle.log_partition.specs.Used.{KnowsChains, chains_in, with_bucket}
 use Rattle.log_partition.proofs.Known.{knows_same}
 use Rattle.recovery_run.specs.Reached.{newest_at, IsQuiet}
-use Rattle.recovery_undo.specs.Appending.{CanTake, IsPlaceFor, KnowsRegion, chains_behind}
+use Rattle.recovery_undo.specs.RecoveryAppends.{CanTake, IsPlaceFor, KnowsRegion, chains_behind}
 use Rattle.recovery_undo.proofs.Chains.{log_chain, same_chain, plan_reaches}
 use Rattle.recovery_undo.proofs.Places.{allowed}
 use Rattle.recovery_undo.proofs.Taking.{is_append, appends}

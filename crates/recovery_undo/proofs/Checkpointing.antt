@@ -19,7 +19,7 @@ use Rattle.recovery_run.specs.declared.gates.Gates.{Gates}
 use Rattle.recovery_run.specs.Groups.{ListsAll}
 use Rattle.recovery_run.specs.Reached.{HasSettled}
 use Rattle.recovery_run.proofs.Reaching.{settled_reached, reached_sound}
-use Rattle.recovery_undo.specs.Appending.{AreQuiet, CanTake, StepsTo, with_cell}
+use Rattle.recovery_undo.specs.RecoveryAppends.{AreQuiet, CanTake, StepsTo, with_cell}
 use Rattle.recovery_undo.specs.Checkpoint.{CanCheckpoint, IsCheckpointed}
 use Rattle.recovery_undo.specs.Numbers.{next_lsn}
 use Rattle.recovery_undo.specs.Records.{plain_record}
@@ -37,7 +37,7 @@ module _ (layout : Layout) (next : ℕ) (gates : Gates) (first y : State) (regio
   record_is : (at : ℕ) → record_of at cell ≡ plain_record at (next_lsn y.log) 0 5 0
   record_is at = cell_is at ∙ ap (λ n. plain_record at n 0 5 0) h.next_is
 
-  gate_is : cell.gate ≡ next_lsn y.log
+  gate_is : cell.lsn ≡ next_lsn y.log
   gate_is = ap (λ (r : Record). r.lsn) (record_is 0)
 
   enough : 1 ≤ y.room 0
@@ -93,7 +93,7 @@ module _ (layout : Layout) (next : ℕ) (gates : Gates) (first y : State) (regio
         over = λ t l. h.over t (has_back (IsOf t) c y.log (λ k. k.1 five) l.0, λ e m end. l.1 e (inr m) end);
         applied = applied_checkpointed shape.policy y.log y.words c five taken.above (numbered (part_of shape) (c ∷ y.log) (c ∷ y.log) after.order) h.applied;
         redone = λ a r m k. (let e = has_back _ c y.log (λ q. (let four = q.0 in absurd (omega (arith, five, four)))) k.3 in k.4 (e.0, inr e.1, (e.2, (c, inl refl, (five, taken.above e.0 e.1)))));
-        next_is = (let n = h.next_is in let g = gate_is in let both : next ≡ cell.gate = n ∙ sym g in ap (λ m. m + 1) both);
+        next_is = (let n = h.next_is in let g = gate_is in let both : next ≡ cell.lsn = n ∙ sym g in ap (λ m. m + 1) both);
         lists = subst (λ l. ListsAll (c ∷ y.log) more.gates.items more.ends.items l) (sym items)
             (subst (λ v. ListsAll (c ∷ y.log) v.items more.ends.items (gates.checkpoints.items ++ at ∷ [])) (sym same_gates)
             (subst (λ v. ListsAll (c ∷ y.log) gates.gates.items v.items (gates.checkpoints.items ++ at ∷ [])) (sym same_ends) lists));

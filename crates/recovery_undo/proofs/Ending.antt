@@ -21,12 +21,12 @@ use Rattle.recovery_run.specs.Groups.{records_of, ListsAll}
 use Rattle.recovery_run.specs.Reached.{HasSettled}
 use Rattle.recovery_run.proofs.Reaching.{settled_reached}
 use Rattle.recovery_undo.specs.declared.target.Target.{Target}
-use Rattle.recovery_undo.specs.Appending.{AreQuiet, CanTake, StepsTo, with_cell}
+use Rattle.recovery_undo.specs.RecoveryAppends.{AreQuiet, CanTake, StepsTo, with_cell}
 use Rattle.recovery_undo.specs.Numbers.{next_lsn}
 use Rattle.recovery_undo.specs.Records.{plain_record}
-use Rattle.recovery_undo.specs.Passing.{Seen, HasSpent, Start, Passes, Finishes, Halts}
+use Rattle.recovery_undo.specs.UndoProgress.{Seen, HasSpent, Start, Passes, Finishes, Halts}
 use Rattle.recovery_undo.proofs.Noting.{above_all, has_room, end_comes, ended_applied, ended_need}
-use Rattle.recovery_undo.proofs.Passing.{pass_stack, pass_stored}
+use Rattle.recovery_undo.proofs.UndoPass.{pass_stack, pass_stored}
 use Rattle.recovery_undo.proofs.RecordsOf.{need_of-records_of, others_stay}
 use Rattle.recovery_undo.proofs.Going.{spent_more, spent_within, few_partitions, next_fits, next_is_some, quiet_kept, at_most_three, halts, lists_end}
 
@@ -82,7 +82,7 @@ module _ (target : Target) (start : Start) (counter next : ℕ) (gates : Gates) 
     record_is : (at : ℕ) → record_of at cell ≡ plain_record at (next_lsn z.log) t 4 2
     record_is at = cell_is at ∙ ap (λ n. plain_record at n t 4 2) h.gone.next_is
 
-    gate_is : cell.gate ≡ next_lsn z.log
+    gate_is : cell.lsn ≡ next_lsn z.log
     gate_is = ap (λ (r : Record). r.lsn) (record_is 0)
 
     pub end_take : CanTake target.layout target.partition cell start.first h.state kept.region
@@ -201,7 +201,7 @@ module _ (target : Target) (start : Start) (counter next : ℕ) (gates : Gates) 
               still_losers = still_losers;
               applied = subst (λ (r : Record). AreApplied shape.policy (r ∷ z.log) z.words) (sym (record_is at))
                   (ended_applied shape t part start.state z few h.passing.undoing at here h.passing.rolled nothing stored);
-              next_is = (let n = h.gone.next_is in let g = gate_is in let both : next ≡ cell.gate = n ∙ sym g in ap (λ m. m + 1) both);
+              next_is = (let n = h.gone.next_is in let g = gate_is in let both : next ≡ cell.lsn = n ∙ sym g in ap (λ m. m + 1) both);
               lists = subst (λ l. ListsAll (e ∷ z.log) more.gates.items l more.checkpoints.items) (sym items)
                   (subst (λ v. ListsAll (e ∷ z.log) v.items (gates.ends.items ++ at ∷ []) more.checkpoints.items) (sym same_gates)
                   (subst (λ v. ListsAll (e ∷ z.log) gates.gates.items (gates.ends.items ++ at ∷ []) v.items) (sym checkpoints) lists));

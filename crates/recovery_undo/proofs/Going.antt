@@ -15,16 +15,16 @@ use Rattle.log_laws.proofs.Needs.{has_kind_false}
 use Rattle.region_layout.specs.declared.cell.Cell.{Cell}
 use Rattle.region_layout.specs.Cell.{record_of}
 use Rattle.region_layout.specs.Layout.{layout_shape}
-use Rattle.bucket_log.proofs.Appending.{IsAmong-push, IsAmong-last, IsAmong-cases}
+use Rattle.bucket_log.proofs.AppendImages.{IsAmong-push, IsAmong-last, IsAmong-cases}
 use Rattle.recovery_run.specs.declared.gates.Gates.{Gates}
-use Rattle.recovery_run.specs.Edges.{counts_with, HasCounted, HasOneValue, KeepsWords}
+use Rattle.recovery_run.specs.Edges.{counts_with, HasCounted, HasOnlyValue, KeepsWords}
 use Rattle.recovery_run.specs.Groups.{ListsAll}
 use Rattle.recovery_run.specs.Reached.{newest_at, HasReached, HasSettled}
 use Rattle.recovery_run.proofs.Reaching.{log_word_one, settled_reached}
 use Rattle.recovery_undo.specs.declared.target.Target.{Target}
-use Rattle.recovery_undo.specs.Appending.{AreQuiet, CanTake, with_cell}
+use Rattle.recovery_undo.specs.RecoveryAppends.{AreQuiet, CanTake, with_cell}
 use Rattle.recovery_undo.specs.Numbers.{next_lsn}
-use Rattle.recovery_undo.specs.Passing.{IsUndoing, Seen, HasSpent, Start, HasGone, CanNote, Halts}
+use Rattle.recovery_undo.specs.UndoProgress.{IsUndoing, Seen, HasSpent, Start, HasGone, CanNote, Halts}
 use Rattle.recovery_undo.proofs.Noting.{above_all, has_room}
 use Rattle.recovery_undo.proofs.Places.{allowed}
 use Rattle.recovery_undo.proofs.Taking.{list_words_few, reads_zero}
@@ -124,7 +124,7 @@ quiet_kept shape first y before later A few h all keeps size some quiet p lt =
     kept a low none =
         let enough : 32 ≤ before.size = h.header.header.enough in
         reads_zero later a (omega (arith, low, size, enough)) (some a)
-        (keeps a 0 (all a low) (subst (λ v. HasOneValue v (before.at a)) none (log_word_one shape first y before h a (omega (arith, low)))))
+        (keeps a 0 (all a low) (subst (λ v. HasOnlyValue v (before.at a)) none (log_word_one shape first y before h a (omega (arith, low)))))
 
 -- ---- the numbers
 
@@ -165,7 +165,7 @@ module _ (target : Target) (start : Start) (z : State) (left next : ℕ) (gates 
   at_most_three = (allowed target.layout start.first z now.region h.reached).partitions.1
 
   -- a cell with the next number can be appended
-  pub can_take : (cell : Cell) → IsUndoing (layout_shape target.layout) target.transaction target.partition start.state z → cell.gate ≡ next_lsn z.log →
+  pub can_take : (cell : Cell) → IsUndoing (layout_shape target.layout) target.transaction target.partition start.state z → cell.lsn ≡ next_lsn z.log →
       CanTake target.layout target.partition cell start.first z now.region
   can_take cell undoing gate = record {
     inside = target.inside;
@@ -255,7 +255,7 @@ module _ (target : Target) (start : Start) (z : State) (left next : ℕ) (gates 
           origin = h.origin;
           reached = settled_reached shape start.first (with_cell z target.partition cell at) later.region settled;
           quiet = quiet;
-          next_is = (let e = h.next_is in let f = k.gate in let both : next ≡ cell.gate = e ∙ sym f in ap (λ n. n + 1) both);
+          next_is = (let e = h.next_is in let f = k.gate in let both : next ≡ cell.lsn = e ∙ sym f in ap (λ n. n + 1) both);
           lists = subst (λ l. ListsAll (r ∷ z.log) l more.ends.items more.checkpoints.items) (sym items)
               (subst (λ v. ListsAll (r ∷ z.log) (gates.gates.items ++ at ∷ []) v.items more.checkpoints.items) (sym ends)
               (subst (λ v. ListsAll (r ∷ z.log) (gates.gates.items ++ at ∷ []) gates.ends.items v.items) (sym checkpoints) lists));

@@ -1,6 +1,6 @@
 pub mod RecordsOf
 pub mod Noting
-pub mod Passing
+pub mod UndoPass
 pub mod Places
 pub mod Planned
 pub mod Taking

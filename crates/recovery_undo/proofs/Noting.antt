@@ -7,8 +7,8 @@ use Rattle.persist_model.specs.Shape.{Shape, part_of}
 use Rattle.persist_model.specs.ImageRecords.{IsWellFormed}
 use Rattle.persist_model.specs.Need.{to_undo, need_of, has_kind_of}
 use Rattle.persist_model.specs.State.{State, IsSoundState}
-use Rattle.log_laws.specs.Appending.{MayCome}
-use Rattle.log_laws.specs.Recovery.{AreApplied, IsCovered, Appends, IsOfLoser, IsStored, grown, Step, rolls_back, compensates, ends}
+use Rattle.log_laws.specs.StateAppends.{MayCome}
+use Rattle.log_laws.specs.Recovery.{AreApplied, HasDecidingRecord, Appends, IsOfLoser, IsStored, grown, Step, rolls_back, compensates, ends}
 use Rattle.log_laws.specs.Recovering.{with_heap}
 use Rattle.log_laws.proofs.Deciding.{decide_equal}
 use Rattle.log_laws.proofs.Growing.{Descends, numbered, one_before}
@@ -22,7 +22,7 @@ use Rattle.bucket_log.proofs.PartStates.{less_here, less_elsewhere}
 use Rattle.recovery_run.specs.Reached.{with_value}
 use Rattle.recovery_run.proofs.Coming.{compensation_may_come, rollback_may_come}
 use Rattle.recovery_undo.specs.Numbers.{next_lsn}
-use Rattle.recovery_undo.specs.Passing.{IsNote, IsUndoing}
+use Rattle.recovery_undo.specs.UndoProgress.{IsNote, IsUndoing}
 use Rattle.recovery_undo.specs.Records.{compensation_of, plain_record}
 
 -- ---- a record takes the next number and a cell of its part
@@ -185,7 +185,7 @@ module _ (shape : Shape) (t part : ℕ) (y z : State) (few : 1 ≤ shape.partiti
 
   -- ---- a store of an OLD
 
-  pub covers : (u : Record) → IsAmong z.log u → IsUpdate u → u.transaction ≡ t → IsCovered shape.policy z.log u.word
+  pub covers : (u : Record) → IsAmong z.log u → IsUpdate u → u.transaction ≡ t → HasDecidingRecord shape.policy z.log u.word
   covers u m is owner = inl (u, m, (is, refl, subst (λ x. IsRunning z.log x) (sym owner) h.running))
 
   pub stored : (u : Record) → IsAmong z.log u → IsUpdate u → u.transaction ≡ t → IsUndoing shape t part y (with_heap z (with_value z.words u.word u.before))

@@ -18,13 +18,13 @@ use Rattle.atomic_list.proofs.RulesToCases.{list_of_rules}
 use Rattle.atomic_list.proofs.Walks.{chain_of_list}
 use Rattle.region_layout.specs.declared.layout.Layout.{Layout}
 use Rattle.region_layout.specs.declared.layout.Buckets.{Buckets}
-use Rattle.region_layout.specs.Layout.{layout_shape, IsAllowed, IsPart}
+use Rattle.region_layout.specs.Layout.{layout_shape, IsAllowed, IsPartition}
 use Rattle.region_layout.proofs.Headers.{shapes_are_read}
 use Rattle.bucket_log.specs.declared.append.Place.{Place}
 use Rattle.bucket_log.specs.Places.{IsPlaceBy, IsNextPlace}
 use Rattle.bucket_log.specs.Reads.{IsLogOfPart, IsLeastOutside}
 use Rattle.bucket_log.proofs.Addresses.{bucket_above, list_word_is_log_word}
-use Rattle.bucket_log.proofs.Appending.{Each-among}
+use Rattle.bucket_log.proofs.AppendImages.{Each-among}
 use Rattle.bucket_log.proofs.Appended.{inside_log, view_room, next_places_take}
 use Rattle.bucket_log.proofs.Partitions.{few_parts, bucket_word_below, log_word_out, part_word_below, registers_below}
 use Rattle.log_partition.specs.Used.{chains_in}
@@ -33,7 +33,7 @@ use Rattle.log_partition.specs.Merging.{AreLogsOf}
 use Rattle.log_partition.proofs.Views.{viewed-is, length-viewed, view_shape, out_below}
 use Rattle.recovery_run.specs.Reached.{newest_at, HasReached, IsQuiet}
 use Rattle.recovery_run.proofs.Reaching.{has_state}
-use Rattle.recovery_undo.specs.Appending.{IsPlaceFor}
+use Rattle.recovery_undo.specs.RecoveryAppends.{IsPlaceFor}
 
 -- ---- the next place
 
@@ -91,7 +91,7 @@ module _ (layout : Layout) (first y : State) (region : Region) (h : HasReached (
       by_case (appending front node a e) = (let above = bucket_above shape p node a.bucket in let is : node ≡ 0 = sym a.to_append ∙ is_zero 2 (omega arith) quiet.0 in absurd (omega (arith, above, is)))
       by_case (removing front node rest a e) = (let above = bucket_above shape p node a.bucket in let is : node ≡ 0 = sym a.to_remove ∙ is_zero 4 (omega arith) quiet.1 in absurd (omega (arith, above, is)))
 
-  module _ (p : ℕ) (lt : p < layout.partitions) (row : List ℕ) (is : row ≡ viewed p (newest_words region)) (part : Buckets) (is_part : IsPart shape p part) (found : Option Place) where
+  module _ (p : ℕ) (lt : p < layout.partitions) (row : List ℕ) (is : row ≡ viewed p (newest_words region)) (part : Buckets) (is_part : IsPartition shape p part) (found : Option Place) where
     seen_in : SameLog (view p w) (view p logged)
     seen_in a below =
         let inside : out_address p a < heap shape = subst (λ s. out_address p a < heap s) h.header.shape_is (out_below p a (heap (shape_of w)) (few_parts shape p allowed lt) (omega arith) below) in
@@ -130,7 +130,7 @@ module _ (layout : Layout) (first y : State) (region : Region) (h : HasReached (
     here_is : chain_of shape (view p logged) ≡ has.chains p
     here_is = (chain_of_list shape p (view p logged) (has.chains p) lt (list_in p lt)).0
 
-    pub found_next : (place : Place) → ((v : Words) (q : ℕ) → SameLog (slice_index row) v → IsPart shape q part → IsNextPlace shape q v (chain_of shape v) place) →
+    pub found_next : (place : Place) → ((v : Words) (q : ℕ) → SameLog (slice_index row) v → IsPartition shape q part → IsNextPlace shape q v (chain_of shape v) place) →
         IsNextPlace shape p (view p logged) (has.chains p) place
     found_next place tells = subst (λ chain. IsNextPlace shape p (view p logged) chain place) here_is (tells (view p logged) p seen is_part)
 
@@ -138,7 +138,7 @@ module _ (layout : Layout) (first y : State) (region : Region) (h : HasReached (
     room_is = ap (room_of shape (view p logged) p) here_is ∙ view_room shape p logged (has.chains p) (chain_buckets p lt) ∙ sym (has.room p lt)
 
     -- where there is room there is a next place
-    pub found_some : ((v : Words) (q : ℕ) → SameLog (slice_index row) v → IsPart shape q part → (found ≡ None) ↔ (room_of shape v q (chain_of shape v) ≡ 0)) → 1 ≤ y.room p →
+    pub found_some : ((v : Words) (q : ℕ) → SameLog (slice_index row) v → IsPartition shape q part → (found ≡ None) ↔ (room_of shape v q (chain_of shape v) ≡ 0)) → 1 ≤ y.room p →
         found ≡ None → ⊥
     found_some tells some nothing = let empty : room_of shape (view p logged) p (chain_of shape (view p logged)) ≡ 0 = (tells (view p logged) p seen is_part).0 nothing in
         let e = room_is in omega (arith, empty, e, some)

@@ -22,8 +22,8 @@ use Rattle.bucket_log.specs.Places.{IsPlaceBy}
 use Rattle.bucket_log.specs.Plans.{closing, cell_plan, insertion_of, append_plan, append_events, place_address}
 use Rattle.bucket_log.proofs.Addresses.{bucket_above}
 use Rattle.bucket_log.proofs.AppendPlans.{appends_have_events}
-use Rattle.bucket_log.proofs.Appending.{Each-among, among_last, closing_stores}
-use Rattle.recovery_run.specs.Edges.{StoreElsewhere, HasOneValue}
+use Rattle.bucket_log.proofs.AppendImages.{Each-among, among_last, closing_stores}
+use Rattle.recovery_run.specs.Edges.{StoreElsewhere, HasOnlyValue}
 use Rattle.recovery_run.proofs.Aside.{plan_keeps}
 use Rattle.recovery_run.proofs.Making.{past_end}
 
@@ -137,7 +137,7 @@ after_both lane region [] ys = refl
 after_both lane region (x ∷ xs) ys = after_both lane (after region lane x) xs ys
 
 -- a value that was stored and fenced is the only one
-settled_value : (region : Region) (a v : ℕ) → HasOneValue v ((after (after region RECOVERY (PStore a v)) RECOVERY Fence).at a)
+settled_value : (region : Region) (a v : ℕ) → HasOnlyValue v ((after (after region RECOVERY (PStore a v)) RECOVERY Fence).at a)
 settled_value region a v x k = by_test (a == a) (let on : (a == a) ≡ true = grind (arith, nat_tests) in on) k
   where
     by_test : (t : Bool) → t ≡ true → IsCandidate (fenced (RECOVERY + 1) (if t then region.at a ++ candidate v (RECOVERY + 1) ∷ [] else region.at a)) x → x ≡ v
@@ -156,8 +156,8 @@ late place =
 abbrev front_of : ℕ → Place → List Event
 front_of cells place = closing place.bucket cells ++ late place
 
-pub to_append_zero : (cells p : ℕ) (place : Place) (r : Record) (region : Region) → p < 3 → IsBehind place → r.at ≡ place_address place → HasOneValue 0 (region.at (list_words p + 2)) →
-    HasOneValue 0 ((after_plan RECOVERY region (map (out_event p) (append_plan cells place r))).at (list_words p + 2))
+pub to_append_zero : (cells p : ℕ) (place : Place) (r : Record) (region : Region) → p < 3 → IsBehind place → r.at ≡ place_address place → HasOnlyValue 0 (region.at (list_words p + 2)) →
+    HasOnlyValue 0 ((after_plan RECOVERY region (map (out_event p) (append_plan cells place r))).at (list_words p + 2))
 to_append_zero cells p place r region few h at one = by_test place.fresh
   where
     away : StoreElsewhere (list_words p + 2) (map (out_event p) (cell_plan r))
@@ -175,7 +175,7 @@ to_append_zero cells p place r region few h at one = by_test place.fresh
     split = append_assoc (closing place.bucket cells) (insertion (insertion_of place)) (cell_plan r)
         ∙ sym (append_assoc (closing place.bucket cells) (late place) (PStore 10 0 ∷ Fence ∷ cell_plan r))
 
-    by_test : (fresh : Bool) → HasOneValue 0 ((after_plan RECOVERY region (map (out_event p) ((if fresh then closing place.bucket cells ++ insertion (insertion_of place) else []) ++ cell_plan r))).at (list_words p + 2))
+    by_test : (fresh : Bool) → HasOnlyValue 0 ((after_plan RECOVERY region (map (out_event p) ((if fresh then closing place.bucket cells ++ insertion (insertion_of place) else []) ++ cell_plan r))).at (list_words p + 2))
     by_test false = plan_keeps RECOVERY region (map (out_event p) (cell_plan r)) (list_words p + 2) 0 away one
     by_test true =
         let before : Region = after_plan RECOVERY region (map (out_event p) (front_of cells place)) in
@@ -184,7 +184,7 @@ to_append_zero cells p place r region few h at one = by_test place.fresh
         ap (λ es. after_plan RECOVERY region (map (out_event p) es)) split
         ∙ ap (after_plan RECOVERY region) (map-append (out_event p) (front_of cells place) (PStore 10 0 ∷ Fence ∷ cell_plan r))
         ∙ after_both RECOVERY region (map (out_event p) (front_of cells place)) (PStore (list_words p + 2) 0 ∷ Fence ∷ map (out_event p) (cell_plan r)) in
-        subst (λ (z : Region). HasOneValue 0 (z.at (list_words p + 2))) (sym whole)
+        subst (λ (z : Region). HasOnlyValue 0 (z.at (list_words p + 2))) (sym whole)
         (plan_keeps RECOVERY (after (after before RECOVERY (PStore (list_words p + 2) 0)) RECOVERY Fence) (map (out_event p) (cell_plan r)) (list_words p + 2) 0 away
         (settled_value before (list_words p + 2) 0))
 

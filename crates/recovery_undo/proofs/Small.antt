@@ -28,9 +28,9 @@ use Rattle.recovery_run.specs.Groups.{ListsAll}
 use Rattle.recovery_run.specs.Reached.{newest_at, HasSettled, IsQuiet}
 use Rattle.recovery_run.proofs.ClosingPart.{same_heap}
 use Rattle.recovery_run.proofs.Reaching.{read_newest, settled_begins, settled_reached}
-use Rattle.recovery_undo.specs.Appending.{AreQuiet}
+use Rattle.recovery_undo.specs.RecoveryAppends.{AreQuiet}
 use Rattle.recovery_undo.specs.Checkpoint.{CanCheckpoint}
-use Rattle.recovery_undo.specs.Images.{small, narrow, Pair, word_in, words_in, running, running_narrow, running_log, record_with, HasRunningGates, IsTested}
+use Rattle.recovery_undo.specs.UndoRegions.{small, narrow, Pair, word_in, words_in, running, running_narrow, running_log, record_with, HasRunningGates, IsTested}
 use Rattle.recovery_undo.specs.Undoing.{CanUndo, IsUndone}
 use Rattle.recovery_undo.proofs.Places.{logs_of}
 

@@ -7,8 +7,8 @@ use Rattle.persist_model.specs.Shape.{Shape, words_of_shape, part_of, IsHeapWord
 use Rattle.persist_model.specs.Need.{to_undo, need_of}
 use Rattle.persist_model.specs.State.{State}
 use Rattle.lane_traits.specs.declared.device.Done.TheVariants.{Made, Stopped}
-use Rattle.log_laws.specs.Appending.{MayCome}
-use Rattle.log_laws.specs.Recovery.{IsCovered, grown}
+use Rattle.log_laws.specs.StateAppends.{MayCome}
+use Rattle.log_laws.specs.Recovery.{HasDecidingRecord, grown}
 use Rattle.log_laws.specs.Recovering.{with_heap}
 use Rattle.log_laws.specs.Parts.{EachKeeps}
 use Rattle.region_layout.specs.declared.cell.Cell.{Cell}
@@ -20,12 +20,12 @@ use Rattle.bucket_log.specs.States.{less_room}
 use Rattle.recovery_run.specs.declared.gates.Gates.{Gates}
 use Rattle.recovery_run.specs.Reached.{with_value, HasReached}
 use Rattle.recovery_undo.specs.declared.target.Target.{Target}
-use Rattle.recovery_undo.specs.Appending.{AreQuiet, with_cell}
+use Rattle.recovery_undo.specs.RecoveryAppends.{AreQuiet, with_cell}
 use Rattle.recovery_undo.specs.Numbers.{next_lsn}
 use Rattle.recovery_undo.specs.Records.{compensation_of}
-use Rattle.recovery_undo.specs.Passing.{IsPassing, Seen, HasSpent, Start, HasGone, CanNote, Passes, Halts}
+use Rattle.recovery_undo.specs.UndoProgress.{IsPassing, Seen, HasSpent, Start, HasGone, CanNote, Passes, Halts}
 use Rattle.recovery_undo.proofs.Noting.{compensation_comes, compensation_less, covers}
-use Rattle.recovery_undo.proofs.Passing.{passed_among, pass_other, pass_compensation, pass_update, top_is, pass_compensates}
+use Rattle.recovery_undo.proofs.UndoPass.{passed_among, pass_other, pass_compensation, pass_update, top_is, pass_compensates}
 use Rattle.recovery_undo.proofs.Going.{spent_more, few_partitions, halts, store_spare}
 
 -- ---- a record less to pass, and a store
@@ -132,7 +132,7 @@ module _ (target : Target) (start : Start) (u : Record) (left : Log) (next : ℕ
     pub word_inside : u.word < now.region.size
     word_inside = let below = heap_word.1 in let size : now.region.size ≡ words_of_shape shape = h.gone.reached.come.size in omega (arith, below, size)
 
-    pub covered : IsCovered (layout_shape target.layout).policy h.state.log u.word
+    pub covered : HasDecidingRecord (layout_shape target.layout).policy h.state.log u.word
     covered = covers shape t target.partition start.state y (few_partitions target start y (length (u ∷ left)) next gates now h.gone) h.passing.undoing u in_log is (h.passing.among u (inl refl)).1.0
 
     pub spare_one : 1 ≤ now.spare
@@ -169,7 +169,7 @@ pub passes_at : (target : Target) (start : Start) (left : Log) (n m next : ℕ) 
 passes_at target start left n m next gates now e h = subst (λ k. Passes target start left k next gates now) e h
 
 abbrev pub no_placed : Placed
-no_placed = record { at = 0; cell = record { gate = 0; transaction = 0; kind = 0; address = 0; before = 0; after = 0; undo_next = 0; outcome = 0 } }
+no_placed = record { at = 0; cell = record { lsn = 0; transaction = 0; kind = 0; word = 0; before = 0; after = 0; undo_next = 0; outcome = 0 } }
 
 -- the first records, newest first: the last of them, and those before it
 pub newest_of : (xs : List Placed) (i n : ℕ) (d : Placed) → i < length xs → n ≡ i + 1 → reverse (map record_of_placed (take n xs)) ≡ record_of_placed (get_or xs i d) ∷ reverse (map record_of_placed (take i xs))

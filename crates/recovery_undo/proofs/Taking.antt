@@ -8,7 +8,7 @@ use Rattle.persist_model.specs.Shape.{Shape, log_words, list_words, part_of, IsB
 use Rattle.persist_model.specs.Chain.{view}
 use Rattle.persist_model.specs.State.{State}
 use Rattle.lane_traits.specs.Device.{IsWithin}
-use Rattle.log_laws.specs.Appending.{IsAppend}
+use Rattle.log_laws.specs.StateAppends.{IsAppend}
 use Rattle.log_laws.specs.MoveRoom.{TakesCell}
 use Rattle.log_laws.specs.Recovering.{RECOVERY}
 use Rattle.log_laws.specs.Parts.{after_plan}
@@ -23,14 +23,14 @@ use Rattle.bucket_log.specs.Places.{IsPlaceBy}
 use Rattle.bucket_log.specs.Plans.{place_address}
 use Rattle.bucket_log.specs.States.{less_room}
 use Rattle.bucket_log.proofs.Appended.{appends_are_states, appends_take_cell}
-use Rattle.bucket_log.proofs.Appending.{Each-among}
+use Rattle.bucket_log.proofs.AppendImages.{Each-among}
 use Rattle.bucket_log.proofs.Partitions.{few_parts, part_of_cell}
-use Rattle.recovery_run.specs.Edges.{StoreElsewhere, HasOneValue, KeepsWords, IsHeaderWord, AreOffHeader}
+use Rattle.recovery_run.specs.Edges.{StoreElsewhere, HasOnlyValue, KeepsWords, IsPlainHeaderWord, AreOffHeader}
 use Rattle.recovery_run.specs.Reached.{newest_at, IsQuiet}
 use Rattle.recovery_run.proofs.Aside.{plan_keeps}
 use Rattle.recovery_run.proofs.Composing.{size_plan}
 use Rattle.recovery_run.proofs.Reaching.{log_word_one, read_newest, newest_one}
-use Rattle.recovery_undo.specs.Appending.{CanTake, IsPlaceFor}
+use Rattle.recovery_undo.specs.RecoveryAppends.{CanTake, IsPlaceFor}
 use Rattle.recovery_undo.proofs.Places.{allowed, has}
 use Rattle.recovery_undo.proofs.Planned.{IsBehind, behind, elsewhere, to_append_zero, all_within}
 
@@ -57,7 +57,7 @@ lists_apart p q i few few_q le ne = elim (list_words_cases p few) [
 ]
 
 -- words that can be nothing but 0 are read as 0
-pub reads_zero : (region : Region) (a : ℕ) → a < region.size → 0 < length (region.at a) → HasOneValue 0 (region.at a) → newest_at region a ≡ 0
+pub reads_zero : (region : Region) (a : ℕ) → a < region.size → 0 < length (region.at a) → HasOnlyValue 0 (region.at a) → newest_at region a ≡ 0
 reads_zero region a lt some one = read_newest region a lt ∙ newest_one (region.at a) 0 some one
 
 module _ (layout : Layout) (p : ℕ) (cell : Cell) (first y : State) (region : Region) (can : CanTake layout p cell first y region)
@@ -107,20 +107,20 @@ module _ (layout : Layout) (p : ℕ) (cell : Cell) (first y : State) (region : R
   within = all_within shape region.size (let e = can.reached.come.size in omega (arith, e)) (region_append shape p place r) is_append.on_log
 
   pub keeps_header : (later : Region) → KeepsWords (λ a. StoreElsewhere a (region_append (layout_shape layout) p place (record_of (place_address place) cell))) region later →
-      KeepsWords (IsHeaderWord (layout_shape layout)) region later
+      KeepsWords (IsPlainHeaderWord (layout_shape layout)) region later
   keeps_header later keeps a v is one = keeps a v (off_header a is) one
 
   -- ---- the recovery words
 
-  one_zero : (a : ℕ) → a < 32 → w a ≡ 0 → HasOneValue 0 (region.at a)
-  one_zero a low is = subst (λ v. HasOneValue v (region.at a)) is (log_word_one shape first y region can.reached a (omega (arith, low)))
+  one_zero : (a : ℕ) → a < 32 → w a ≡ 0 → HasOnlyValue 0 (region.at a)
+  one_zero a low is = subst (λ v. HasOnlyValue v (region.at a)) is (log_word_one shape first y region can.reached a (omega (arith, low)))
 
   stays_zero : (later : Region) → later ≡ after_plan RECOVERY region (region_append shape p place r) → ((a : ℕ) → 0 < length (later.at a)) → (a : ℕ) → a < 32 →
-      HasOneValue 0 ((after_plan RECOVERY region (region_append shape p place r)).at a) → newest_at later a ≡ 0
+      HasOnlyValue 0 ((after_plan RECOVERY region (region_append shape p place r)).at a) → newest_at later a ≡ 0
   stays_zero later is some a low one =
       let same : later.size ≡ region.size = ap (λ (z : Region). z.size) is ∙ size_plan RECOVERY region (region_append shape p place r) in
       let enough : 32 ≤ region.size = can.reached.header.header.enough in
-      reads_zero later a (omega (arith, low, same, enough)) (some a) (subst (λ (z : Region). HasOneValue 0 (z.at a)) (sym is) one)
+      reads_zero later a (omega (arith, low, same, enough)) (some a) (subst (λ (z : Region). HasOnlyValue 0 (z.at a)) (sym is) one)
 
   pub stays_quiet : (later : Region) → later ≡ after_plan RECOVERY region (region_append (layout_shape layout) p place (record_of (place_address place) cell)) →
       ((a : ℕ) → 0 < length (later.at a)) → (q : ℕ) → q < layout.partitions → IsQuiet q (newest_at region) → IsQuiet q (newest_at later)
@@ -128,7 +128,7 @@ module _ (layout : Layout) (p : ℕ) (cell : Cell) (first y : State) (region : R
       let few_q = few_parts shape q ok lt in
       let low = list_words_few q few_q in (
         stays_zero later is some (list_words q + 2) (omega (arith, low)) (elim (eqb_tells q p) [
-          | inl e ↦ subst (λ n. HasOneValue 0 ((after_plan RECOVERY region (region_append shape p place r)).at (list_words n + 2))) (sym e.1)
+          | inl e ↦ subst (λ n. HasOnlyValue 0 ((after_plan RECOVERY region (region_append shape p place r)).at (list_words n + 2))) (sym e.1)
               (to_append_zero shape.cells p place r region few stands_behind refl (one_zero (list_words p + 2) (let l = list_words_few p few in omega (arith, l)) can.quiet.0))
           | inr ne ↦ kept (list_words q + 2) (omega (arith, low)) quiet.0 (apart 2 few_q (omega arith) ne.1)
         ]),
@@ -138,7 +138,7 @@ module _ (layout : Layout) (p : ℕ) (cell : Cell) (first y : State) (region : R
         ])),
       )
     where
-      kept : (a : ℕ) → a < 32 → w a ≡ 0 → (a < list_words p) ⊎ (list_words p + 3 < a) → HasOneValue 0 ((after_plan RECOVERY region (region_append shape p place r)).at a)
+      kept : (a : ℕ) → a < 32 → w a ≡ 0 → (a < list_words p) ⊎ (list_words p + 3 < a) → HasOnlyValue 0 ((after_plan RECOVERY region (region_append shape p place r)).at a)
       kept a low none off = plan_keeps RECOVERY region (region_append shape p place r) a 0 (away a low off) (one_zero a low none)
 
       apart : (i : ℕ) → q < 3 → i ≤ 4 → q ≢ p → (list_words q + i < list_words p) ⊎ (list_words p + 3 < list_words q + i)

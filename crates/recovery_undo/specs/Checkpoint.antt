@@ -10,7 +10,7 @@ use Rattle.region_layout.specs.declared.layout.Layout.{Layout}
 use Rattle.region_layout.specs.Layout.{layout_shape, policy_number}
 use Rattle.recovery_run.specs.declared.gates.Gates.{Gates}
 use Rattle.recovery_run.specs.Reached.{HasSettled}
-use Rattle.recovery_undo.specs.Appending.{AreQuiet}
+use Rattle.recovery_undo.specs.RecoveryAppends.{AreQuiet}
 use Rattle.recovery_undo.specs.Numbers.{next_lsn}
 use Rattle.recovery_undo.specs.Undoing.{AreGatesOf}
 

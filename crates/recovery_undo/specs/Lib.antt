@@ -1,7 +1,7 @@
 pub mod Numbers
 pub mod Records
-pub mod Appending
+pub mod RecoveryAppends
 pub mod Undoing
-pub mod Passing
+pub mod UndoProgress
 pub mod Checkpoint
-pub mod Images
+pub mod UndoRegions

@@ -2,6 +2,7 @@
 use Rattle.std.specs.Prelude.{◌≡◌, ◌≢◌, ℕ, ◌+◌, ◌*◌, ◌≤◌, List, ◌++◌, length, map, reverse}
 use Rattle.std.specs.Vec.{vec_len, vec_capacity}
 use Rattle.persist_model.specs.Region.{Region}
+use Rattle.persist_model.specs.Kinds.{ROLLED_BACK}
 use Rattle.persist_model.specs.Records.{Record, Log, IsAmong, Has, IsOf, IsEndOf, IsLoser}
 use Rattle.persist_model.specs.Need.{need_of}
 use Rattle.persist_model.specs.State.{State, IsSoundState}
@@ -13,7 +14,7 @@ use Rattle.bucket_log.specs.Scans.{record_of_placed}
 use Rattle.recovery_run.specs.declared.gates.Gates.{Gates}
 use Rattle.recovery_run.specs.Groups.{records_of, ListsAll}
 use Rattle.recovery_run.specs.Reached.{HasSettled}
-use Rattle.recovery_undo.specs.Appending.{AreQuiet}
+use Rattle.recovery_undo.specs.RecoveryAppends.{AreQuiet}
 use Rattle.recovery_undo.specs.Numbers.{next_lsn}
 
 -- the most events of the undo: an append of each record that it needs, a store for each update, and a fence
@@ -55,7 +56,7 @@ pub record IsUndone (layout : Layout) (t : ℕ) (before : Gates) (first y : Stat
   pub news : Log
   pub log : state.log ≡ news ++ y.log
   pub mine : (r : Record) → IsAmong news r → IsOf t r
-  pub ended : Has (λ e. IsEndOf t e × (e.outcome ≡ 2)) news
+  pub ended : Has (λ e. IsEndOf t e × (e.outcome ≡ ROLLED_BACK)) news
   pub count : length news ≡ need_of y.log t
   -- no other transaction is touched
   pub others : (u : ℕ) → u ≢ t → records_of u state.log ≡ records_of u y.log

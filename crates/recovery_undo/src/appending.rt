@@ -11,13 +11,13 @@ ghost use Rattle.bucket_log.specs.Appends.{region_append};
 ghost use Rattle.bucket_log.specs.Plans.{place_address};
 ghost use Rattle.bucket_log.specs.States.{less_room};
 ghost use Rattle.log_partition.specs.Used.{FitsBuckets, KnowsChains};
-ghost use Rattle.recovery_run.specs.Edges.{HasCounted, KeepsWords, IsHeaderWord};
+ghost use Rattle.recovery_run.specs.Edges.{HasCounted, KeepsWords, IsPlainHeaderWord};
 ghost use Rattle.recovery_run.specs.Reached.{newest_at, HasReached, HasSettled, IsQuiet};
-ghost use Rattle.recovery_undo.specs.Appending.{CanTake, IfAt, done_of, with_cell, MayTake, StepsTo, IsPlaceFor, KnowsRegion, chains_behind};
+ghost use Rattle.recovery_undo.specs.RecoveryAppends.{CanTake, IfAt, done_of, with_cell, MayTake, StepsTo, IsPlaceFor, KnowsRegion, chains_behind};
 
 use bucket_log::{Place, append_event, place_with};
 use lane_traits::{Device, Done};
-use log_partition::{PartView, UsedBuckets, out};
+use log_partition::{PartView, UsedBuckets, region_event};
 use persist_model::Event;
 use recovery_run::{Plan, append};
 use region_layout::{Cell, Layout};
@@ -51,7 +51,7 @@ impl Plan for CellAppend {
             return None;
         }
         match append_event(self.layout, self.place, &self.cell, i as u32) {
-            Some(event) => Some(out(self.partition, event)),
+            Some(event) => Some(region_event(self.partition, event)),
             None => None,
         }
     }
@@ -118,7 +118,7 @@ pub fn append_record<D: Device>(
         → HasSettled (layout_shape layout) first y (D.cells device.old) → StepsTo layout p cell.now y → EachKeeps (layout_shape layout) first (D.cells device.new) }
     ensures counted { HasCounted (layout.cells + 21) (done_of result) (D.counts device.old) (D.counts device.new) }
     ensures spare { D.spare device.old ≤ D.spare device.new + (layout.cells + 21) }
-    ensures header { KeepsWords (IsHeaderWord (layout_shape layout)) (D.cells device.old) (D.cells device.new) }
+    ensures header { KeepsWords (IsPlainHeaderWord (layout_shape layout)) (D.cells device.old) (D.cells device.new) }
     ensures table { IfAt result (λ at. KnowsRegion layout table.new (D.cells device.new)) }
 {
     let next = next_place(device, layout, p, table);

@@ -3,15 +3,15 @@ ghost use Rattle.std.specs.Prelude.{◌≡◌, ◌≤◌, ◌+◌, ℕ};
 ghost use Rattle.persist_model.specs.State.{State};
 ghost use Rattle.log_laws.specs.Parts.{EachKeeps};
 ghost use Rattle.region_layout.specs.Layout.{layout_shape};
-ghost use Rattle.recovery_run.specs.Edges.{HasCounted, KeepsWords, IsHeaderWord};
-ghost use Rattle.recovery_undo.specs.Appending.{KnowsRegion};
+ghost use Rattle.recovery_run.specs.Edges.{HasCounted, KeepsWords, IsPlainHeaderWord};
+ghost use Rattle.recovery_undo.specs.RecoveryAppends.{KnowsRegion};
 ghost use Rattle.recovery_undo.specs.Checkpoint.{CanCheckpoint, IsCheckpointed};
 
 use crate::appending::{Appended, append_record};
 use crate::target::plain_cell;
 use lane_traits::{Device, Done};
 use log_partition::UsedBuckets;
-use recovery_run::{Gates, put};
+use recovery_run::{Gates, put_gate};
 use region_layout::Layout;
 
 /// Appends a checkpoint record to the first partition, once nothing runs and each word has its standing value: from then on
@@ -33,14 +33,14 @@ pub fn append_checkpoint<D: Device>(
         → EachKeeps (layout_shape layout) first (D.cells device.new) }
     ensures counted { HasCounted (layout.cells + 21) result (D.counts device.old) (D.counts device.new) }
     ensures spare { D.spare device.old ≤ D.spare device.new + (layout.cells + 21) }
-    ensures header { KeepsWords (IsHeaderWord (layout_shape layout)) (D.cells device.old) (D.cells device.new) }
+    ensures header { KeepsWords (IsPlainHeaderWord (layout_shape layout)) (D.cells device.old) (D.cells device.new) }
     ensures table { result ≡ Done.Made → KnowsRegion layout table.new (D.cells device.new) }
 {
     let cell = plain_cell(0, *next, 5, 0);
     match append_record(device, layout, 0, &cell, table) {
         Appended::Stopped => Done::Stopped,
         Appended::At(at) => {
-            put(&mut gates.checkpoints, at);
+            put_gate(&mut gates.checkpoints, at);
             *next += 1;
             Done::Made
         }

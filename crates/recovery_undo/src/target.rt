@@ -15,14 +15,14 @@ pub(crate) struct Target {
 }
 
 // The cell of a record that names no word.
-pub(crate) fn plain_cell(transaction: u64, gate: u64, kind: u64, outcome: u64) -> Cell
-    ensures { (at : ℕ) → record_of at result ≡ plain_record at gate transaction kind outcome }
+pub(crate) fn plain_cell(transaction: u64, lsn: u64, kind: u64, outcome: u64) -> Cell
+    ensures { (at : ℕ) → record_of at result ≡ plain_record at lsn transaction kind outcome }
 {
     Cell {
-        gate,
+        lsn,
         transaction,
         kind,
-        address: 0,
+        word: 0,
         before: 0,
         after: 0,
         undo_next: 0,
@@ -31,14 +31,14 @@ pub(crate) fn plain_cell(transaction: u64, gate: u64, kind: u64, outcome: u64) -
 }
 
 // The cell of an update's compensation.
-pub(crate) fn compensation_cell(transaction: u64, gate: u64, update: &Cell) -> Cell
-    ensures { (at from : ℕ) → record_of at result ≡ compensation_of transaction (record_of from update.now) at gate }
+pub(crate) fn compensation_cell(transaction: u64, lsn: u64, update: &Cell) -> Cell
+    ensures { (at from : ℕ) → record_of at result ≡ compensation_of transaction (record_of from update.now) at lsn }
 {
     Cell {
-        gate,
+        lsn,
         transaction,
         kind: 2,
-        address: update.address,
+        word: update.word,
         before: update.after,
         after: update.before,
         undo_next: update.undo_next,

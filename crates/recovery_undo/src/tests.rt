@@ -4,9 +4,9 @@ ghost use Rattle.persist_model.specs.Region.{loaded};
 ghost use Rattle.persist_model.specs.State.{State};
 ghost use Rattle.region_layout.specs.Layout.{layout_shape};
 ghost use Rattle.bucket_log.specs.Scans.{record_of_placed};
-ghost use Rattle.recovery_undo.specs.Appending.{KnowsRegion};
+ghost use Rattle.recovery_undo.specs.RecoveryAppends.{KnowsRegion};
 ghost use Rattle.recovery_undo.specs.Checkpoint.{CanCheckpoint};
-ghost use Rattle.recovery_undo.specs.Images.{small, narrow, word_in, words_in, running, running_narrow, record_with, HasRunningGates, IsTested};
+ghost use Rattle.recovery_undo.specs.UndoRegions.{small, narrow, word_in, words_in, running, running_narrow, record_with, HasRunningGates, IsTested};
 
 use crate::{append_checkpoint, undo};
 use bucket_log::Placed;
@@ -14,7 +14,7 @@ use lane_traits::{Device, Done};
 use log_partition::UsedBuckets;
 use persist_model::Look;
 use persist_model::format::{COMPENSATION, DELETION, UPDATE};
-use recovery_run::{Gates, put};
+use recovery_run::{Gates, put_gate};
 use region_layout::{Cell, Layout, Policy};
 use std::alloc::Global;
 use std::process::Abort;
@@ -194,22 +194,22 @@ fn table_of<D: Device>(alloc: Global, device: &D, layout: Layout) -> Result<Used
 // A record of the transaction that isn't an end.
 fn record(
     at: u32,
-    gate: u64,
+    lsn: u64,
     kind: u64,
-    address: u64,
+    word: u64,
     before: u64,
     after: u64,
     undo_next: u64,
 ) -> Placed
-    ensures { record_of_placed result ≡ record_with at gate kind address before after undo_next }
+    ensures { record_of_placed result ≡ record_with at lsn kind word before after undo_next }
 {
     Placed {
         at,
         cell: Cell {
-            gate,
+            lsn,
             transaction: 1,
             kind,
-            address,
+            word,
             before,
             after,
             undo_next,
@@ -223,10 +223,10 @@ fn small_gates(alloc: Global) -> Result<Gates, Fail>
     ensures { IfOk result (λ gates. HasRunningGates gates) }
 {
     let mut gates = Gates::with_memory(alloc, 6, 1, 1)?;
-    put(&mut gates.gates, 40);
-    put(&mut gates.gates, 56);
-    put(&mut gates.gates, 88);
-    put(&mut gates.gates, 104);
+    put_gate(&mut gates.gates, 40);
+    put_gate(&mut gates.gates, 56);
+    put_gate(&mut gates.gates, 88);
+    put_gate(&mut gates.gates, 104);
     Ok(gates)
 }
 

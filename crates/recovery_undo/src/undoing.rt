@@ -8,17 +8,17 @@ ghost use Rattle.log_laws.specs.Parts.{EachKeeps};
 ghost use Rattle.region_layout.specs.Layout.{layout_shape};
 ghost use Rattle.bucket_log.specs.Scans.{record_of_placed};
 ghost use Rattle.recovery_run.specs.declared.gates.Gates.{Gates as GatesOf};
-ghost use Rattle.recovery_run.specs.Edges.{HasCounted, KeepsWords, IsHeaderWord};
-ghost use Rattle.recovery_undo.specs.Appending.{with_cell, KnowsRegion, KeepsLogWords};
+ghost use Rattle.recovery_run.specs.Edges.{HasCounted, KeepsWords, IsPlainHeaderWord};
+ghost use Rattle.recovery_undo.specs.RecoveryAppends.{with_cell, KnowsRegion, KeepsLogWords};
 ghost use Rattle.recovery_undo.specs.Undoing.{undo_events, CanUndo, IsUndone};
-ghost use Rattle.recovery_undo.specs.Passing.{seen, Start, HasGone, CanNote, Begins, Passes, Finishes, Halts};
+ghost use Rattle.recovery_undo.specs.UndoProgress.{seen, Start, HasGone, CanNote, Begins, Passes, Finishes, Halts};
 
 use crate::appending::{Appended, append_record};
 use crate::target::{Target, compensation_cell, plain_cell};
 use bucket_log::{Placed, part_of};
 use lane_traits::{Device, Done};
 use log_partition::UsedBuckets;
-use recovery_run::{Gates, fence, put, store};
+use recovery_run::{Gates, fence, put_gate, store};
 use region_layout::{Cell, Layout};
 
 // Appends a compensation or a rollback record.
@@ -45,7 +45,7 @@ fn append_note<D: Device>(
     match append_record(device, target.layout, target.partition, cell, table) {
         Appended::Stopped => Done::Stopped,
         Appended::At(at) => {
-            put(&mut gates.gates, at);
+            put_gate(&mut gates.gates, at);
             *next += 1;
             Done::Made
         }
@@ -122,7 +122,7 @@ fn store_old<D: Device>(device: &mut D, target: Target, update: &Placed) -> Done
         → Halts target start (seen (D.cells device.new) (D.counts device.new) (D.spare device.new)) }
     ensures log_words { result ≡ Done.Made → KeepsLogWords (layout_shape target.layout) (D.cells device.old) (D.cells device.new) }
 {
-    let word = update.cell.address as u32;
+    let word = update.cell.word as u32;
     store(device, word, update.cell.before)
 }
 
@@ -258,7 +258,7 @@ fn finish<D: Device>(
     match append_record(device, target.layout, target.partition, &cell, table) {
         Appended::Stopped => Done::Stopped,
         Appended::At(at) => {
-            put(&mut gates.ends, at);
+            put_gate(&mut gates.ends, at);
             *next += 1;
             Done::Made
         }
@@ -318,7 +318,7 @@ pub fn undo<D: Device>(
         → HasCounted (undo_events layout transaction records.now y.log) result (D.counts device.old) (D.counts device.new) }
     ensures spare { (first y : State) → CanUndo layout transaction records.now next.old gates.old first y (D.cells device.old) (D.spare device.old)
         → D.spare device.old ≤ D.spare device.new + undo_events layout transaction records.now y.log }
-    ensures header { KeepsWords (IsHeaderWord (layout_shape layout)) (D.cells device.old) (D.cells device.new) }
+    ensures header { KeepsWords (IsPlainHeaderWord (layout_shape layout)) (D.cells device.old) (D.cells device.new) }
     ensures table { result ≡ Done.Made → KnowsRegion layout table.new (D.cells device.new) }
 {
     let target = Target {

@@ -17,10 +17,10 @@ word_at w at (suc (suc (suc (suc (suc (suc (suc (suc i)))))))) h = absurd (omega
 
 same_cell : (c d : Cell) → ((i : ℕ) → i < 8 → word_of_cell c i ≡ word_of_cell d i) → c ≡ d
 same_cell c d same =
-    ap (λ x. record c { gate = x }) (same 0 (omega arith))
-    ∙ ap (λ x. record c { gate = d.gate; transaction = x }) (same 1 (omega arith))
-    ∙ ap (λ x. record c { gate = d.gate; transaction = d.transaction; kind = x }) (same 2 (omega arith))
-    ∙ ap (λ x. record c { gate = d.gate; transaction = d.transaction; kind = d.kind; address = x }) (same 3 (omega arith))
+    ap (λ x. record c { lsn = x }) (same 0 (omega arith))
+    ∙ ap (λ x. record c { lsn = d.lsn; transaction = x }) (same 1 (omega arith))
+    ∙ ap (λ x. record c { lsn = d.lsn; transaction = d.transaction; kind = x }) (same 2 (omega arith))
+    ∙ ap (λ x. record c { lsn = d.lsn; transaction = d.transaction; kind = d.kind; word = x }) (same 3 (omega arith))
     ∙ ap (λ x. record d { before = x; after = c.after; undo_next = c.undo_next; outcome = c.outcome }) (same 4 (omega arith))
     ∙ ap (λ x. record d { after = x; undo_next = c.undo_next; outcome = c.outcome }) (same 5 (omega arith))
     ∙ ap (λ x. record d { undo_next = x; outcome = c.outcome }) (same 6 (omega arith))

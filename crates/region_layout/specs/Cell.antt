@@ -9,10 +9,10 @@ use Rattle.region_layout.specs.declared.cell.Cell.{Cell}
 abbrev pub record_of : ℕ → Cell → Record
 record_of at cell = record {
   at = at;
-  lsn = cell.gate;
+  lsn = cell.lsn;
   transaction = cell.transaction;
   kind = cell.kind;
-  word = cell.address;
+  word = cell.word;
   before = cell.before;
   after = cell.after;
   undo_next = cell.undo_next;
@@ -22,10 +22,10 @@ record_of at cell = record {
 -- the eight words from this address
 abbrev pub cell_at : Words → ℕ → Cell
 cell_at w at = record {
-  gate = w at;
+  lsn = w at;
   transaction = w (at + 1);
   kind = w (at + 2);
-  address = w (at + 3);
+  word = w (at + 3);
   before = w (at + 4);
   after = w (at + 5);
   undo_next = w (at + 6);
@@ -35,10 +35,10 @@ cell_at w at = record {
 -- word i of a cell, for i below 8
 abbrev pub word_of_cell : Cell → ℕ → ℕ
 word_of_cell cell i =
-    if i == 0 then cell.gate else
+    if i == 0 then cell.lsn else
     (if i == 1 then cell.transaction else
     (if i == 2 then cell.kind else
-    (if i == 3 then cell.address else
+    (if i == 3 then cell.word else
     (if i == 4 then cell.before else
     (if i == 5 then cell.after else
     (if i == 6 then cell.undo_next else cell.outcome))))))

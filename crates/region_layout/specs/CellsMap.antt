@@ -2,7 +2,7 @@
 use Rattle.std.specs.Prelude.{◌≡◌, ℕ, ◌+◌, Option, Some, None, if◌then◌else◌, ◌==◌, nat_lt, refl}
 use Rattle.persist_model.specs.Region.{Words}
 use Rattle.lane_traits.specs.Space.{Land, IsOwn}
-use Rattle.region_layout.specs.FiniteMap.{FiniteMap, IsAscending, lookup}
+use Rattle.region_layout.specs.FiniteMap.{FiniteMap, HasAscendingKeys, lookup}
 
 -- the keys are the numbers below this one
 abbrev pub CELL_KEYS : ℕ
@@ -22,7 +22,7 @@ cell_value w root key = if nat_lt key CELL_KEYS then value_or_none (w (cell_of r
 pub record IsCellsMap (land : Land) (w : Words) (root : ℕ) (contents : FiniteMap) : Type 0 where
   pub root_own : IsOwn land root
   pub alone : (b : ℕ) → IsOwn land b → b ≡ root
-  pub ascending : IsAscending contents
+  pub ascending : HasAscendingKeys contents
   pub lookup_is : (key : ℕ) → lookup key contents ≡ cell_value w root key
 
 -- ---- small cells: keys 0 and 11 of a root block at address 16

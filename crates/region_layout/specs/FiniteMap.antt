@@ -27,9 +27,9 @@ AreAfter key [] = Unit {0}
 AreAfter key (p ∷ ps) = (key < p.0) × AreAfter key ps
 
 -- each key is smaller than those behind it
-abbrev pub IsAscending : FiniteMap → Type 0
-IsAscending [] = Unit {0}
-IsAscending (p ∷ ps) = AreAfter p.0 ps × IsAscending ps
+abbrev pub HasAscendingKeys : FiniteMap → Type 0
+HasAscendingKeys [] = Unit {0}
+HasAscendingKeys (p ∷ ps) = AreAfter p.0 ps × HasAscendingKeys ps
 
 -- the values are at least 1
 abbrev pub HasValues : FiniteMap → Type 0

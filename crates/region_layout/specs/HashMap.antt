@@ -4,7 +4,7 @@ use Rattle.persist_model.specs.Region.{Words}
 use Rattle.persist_model.specs.Records.{IsAmong}
 use Rattle.persist_model.specs.Chain.{HasNoRepeats}
 use Rattle.lane_traits.specs.Space.{Land, IsOwn}
-use Rattle.region_layout.specs.FiniteMap.{FiniteMap, IsAscending, lookup}
+use Rattle.region_layout.specs.FiniteMap.{FiniteMap, HasAscendingKeys, lookup}
 
 abbrev pub CHAINS : ℕ
 CHAINS = 64
@@ -97,7 +97,7 @@ pub record IsHash (land : Land) (w : Words) (root : ℕ) (chains : Chains) : Typ
 pub record IsHashMap (land : Land) (w : Words) (root : ℕ) (contents : FiniteMap) : Type 0 where
   pub chains : Chains
   pub is : IsHash land w root chains
-  pub ascending : IsAscending contents
+  pub ascending : HasAscendingKeys contents
   pub lookup_is : (key : ℕ) → lookup key contents ≡ lookup key (pairs (chains (chain_number key)))
 
 -- ---- the chains of small keys and of the largest

@@ -49,8 +49,8 @@ abbrev pub IsDataWord : Shape → ℕ → Type 0
 IsDataWord shape a = IsHeapWord shape a × (a ≢ block shape (block_number shape a))
 
 -- the buckets of a partition
-abbrev pub IsPart : Shape → ℕ → Buckets → Type 0
-IsPart shape p part = (part.first ≡ first_bucket shape p) × (part.count ≡ count_buckets shape p)
+abbrev pub IsPartition : Shape → ℕ → Buckets → Type 0
+IsPartition shape p part = (part.first ≡ first_bucket shape p) × (part.count ≡ count_buckets shape p)
 
 abbrev pub IsInPart : Buckets → ℕ → Type 0
 IsInPart part j = (part.first ≤ j) × (j < part.first + part.count)

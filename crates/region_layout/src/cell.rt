@@ -7,10 +7,10 @@ use persist_model::Look;
 /// The words of a record, in order. A gate of 0 is a closed cell, another is the record's number.
 #[derive(Clone, Copy, Debug, PartialEq, Eq)]
 pub struct Cell {
-    pub gate: u64,
+    pub lsn: u64,
     pub transaction: u64,
     pub kind: u64,
-    pub address: u64,
+    pub word: u64,
     pub before: u64,
     pub after: u64,
     pub undo_next: u64,
@@ -25,10 +25,10 @@ pub fn read_cell<W: Look>(words: &W, at: u32) -> Cell
     let size = words.size();
     prove!(at < size);
     Cell {
-        gate: words.word(at),
+        lsn: words.word(at),
         transaction: words.word(at + 1),
         kind: words.word(at + 2),
-        address: words.word(at + 3),
+        word: words.word(at + 3),
         before: words.word(at + 4),
         after: words.word(at + 5),
         undo_next: words.word(at + 6),
@@ -42,10 +42,10 @@ pub fn cell_word(cell: &Cell, i: u32) -> u64
     ensures { result ≡ word_of_cell cell.now i }
 {
     match i {
-        0 => cell.gate,
+        0 => cell.lsn,
         1 => cell.transaction,
         2 => cell.kind,
-        3 => cell.address,
+        3 => cell.word,
         4 => cell.before,
         5 => cell.after,
         6 => cell.undo_next,

@@ -51,7 +51,7 @@ pub struct Buckets {
 impl Layout {
     ghost use Rattle.std.specs.Prelude.{◌↔◌};
     ghost use Rattle.persist_model.specs.Shape.{bucket_size, bucket, heap, block, words_of_shape, IsHeapWord};
-    ghost use Rattle.region_layout.specs.Layout.{layout_shape, block_number, IsDataWord, IsPart};
+    ghost use Rattle.region_layout.specs.Layout.{layout_shape, block_number, IsDataWord, IsPartition};
     ghost use Rattle.region_layout.specs.Apart.{IsWordOfBlock};
 
     /// How many words the region has.
@@ -104,7 +104,7 @@ impl Layout {
     /// The buckets of a partition of the log.
     pub fn part(&self, p: u32) -> Buckets
         requires { p < self.now.partitions }
-        ensures { IsPart (layout_shape self.now) p result }
+        ensures { IsPartition (layout_shape self.now) p result }
     {
         let each = self.buckets / self.partitions;
         let first = p * each;

@@ -28,7 +28,7 @@ use Rattle.rewind_script.specs.Load.{drawn_list, drawn_put, drawn_transaction, t
 use Rattle.rewind_script.proofs.Stages.{apart_lane}
 use Rattle.rewind_script.proofs.Keeping.{put_second, put_third, put_structure, begin_set, begin_limit, begun, closed, lane_of}
 use Rattle.rewind_script.proofs.Plain.{are_small, number-decimal}
-use Rattle.rewind_script.proofs.Passing.{Passes, pass-nothing, pass-both, pass-line, pass-literal, at}
+use Rattle.rewind_script.proofs.FaultlessTexts.{Passes, pass-nothing, pass-both, pass-line, pass-literal, at}
 
 -- ---- lines
 

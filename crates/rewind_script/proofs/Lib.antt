@@ -5,6 +5,6 @@ pub mod Stages
 pub mod Keeping
 pub mod Draws
 pub mod Plain
-pub mod Passing
+pub mod FaultlessTexts
 pub mod Generated
 pub mod Examples

@@ -14,4 +14,4 @@ pub mod Needing
 pub mod PartsTried
 pub mod RoomRead
 pub mod LogTried
-pub mod Images
+pub mod TriedImages

@@ -47,10 +47,10 @@ open_tells part rows whole newest t are is e = any_has (λ r. (r.kind ≢ 5) × 
 
 -- ---- numbers
 
-pub numbers_tell : (shape : Shape) (rows : List Placed) (n : ℕ) (t : Bool) → IsDrawn shape (log_of_rows rows) n → t ≡ list_any (λ (r : Placed). nat_lt (2 ^ 63) (r.cell.gate + n)) rows →
+pub numbers_tell : (shape : Shape) (rows : List Placed) (n : ℕ) (t : Bool) → IsDrawn shape (log_of_rows rows) n → t ≡ list_any (λ (r : Placed). nat_lt (2 ^ 63) (r.cell.lsn + n)) rows →
     ((not t) ≡ true) ↔ ((r : Record) → IsAmong (log_of_rows rows) r → HasNumbers shape (log_of_rows rows) r)
 numbers_tell shape rows n t drawn e =
-    as_told (not t) _ _ (not_true t _ (any_has (λ r. 2 ^ 63 < r.lsn + n) _ rows t e (λ x. less_true (2 ^ 63) (x.cell.gate + n))))
+    as_told (not t) _ _ (not_true t _ (any_has (λ r. 2 ^ 63 < r.lsn + n) _ rows t e (λ x. less_true (2 ^ 63) (x.cell.lsn + n))))
     (λ none r m. numbers r (λ over. none (r, m, over)))
     (λ h over. back over.0 (h over.0 over.1) over.2)
   where

@@ -20,7 +20,7 @@ use Rattle.atomic_list.proofs.Walks.{chain_of_list}
 use Rattle.atomic_list.proofs.Parts.{parts_fit}
 use Rattle.region_layout.specs.declared.layout.Layout.{Layout}
 use Rattle.region_layout.specs.declared.layout.Buckets.{Buckets}
-use Rattle.region_layout.specs.Layout.{layout_shape, IsPart}
+use Rattle.region_layout.specs.Layout.{layout_shape, IsPartition}
 use Rattle.bucket_log.specs.Reads.{IsLogOfPart}
 use Rattle.bucket_log.proofs.Rooms.{closed_below, room_same}
 use Rattle.log_partition.specs.Views.{viewed}
@@ -29,7 +29,7 @@ use Rattle.log_partition.proofs.Views.{length-viewed, viewed-is, view_shape}
 use Rattle.log_partition.proofs.Merged.{same_seen}
 use Rattle.sound_check.proofs.Buckets.{few_cells}
 
-pub log_of_part : (layout : Layout) (p : ℕ) (xs row : List ℕ) (part : Buckets) → p < layout.partitions → AreLogsOf layout (length xs) (slice_index xs) → IsPart (layout_shape layout) p part → row ≡ viewed p xs →
+pub log_of_part : (layout : Layout) (p : ℕ) (xs row : List ℕ) (part : Buckets) → p < layout.partitions → AreLogsOf layout (length xs) (slice_index xs) → IsPartition (layout_shape layout) p part → row ≡ viewed p xs →
     IsLogOfPart layout part (length row) (slice_index row)
 log_of_part layout p xs row part lt logs is_part is =
     subst (λ ys. IsLogOfPart layout part (length ys) (slice_index ys)) (sym is)
@@ -65,9 +65,9 @@ view_room shape p z chain rules = room_same shape (view p z) z p chain (λ c bel
     far : last_or 0 chain ≢ 0 → (c : ℕ) → 12 < cell_address (last_or 0 chain) c
     far ne c = elim link [ inl e ↦ absurd (ne e) | inr is ↦ (let high = above_header shape p (last_or 0 chain) is in omega (arith, high)) ]
 
-pub room_is_state : (layout : Layout) (p : ℕ) (xs row : List ℕ) (part : Buckets) (s : State) (n : ℕ) → p < layout.partitions → AreLogsOf layout (length xs) (slice_index xs) → IsPart (layout_shape layout) p part →
+pub room_is_state : (layout : Layout) (p : ℕ) (xs row : List ℕ) (part : Buckets) (s : State) (n : ℕ) → p < layout.partitions → AreLogsOf layout (length xs) (slice_index xs) → IsPartition (layout_shape layout) p part →
     row ≡ viewed p xs → HasState (layout_shape layout) (slice_index xs) s →
-    ((w : Words) (q : ℕ) → SameLog (slice_index row) w → IsPart (layout_shape layout) q part → n ≡ room_of (layout_shape layout) w q (chain_of (layout_shape layout) w)) → n ≡ s.room p
+    ((w : Words) (q : ℕ) → SameLog (slice_index row) w → IsPartition (layout_shape layout) q part → n ≡ room_of (layout_shape layout) w q (chain_of (layout_shape layout) w)) → n ≡ s.room p
 room_is_state layout p xs row part s n lt logs is_part is has read =
     read v p (same_seen layout p xs row (slice_index xs) lt logs is (λ a below. refl)) is_part
     ∙ ap (room_of (layout_shape layout) v p) chain_is ∙ view_room (layout_shape layout) p z (has.chains p) (has.lists p lt).rules ∙ sym (has.room p lt)
@@ -92,8 +92,8 @@ room_bound shape w p chain =
       | inr e ↦ rw e.0 (omega (arith, fewer, closed))
     ]
 
-pub room_small : (layout : Layout) (p : ℕ) (row : List ℕ) (part : Buckets) (n : ℕ) → p < layout.partitions → IsPart (layout_shape layout) p part →
-    ((w : Words) (q : ℕ) → SameLog (slice_index row) w → IsPart (layout_shape layout) q part → n ≡ room_of (layout_shape layout) w q (chain_of (layout_shape layout) w)) → n < 2 ^ 63
+pub room_small : (layout : Layout) (p : ℕ) (row : List ℕ) (part : Buckets) (n : ℕ) → p < layout.partitions → IsPartition (layout_shape layout) p part →
+    ((w : Words) (q : ℕ) → SameLog (slice_index row) w → IsPartition (layout_shape layout) q part → n ≡ room_of (layout_shape layout) w q (chain_of (layout_shape layout) w)) → n < 2 ^ 63
 room_small layout p row part n lt is_part read =
     let e = read (slice_index row) p (λ a below. refl) is_part in
     let bound = room_bound (layout_shape layout) (slice_index row) p (chain_of (layout_shape layout) (slice_index row)) in

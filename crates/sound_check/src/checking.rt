@@ -10,7 +10,7 @@ ghost use Rattle.sound_check.specs.Faulty.{IfUnsound};
 ghost use Rattle.sound_check.specs.declared.fault.CheckFault.TheVariants.{NoMemory as NoRoom};
 
 use crate::fault::CheckFault;
-use crate::lists::try_lists;
+use crate::list_rules::try_lists;
 use crate::log_rules::try_log;
 use bucket_log::Placed;
 use log_partition::merge;

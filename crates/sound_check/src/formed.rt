@@ -98,7 +98,7 @@ fn is_formed(layout: Layout, r: &Placed) -> bool
     if kind < UPDATE || kind > DELETION {
         return false;
     }
-    if !may_be_of(kind, r.cell.transaction) || !may_name(layout, kind, r.cell.address) {
+    if !may_be_of(kind, r.cell.transaction) || !may_name(layout, kind, r.cell.word) {
         return false;
     }
     may_come_out(kind, r.cell.outcome)

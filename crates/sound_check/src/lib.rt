@@ -5,7 +5,7 @@ mod addresses;
 mod checking;
 mod fault;
 mod formed;
-mod lists;
+mod list_rules;
 mod log_rules;
 mod log_words;
 mod numbers;

@@ -86,12 +86,12 @@ fn newest_checkpoint(rows: &[Placed]) -> u64
 
 // The same behind a record.
 fn newest_behind(s: &Placed, newest: u64) -> u64
-    ensures { (n : ℕ) → nat_lt n result ≡ (((s.now.cell.kind == 5) && nat_lt n s.now.cell.gate) || nat_lt n newest) }
+    ensures { (n : ℕ) → nat_lt n result ≡ (((s.now.cell.kind == 5) && nat_lt n s.now.cell.lsn) || nat_lt n newest) }
 {
     if s.cell.kind != CHECKPOINT {
         return newest;
     }
-    newest.max(s.cell.gate)
+    newest.max(s.cell.lsn)
 }
 
 // Whether a transaction's end is older than the newest checkpoint record.
@@ -174,9 +174,9 @@ fn exceeds(number: u64, count: u64) -> bool
 
 // Whether so many numbers behind some record are too many.
 fn is_exceeded(rows: &[Placed], count: u64) -> bool
-    ensures { result ≡ list_any (λ r. nat_lt (2 ^ 63) (r.cell.gate + count)) rows.now }
+    ensures { result ≡ list_any (λ r. nat_lt (2 ^ 63) (r.cell.lsn + count)) rows.now }
 {
-    rows.iter().any(|r| exceeds(r.cell.gate, count))
+    rows.iter().any(|r| exceeds(r.cell.lsn, count))
 }
 
 /// Whether recovery draws numbers up to the greatest one at most, by the transactions of these records.

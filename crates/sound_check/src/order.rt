@@ -59,7 +59,7 @@ fn is_barred(past: &Past, r: &Placed) -> bool
         → IsTrue result ↔ (NamesWord (record_of_placed r.now) × Has (IsClaim log (record_of_placed r.now)) earlier) }
 {
     let named = names_word(r);
-    let claimed = past.is_claimed(r.cell.address, r.cell.transaction);
+    let claimed = past.is_claimed(r.cell.word, r.cell.transaction);
     named && claimed
 }
 
@@ -84,7 +84,7 @@ fn compensates(r: &Placed, u: &Placed) -> bool
 {
     u.cell.transaction == r.cell.transaction
         && u.cell.kind == UPDATE
-        && r.cell.address == u.cell.address
+        && r.cell.word == u.cell.word
         && r.cell.before == u.cell.after
         && r.cell.after == u.cell.before
         && r.cell.undo_next == u.cell.undo_next
@@ -115,7 +115,7 @@ fn undoes_well(past: &Past, own: Summary, r: &Placed) -> bool
 {
     match r.cell.kind {
         UPDATE => {
-            let last = past.last_new(r.cell.transaction, r.cell.address, r.cell.before);
+            let last = past.last_new(r.cell.transaction, r.cell.word, r.cell.before);
             updates_well(own, r, last)
         }
         DELETION | ROLLBACK => !own.has_rollback,
@@ -130,7 +130,7 @@ fn follows(layout: Layout, whole: &Summaries, past: &Past, r: &Placed) -> bool
         → IsPast (part_of_shape (layout_shape layout)) (is_barring_of log) past.now earlier
         → IsTrue result ↔ Follows (part_of_shape (layout_shape layout)) log earlier (record_of_placed r.now) }
 {
-    if has_number(past, r.cell.gate) {
+    if has_number(past, r.cell.lsn) {
         return false;
     }
     if r.cell.kind == CHECKPOINT {

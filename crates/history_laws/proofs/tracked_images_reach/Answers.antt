@@ -1,4 +1,4 @@
-use Rattle.history_laws.proofs.Images as lemmas
+use Rattle.history_laws.proofs.ImagesStand as lemmas
 use Rattle.history_laws.proofs.tracked_images_reach.Goals as goal
 
 pub returns : goal.returns

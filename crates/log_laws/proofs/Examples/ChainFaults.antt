@@ -3,7 +3,7 @@ use Rattle.std.proofs.Common.{◌∷◌, refl}
 use Rattle.persist_model.specs.Faults.{IsFirstFault}
 use Rattle.log_laws.proofs.Soundness.{shape_some, parts_some}
 use Rattle.log_laws.proofs.Verdicts.{word, words_of, lists_fault}
-use Rattle.log_laws.proofs.Examples.Images.{simple, cell, update}
+use Rattle.log_laws.proofs.Examples.LiteralImages.{simple, cell, update}
 use Rattle.log_laws.proofs.Examples.FirstScript.{first}
 use Rattle.log_laws.proofs.Examples.Chains.{inserting, removing}
 

@@ -9,7 +9,7 @@ use Rattle.log_laws.proofs.Soundness.{shape_some, parts_some, chains_in}
 use Rattle.log_laws.proofs.RecordSorting.{log_of}
 use Rattle.log_laws.proofs.LogFaults.{log_some}
 use Rattle.log_laws.proofs.Verdicts.{word, words_of, is_sound, chain_at, chain_of_list, no_other_chain, visit_at}
-use Rattle.log_laws.proofs.Examples.Images.{simple}
+use Rattle.log_laws.proofs.Examples.LiteralImages.{simple}
 use Rattle.log_laws.proofs.Examples.FirstScript.{the_update, first}
 
 -- ---- bucket 48 is put behind bucket 32

@@ -12,7 +12,7 @@ use Rattle.log_laws.proofs.RecordSorting.{log_of}
 use Rattle.log_laws.proofs.LogFaults.{log_some, decide_of}
 use Rattle.log_laws.proofs.Standings.{stands_some}
 use Rattle.log_laws.proofs.Verdicts.{word, words_of, is_sound, log_fault, stands_at, chain_at, sound_has_no}
-use Rattle.log_laws.proofs.Examples.Images.{simple, second_simple, header, ends, cell, update}
+use Rattle.log_laws.proofs.Examples.LiteralImages.{simple, second_simple, header, ends, cell, update}
 
 abbrev pub the_update : Record
 the_update = update 40 1 1 103 0 7 0

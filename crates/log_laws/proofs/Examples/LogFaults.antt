@@ -6,7 +6,7 @@ use Rattle.log_laws.proofs.Soundness.{shape_some, parts_some, chains_in}
 use Rattle.log_laws.proofs.RecordSorting.{log_of}
 use Rattle.log_laws.proofs.LogFaults.{log_some}
 use Rattle.log_laws.proofs.Verdicts.{word, words_of, is_sound, log_fault}
-use Rattle.log_laws.proofs.Examples.Images.{simple, bucketed, header, ends, cell, update, compensation, rollback, ending, checkpoint, deletion}
+use Rattle.log_laws.proofs.Examples.LiteralImages.{simple, bucketed, header, ends, cell, update, compensation, rollback, ending, checkpoint, deletion}
 use Rattle.log_laws.proofs.Examples.FirstScript.{first}
 
 -- ---- records

@@ -9,7 +9,7 @@ use Rattle.log_laws.proofs.Soundness.{shape_some, parts_some, chains_in}
 use Rattle.log_laws.proofs.RecordSorting.{log_of}
 use Rattle.log_laws.proofs.LogFaults.{log_some}
 use Rattle.log_laws.proofs.Verdicts.{word, words_of, is_sound, log_fault, stands_at}
-use Rattle.log_laws.proofs.Examples.Images.{bucketed, header, ends, cell, update, compensation, rollback, ending, checkpoint, deletion}
+use Rattle.log_laws.proofs.Examples.LiteralImages.{bucketed, header, ends, cell, update, compensation, rollback, ending, checkpoint, deletion}
 
 -- an image with these cells and heap words
 abbrev image : ℕ → (List (ℕ × ℕ) → List (ℕ × ℕ)) → List (ℕ × ℕ) → List (ℕ × ℕ)

@@ -4,7 +4,7 @@ use Rattle.persist_model.specs.Records.{Log, IsEnded, IsRunning, IsCommitted, Is
 use Rattle.persist_model.specs.State.{HasOpen}
 use Rattle.log_laws.proofs.Deciding.{from_yes, from_no, decide_ended, decide_running, decide_committed, decide_skipped}
 use Rattle.log_laws.proofs.LogFaults.{decide_open}
-use Rattle.log_laws.proofs.Examples.Images.{update, rollback, ending, checkpoint}
+use Rattle.log_laws.proofs.Examples.LiteralImages.{update, rollback, ending, checkpoint}
 
 -- transaction 1 is committed, 2 rolled back, 3 runs
 abbrev log : Log

@@ -10,7 +10,7 @@ use Rattle.log_laws.proofs.Soundness.{shape_some, parts_some, chains_in}
 use Rattle.log_laws.proofs.RecordSorting.{log_of}
 use Rattle.log_laws.proofs.LogFaults.{log_some}
 use Rattle.log_laws.proofs.Verdicts.{word, words_of, is_sound, log_fault, lists_fault, stands_at, chain_at}
-use Rattle.log_laws.proofs.Examples.Images.{cell, update}
+use Rattle.log_laws.proofs.Examples.LiteralImages.{cell, update}
 
 abbrev pub two_parts : Shape
 two_parts = record { policy = 1; cells = 1; buckets = 8; blocks = 16; structures = 2; format = 2; partitions = 2 }

@@ -1,6 +1,6 @@
 ghost use Rattle.std.specs.Prelude.{◌≡◌, ◌+◌, ◌<◌, ◌≤◌, OnOk};
 ghost use Rattle.lane_traits.specs.Space.{Space};
-ghost use Rattle.persist_tree.specs.Calls.{IsMap};
+ghost use Rattle.persist_tree.specs.Calls.{HoldsMap};
 
 use crate::tests::memory::{Memory, fresh};
 use crate::{get, needs, put, remove, walk};
@@ -18,8 +18,8 @@ enum Step {
 }
 
 fn made(rt: &impl Abort, words: &mut Draft<Memory>, step: Step) -> Result<Option<u64>, WordsRefusal>
-    requires { IsMap (⟦<Draft<Memory> as Reads>⟧.space words.old) 16 }
-    ensures { OnOk result (IsMap (⟦<Draft<Memory> as Reads>⟧.space words.new) 16) }
+    requires { HoldsMap (⟦<Draft<Memory> as Reads>⟧.space words.old) 16 }
+    ensures { OnOk result (HoldsMap (⟦<Draft<Memory> as Reads>⟧.space words.new) 16) }
 {
     match step {
         Step::Put(key, value) => {
@@ -37,8 +37,8 @@ fn follow(
     words: &mut Draft<Memory>,
     steps: &[(Step, Option<u64>)],
 ) -> Result<(), WordsRefusal>
-    requires { IsMap (⟦<Draft<Memory> as Reads>⟧.space words.old) 16 }
-    ensures { OnOk result (IsMap (⟦<Draft<Memory> as Reads>⟧.space words.new) 16) }
+    requires { HoldsMap (⟦<Draft<Memory> as Reads>⟧.space words.old) 16 }
+    ensures { OnOk result (HoldsMap (⟦<Draft<Memory> as Reads>⟧.space words.new) 16) }
 {
     for (step, want) in steps {
         let got = made(rt, words, *step)?;
@@ -49,7 +49,7 @@ fn follow(
 
 // The pairs of the map.
 fn pairs(alloc: Global, words: &mut Draft<Memory>) -> Result<Vec<(u64, u64)>, Fail>
-    requires { IsMap (⟦<Draft<Memory> as Reads>⟧.space words.old) 16 }
+    requires { HoldsMap (⟦<Draft<Memory> as Reads>⟧.space words.old) 16 }
     ensures { ⟦<Draft<Memory> as Reads>⟧.space words.new ≡ ⟦<Draft<Memory> as Reads>⟧.space words.old }
 {
     let found = walk(alloc, words, 16)?;

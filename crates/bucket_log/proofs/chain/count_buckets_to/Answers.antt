@@ -8,22 +8,22 @@ use Rattle.bucket_log.proofs.Walking.{in_chain, next_is, good_chain, walk_node, 
 use Rattle.bucket_log.proofs.chain.count_buckets_to.Goals.{then-next-bucket, else-next-bucket}
 use Rattle.bucket_log.proofs.chain.count_buckets_to.Goals as goal
 
-pub after-next-requires-clause-node : goal.after-next-requires-clause-node
-after-next-requires-clause-node g c = in_chain c.args.layout (length (g.W.Look.words c.args.words.now)) (slice_index (g.W.Look.words c.args.words.now)) c.loop.last c.requires
+pub next_bucket-next-requires-clause-node : goal.next_bucket-next-requires-clause-node
+next_bucket-next-requires-clause-node g c = in_chain c.args.layout (length (g.W.Look.words c.args.words.now)) (slice_index (g.W.Look.words c.args.words.now)) c.loop.last c.requires
     (walk_node (λ front. c.loop.count ≡ count_to c.args.bucket front) (chain_of (layout_shape c.args.layout) (slice_index (g.W.Look.words c.args.words.now))) c.loop.last c.loop.counter c.loop.invariant.walked)
 
 pub loop-preserved : goal.loop-preserved
 loop-preserved g c =
     let good = good_chain c.args.layout (length (g.W.Look.words c.args.words.now)) (slice_index (g.W.Look.words c.args.words.now)) c.requires in
-    let on = walk_goes_to (layout_shape c.args.layout) c.requires.has_list.part (λ front. c.loop.count ≡ count_to c.args.bucket front) (λ front. c.if-next-bucket.count ≡ count_to c.args.bucket front) (chain_of (layout_shape c.args.layout) (slice_index (g.W.Look.words c.args.words.now))) c.loop.last c.loop.counter c.after-next.result
-    good c.loop.invariant.walked (next_is c.args.layout (length (g.W.Look.words c.args.words.now)) (slice_index (g.W.Look.words c.args.words.now)) c.loop.last c.after-next.result c.requires c.after-next.ensures.next) c.if-next-eq0.false in
+    let on = walk_goes_to (layout_shape c.args.layout) c.requires.has_list.part (λ front. c.loop.count ≡ count_to c.args.bucket front) (λ front. c.if-next-bucket.count ≡ count_to c.args.bucket front) (chain_of (layout_shape c.args.layout) (slice_index (g.W.Look.words c.args.words.now))) c.loop.last c.loop.counter c.next_bucket-next.result
+    good c.loop.invariant.walked (next_is c.args.layout (length (g.W.Look.words c.args.words.now)) (slice_index (g.W.Look.words c.args.words.now)) c.loop.last c.next_bucket-next.result c.requires c.next_bucket-next.ensures.next) c.if-next-eq0.false in
     elim c.if-next-bucket.branch [
       | then-next-bucket w ↦ record {
-        walked = on (λ h. w.count-is ∙ count_more c.args.bucket c.after-next.result c.loop.invariant.walked.front c.loop.count h w.if-next-bucket.true);
+        walked = on (λ h. w.count-is ∙ count_more c.args.bucket c.next_bucket-next.result c.loop.invariant.walked.front c.loop.count h w.if-next-bucket.true);
         few = (let e = w.count-is in let f = c.loop.invariant.few in omega (arith, e, f));
       }
       | else-next-bucket w ↦ record {
-        walked = on (λ h. w.count-is ∙ count_same c.args.bucket c.after-next.result c.loop.invariant.walked.front c.loop.count h w.if-next-bucket.false);
+        walked = on (λ h. w.count-is ∙ count_same c.args.bucket c.next_bucket-next.result c.loop.invariant.walked.front c.loop.count h w.if-next-bucket.false);
         few = (let e = w.count-is in let f = c.loop.invariant.few in omega (arith, e, f));
       }
     ]
@@ -35,5 +35,5 @@ returns-after-loop g c =
 
 pub returns-then-next-eq0 : goal.returns-then-next-eq0
 returns-then-next-eq0 g c =
-    (walk_stops (layout_shape c.args.layout) c.requires.has_list.part (λ front. c.loop.count ≡ count_to c.args.bucket front) (chain_of (layout_shape c.args.layout) (slice_index (g.W.Look.words c.args.words.now))) c.loop.last c.loop.counter c.after-next.result
-    (good_chain c.args.layout (length (g.W.Look.words c.args.words.now)) (slice_index (g.W.Look.words c.args.words.now)) c.requires) c.loop.invariant.walked (next_is c.args.layout (length (g.W.Look.words c.args.words.now)) (slice_index (g.W.Look.words c.args.words.now)) c.loop.last c.after-next.result c.requires c.after-next.ensures.next) c.if-next-eq0.true).holds
+    (walk_stops (layout_shape c.args.layout) c.requires.has_list.part (λ front. c.loop.count ≡ count_to c.args.bucket front) (chain_of (layout_shape c.args.layout) (slice_index (g.W.Look.words c.args.words.now))) c.loop.last c.loop.counter c.next_bucket-next.result
+    (good_chain c.args.layout (length (g.W.Look.words c.args.words.now)) (slice_index (g.W.Look.words c.args.words.now)) c.requires) c.loop.invariant.walked (next_is c.args.layout (length (g.W.Look.words c.args.words.now)) (slice_index (g.W.Look.words c.args.words.now)) c.loop.last c.next_bucket-next.result c.requires c.next_bucket-next.ensures.next) c.if-next-eq0.true).holds

@@ -2,9 +2,9 @@ use Rattle.std.proofs.Common.{◌*◌, ◌-◌, ◌≤◌, sym, ap, ◌∙◌, a
 use Rattle.std.specs.Prelude.{slice_get}
 use Rattle.std.proofs.lemmas.Option.{slice_get_past}
 use Rattle.region_layout.specs.declared.layout.Policy.TheVariants.{Force}
-use Rattle.bucket_log.specs.declared.parts.Part.{Part}
-use Rattle.bucket_log.specs.declared.parts.Part.TheVariants.{Append, Fence, Clear}
-use Rattle.plan_records.specs.declared.cells.Outcome.TheVariants.{RolledBack}
+use Rattle.plan_records.specs.declared.parts.Part.{Part}
+use Rattle.plan_records.specs.declared.parts.Part.TheVariants.{Append, Fence, Clear}
+use Rattle.persist_model.specs.declared.kinds.Outcome.TheVariants.{RolledBack}
 use Rattle.plan_records.specs.Cells.{cell_of_rollback, cell_of_end}
 use Rattle.plan_records.proofs.PartNumbers.{behind_undo, undo_within}
 use Rattle.force_policy.proofs.ending.abort_part.Goals as goal

@@ -6,39 +6,39 @@ use Rattle.bucket_log.proofs.Walking.{in_chain, next_is, next_among, bucket_insi
 use Rattle.log_clearing.proofs.ClosedBuckets.{AreOpen, found, none_before, none_at_all, walk_on}
 use Rattle.log_clearing.proofs.dropping.read_removal.Goals as goal
 
-pub after-node-requires-clause-node : goal.after-node-requires-clause-node
-after-node-requires-clause-node g c = in_chain c.args.layout (length (g.W.Look.words c.args.words.now)) (slice_index (g.W.Look.words c.args.words.now)) c.loop.prev c.requires
+pub next_bucket-node-requires-clause-node : goal.next_bucket-node-requires-clause-node
+next_bucket-node-requires-clause-node g c = in_chain c.args.layout (length (g.W.Look.words c.args.words.now)) (slice_index (g.W.Look.words c.args.words.now)) c.loop.prev c.requires
     (walk_node (AreOpen (layout_shape c.args.layout) (slice_index (g.W.Look.words c.args.words.now))) (chain_of (layout_shape c.args.layout) (slice_index (g.W.Look.words c.args.words.now))) c.loop.prev c.loop.counter c.loop.invariant)
 
 pub is_closed-requires-clause-bucket : goal.is_closed-requires-clause-bucket
-is_closed-requires-clause-bucket g c = bucket_inside c.args.layout (length (g.W.Look.words c.args.words.now)) (slice_index (g.W.Look.words c.args.words.now)) c.after-node.result c.requires
-    (next_among c.args.layout (length (g.W.Look.words c.args.words.now)) (slice_index (g.W.Look.words c.args.words.now)) c.after-node.result c.requires c.after-node.ensures.in_chain c.if-node-eq0.false)
+is_closed-requires-clause-bucket g c = bucket_inside c.args.layout (length (g.W.Look.words c.args.words.now)) (slice_index (g.W.Look.words c.args.words.now)) c.next_bucket-node.result c.requires
+    (next_among c.args.layout (length (g.W.Look.words c.args.words.now)) (slice_index (g.W.Look.words c.args.words.now)) c.next_bucket-node.result c.requires c.next_bucket-node.ensures.in_chain c.if-node-eq0.false)
 
 pub loop-preserved : goal.loop-preserved
 loop-preserved g c =
-    walk_on (layout_shape c.args.layout) c.requires.has_list.part (slice_index (g.W.Look.words c.args.words.now)) (chain_of (layout_shape c.args.layout) (slice_index (g.W.Look.words c.args.words.now))) c.loop.prev c.loop.counter c.after-node.result
+    walk_on (layout_shape c.args.layout) c.requires.has_list.part (slice_index (g.W.Look.words c.args.words.now)) (chain_of (layout_shape c.args.layout) (slice_index (g.W.Look.words c.args.words.now))) c.loop.prev c.loop.counter c.next_bucket-node.result
     (good_chain c.args.layout (length (g.W.Look.words c.args.words.now)) (slice_index (g.W.Look.words c.args.words.now)) c.requires) c.loop.invariant
-    (next_is c.args.layout (length (g.W.Look.words c.args.words.now)) (slice_index (g.W.Look.words c.args.words.now)) c.loop.prev c.after-node.result c.requires c.after-node.ensures.next) c.if-node-eq0.false (λ shut. (let t = c.if-is_closed.ensures.1 shut in cc))
+    (next_is c.args.layout (length (g.W.Look.words c.args.words.now)) (slice_index (g.W.Look.words c.args.words.now)) c.loop.prev c.next_bucket-node.result c.requires c.next_bucket-node.ensures.next) c.if-node-eq0.false (λ shut. (let t = c.if-is_closed.ensures.1 shut in cc))
 
 pub returns-then-node-eq0 : goal.returns-then-node-eq0
 returns-then-node-eq0 g c = none_at_all (layout_shape c.args.layout) (slice_index (g.W.Look.words c.args.words.now)) (chain_of (layout_shape c.args.layout) (slice_index (g.W.Look.words c.args.words.now)))
-    (walk_stops (layout_shape c.args.layout) c.requires.has_list.part (AreOpen (layout_shape c.args.layout) (slice_index (g.W.Look.words c.args.words.now))) (chain_of (layout_shape c.args.layout) (slice_index (g.W.Look.words c.args.words.now))) c.loop.prev c.loop.counter c.after-node.result
+    (walk_stops (layout_shape c.args.layout) c.requires.has_list.part (AreOpen (layout_shape c.args.layout) (slice_index (g.W.Look.words c.args.words.now))) (chain_of (layout_shape c.args.layout) (slice_index (g.W.Look.words c.args.words.now))) c.loop.prev c.loop.counter c.next_bucket-node.result
     (good_chain c.args.layout (length (g.W.Look.words c.args.words.now)) (slice_index (g.W.Look.words c.args.words.now)) c.requires) c.loop.invariant
-    (next_is c.args.layout (length (g.W.Look.words c.args.words.now)) (slice_index (g.W.Look.words c.args.words.now)) c.loop.prev c.after-node.result c.requires c.after-node.ensures.next) c.if-node-eq0.true).holds
+    (next_is c.args.layout (length (g.W.Look.words c.args.words.now)) (slice_index (g.W.Look.words c.args.words.now)) c.loop.prev c.next_bucket-node.result c.requires c.next_bucket-node.ensures.next) c.if-node-eq0.true).holds
 
 pub returns-then-next-eq0 : goal.returns-then-next-eq0
 returns-then-next-eq0 g c =
-    none_before (layout_shape c.args.layout) c.requires.has_list.part (slice_index (g.W.Look.words c.args.words.now)) (chain_of (layout_shape c.args.layout) (slice_index (g.W.Look.words c.args.words.now))) c.loop.prev c.loop.counter c.after-node.result c.after-next.result
+    none_before (layout_shape c.args.layout) c.requires.has_list.part (slice_index (g.W.Look.words c.args.words.now)) (chain_of (layout_shape c.args.layout) (slice_index (g.W.Look.words c.args.words.now))) c.loop.prev c.loop.counter c.next_bucket-node.result c.next_bucket-next.result
     (good_chain c.args.layout (length (g.W.Look.words c.args.words.now)) (slice_index (g.W.Look.words c.args.words.now)) c.requires) c.loop.invariant
-    (next_is c.args.layout (length (g.W.Look.words c.args.words.now)) (slice_index (g.W.Look.words c.args.words.now)) c.loop.prev c.after-node.result c.requires c.after-node.ensures.next) c.if-node-eq0.false
-    (next_is c.args.layout (length (g.W.Look.words c.args.words.now)) (slice_index (g.W.Look.words c.args.words.now)) c.after-node.result c.after-next.result c.requires c.after-next.ensures.next) c.if-next-eq0.true
+    (next_is c.args.layout (length (g.W.Look.words c.args.words.now)) (slice_index (g.W.Look.words c.args.words.now)) c.loop.prev c.next_bucket-node.result c.requires c.next_bucket-node.ensures.next) c.if-node-eq0.false
+    (next_is c.args.layout (length (g.W.Look.words c.args.words.now)) (slice_index (g.W.Look.words c.args.words.now)) c.next_bucket-node.result c.next_bucket-next.result c.requires c.next_bucket-next.ensures.next) c.if-next-eq0.true
 
 pub returns-then-is_closed : goal.returns-then-is_closed
 returns-then-is_closed g c =
-    found (layout_shape c.args.layout) c.requires.has_list.part (slice_index (g.W.Look.words c.args.words.now)) (chain_of (layout_shape c.args.layout) (slice_index (g.W.Look.words c.args.words.now))) c.loop.prev c.loop.counter c.after-node.result c.after-next.result
+    found (layout_shape c.args.layout) c.requires.has_list.part (slice_index (g.W.Look.words c.args.words.now)) (chain_of (layout_shape c.args.layout) (slice_index (g.W.Look.words c.args.words.now))) c.loop.prev c.loop.counter c.next_bucket-node.result c.next_bucket-next.result
     (good_chain c.args.layout (length (g.W.Look.words c.args.words.now)) (slice_index (g.W.Look.words c.args.words.now)) c.requires) c.loop.invariant
-    (next_is c.args.layout (length (g.W.Look.words c.args.words.now)) (slice_index (g.W.Look.words c.args.words.now)) c.loop.prev c.after-node.result c.requires c.after-node.ensures.next) c.if-node-eq0.false
-    (next_is c.args.layout (length (g.W.Look.words c.args.words.now)) (slice_index (g.W.Look.words c.args.words.now)) c.after-node.result c.after-next.result c.requires c.after-next.ensures.next) c.if-next-eq0.false (c.if-is_closed.ensures.0 refl)
+    (next_is c.args.layout (length (g.W.Look.words c.args.words.now)) (slice_index (g.W.Look.words c.args.words.now)) c.loop.prev c.next_bucket-node.result c.requires c.next_bucket-node.ensures.next) c.if-node-eq0.false
+    (next_is c.args.layout (length (g.W.Look.words c.args.words.now)) (slice_index (g.W.Look.words c.args.words.now)) c.next_bucket-node.result c.next_bucket-next.result c.requires c.next_bucket-next.ensures.next) c.if-next-eq0.false (c.if-is_closed.ensures.0 refl)
 
 pub returns : goal.returns
 returns g c =

@@ -1,4 +1,4 @@
-use Rattle.log_keeper.proofs.Passing as lemmas
+use Rattle.log_keeper.proofs.EventsPass as lemmas
 use Rattle.log_keeper.proofs.laws.parts_go_on.Goals as goal
 
 pub returns : goal.returns

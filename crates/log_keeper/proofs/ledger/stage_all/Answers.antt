@@ -9,7 +9,7 @@ use Rattle.log_keeper.proofs.ledger.stage_all.Goals as goal
 abbrev no_entry : Entry
 no_entry = record {
   lane = 0;
-  placed = record { at = 0; cell = record { gate = 0; transaction = 0; kind = 0; address = 0; before = 0; after = 0; undo_next = 0; outcome = 0 } };
+  placed = record { at = 0; cell = record { lsn = 0; transaction = 0; kind = 0; word = 0; before = 0; after = 0; undo_next = 0; outcome = 0 } };
   stage = Drawn;
 }
 

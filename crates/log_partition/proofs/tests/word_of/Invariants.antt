@@ -1,5 +1,5 @@
 use Rattle.std.proofs.Common.{◌≡◌, drop}
-use Rattle.log_partition.specs.Images.{word_in}
+use Rattle.log_partition.specs.TableRegion.{word_in}
 use Rattle.log_partition.proofs.tests.word_of.Given as goal
 
 abbrev pub invariant-loop-pair : goal.invariant-loop-pair

@@ -7,24 +7,24 @@ use Rattle.log_partition.specs.Marks.{AddsMarks}
 use Rattle.log_partition.proofs.Marking.{chain_place, marks_go_on}
 use Rattle.log_partition.proofs.used.mark_chain.Goals as goal
 
-pub after-next-requires-clause-node : goal.after-next-requires-clause-node
-after-next-requires-clause-node g c = in_chain c.args.layout (length (g.W.Look.words c.args.words.now)) (slice_index (g.W.Look.words c.args.words.now)) c.loop.last c.requires.log
+pub next_bucket-next-requires-clause-node : goal.next_bucket-next-requires-clause-node
+next_bucket-next-requires-clause-node g c = in_chain c.args.layout (length (g.W.Look.words c.args.words.now)) (slice_index (g.W.Look.words c.args.words.now)) c.loop.last c.requires.log
     (walk_node _ (chain_of (layout_shape c.args.layout) (slice_index (g.W.Look.words c.args.words.now))) c.loop.last c.loop.counter c.loop.invariant)
 
 pub mark-requires : goal.mark-requires
-mark-requires g c = chain_place c.args.layout (length (g.W.Look.words c.args.words.now)) (slice_index (g.W.Look.words c.args.words.now)) c.requires.log c.after-next.result
-    c.args.marks.now.items c.loop.marks.items c.requires.marks c.loop.invariant.holds.long c.after-next.ensures.in_chain c.if-next-eq0.false
+mark-requires g c = chain_place c.args.layout (length (g.W.Look.words c.args.words.now)) (slice_index (g.W.Look.words c.args.words.now)) c.requires.log c.next_bucket-next.result
+    c.args.marks.now.items c.loop.marks.items c.requires.marks c.loop.invariant.holds.long c.next_bucket-next.ensures.in_chain c.if-next-eq0.false
 
 pub loop-preserved : goal.loop-preserved
 loop-preserved g c =
     let good = good_chain c.args.layout (length (g.W.Look.words c.args.words.now)) (slice_index (g.W.Look.words c.args.words.now)) c.requires.log in
-    let place = chain_place c.args.layout (length (g.W.Look.words c.args.words.now)) (slice_index (g.W.Look.words c.args.words.now)) c.requires.log c.after-next.result
-    c.args.marks.now.items c.args.marks.now.items c.requires.marks refl c.after-next.ensures.in_chain c.if-next-eq0.false in
+    let place = chain_place c.args.layout (length (g.W.Look.words c.args.words.now)) (slice_index (g.W.Look.words c.args.words.now)) c.requires.log c.next_bucket-next.result
+    c.args.marks.now.items c.args.marks.now.items c.requires.marks refl c.next_bucket-next.ensures.in_chain c.if-next-eq0.false in
     walk_goes_to (layout_shape c.args.layout) c.requires.log.has_list.part (λ front. AddsMarks (layout_shape c.args.layout) front c.args.marks.now.items c.loop.marks.items)
     (λ front. AddsMarks (layout_shape c.args.layout) front c.args.marks.now.items c.mark.new.marks.items)
-    (chain_of (layout_shape c.args.layout) (slice_index (g.W.Look.words c.args.words.now))) c.loop.last c.loop.counter c.after-next.result good c.loop.invariant
-    (next_is c.args.layout (length (g.W.Look.words c.args.words.now)) (slice_index (g.W.Look.words c.args.words.now)) c.loop.last c.after-next.result c.requires.log c.after-next.ensures.next) c.if-next-eq0.false
-    (λ h. marks_go_on (layout_shape c.args.layout) c.loop.invariant.front c.args.marks.now.items c.loop.marks.items c.mark.new.marks.items c.after-next.result place.0 place.1 place.2
+    (chain_of (layout_shape c.args.layout) (slice_index (g.W.Look.words c.args.words.now))) c.loop.last c.loop.counter c.next_bucket-next.result good c.loop.invariant
+    (next_is c.args.layout (length (g.W.Look.words c.args.words.now)) (slice_index (g.W.Look.words c.args.words.now)) c.loop.last c.next_bucket-next.result c.requires.log c.next_bucket-next.ensures.next) c.if-next-eq0.false
+    (λ h. marks_go_on (layout_shape c.args.layout) c.loop.invariant.front c.args.marks.now.items c.loop.marks.items c.mark.new.marks.items c.next_bucket-next.result place.0 place.1 place.2
     (c.mark.ensures place.0 place.2) h)
 
 pub returns-after-loop : goal.returns-after-loop
@@ -36,6 +36,6 @@ returns-after-loop g c =
 pub returns-then-next-eq0 : goal.returns-then-next-eq0
 returns-then-next-eq0 g c =
     (walk_stops (layout_shape c.args.layout) c.requires.log.has_list.part (λ front. AddsMarks (layout_shape c.args.layout) front c.args.marks.now.items c.loop.marks.items)
-    (chain_of (layout_shape c.args.layout) (slice_index (g.W.Look.words c.args.words.now))) c.loop.last c.loop.counter c.after-next.result
+    (chain_of (layout_shape c.args.layout) (slice_index (g.W.Look.words c.args.words.now))) c.loop.last c.loop.counter c.next_bucket-next.result
     (good_chain c.args.layout (length (g.W.Look.words c.args.words.now)) (slice_index (g.W.Look.words c.args.words.now)) c.requires.log) c.loop.invariant
-    (next_is c.args.layout (length (g.W.Look.words c.args.words.now)) (slice_index (g.W.Look.words c.args.words.now)) c.loop.last c.after-next.result c.requires.log c.after-next.ensures.next) c.if-next-eq0.true).holds
+    (next_is c.args.layout (length (g.W.Look.words c.args.words.now)) (slice_index (g.W.Look.words c.args.words.now)) c.loop.last c.next_bucket-next.result c.requires.log c.next_bucket-next.ensures.next) c.if-next-eq0.true).holds

@@ -1,6 +1,6 @@
 use Rattle.std.proofs.Common.{◌≡◌, ◌+◌, ◌%◌, ◌/◌, ◌<◌, Err, Some, length, sym, ◌∙◌, ap, subst, arith}
 use Rattle.std.proofs.lemmas.Result.{err_from_is_err_and}
-use Rattle.lane_traits.specs.Space.{Space, IsOwn, IsDataWord, written}
+use Rattle.lane_traits.specs.Space.{Space, IsOwn, IsDataWordOf, written}
 use Rattle.lane_traits.specs.declared.words.WordsRefusal.TheVariants.{HeapFull}
 use Rattle.region_layout.specs.FiniteMap.{with_pair}
 use Rattle.region_layout.specs.HashMap.{chain_number, chain_word}
@@ -139,7 +139,7 @@ add-requires g c =
     let holds = c.requires.map.holds in
     let at = c.place_of-place.ensures.place holds.chains holds.is in
     let own = directory_own s.land s.word c.args.root holds.chains (chain_number c.args.key) holds.is (chain_below c.args.key) (λ z. c.if-place-eq0.false (at.directory_is ∙ z)) in
-    subst (λ (u : Space). IsDataWord u.land (c.place_of-place.result.directory + 1 + c.chain_of-chain.result % 8)) (sym c.place_of-place.ensures.same)
+    subst (λ (u : Space). IsDataWordOf u.land (c.place_of-place.result.directory + 1 + c.chain_of-chain.result % 8)) (sym c.place_of-place.ensures.same)
     (slot_held s.land c.place_of-place.result.directory c.chain_of-chain.result (subst (IsOwn s.land) (sym at.directory_is) own))
 
 pub returns-in_err-add-clause-full : goal.returns-in_err-add-clause-full

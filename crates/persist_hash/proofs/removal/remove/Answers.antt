@@ -1,5 +1,5 @@
 use Rattle.std.proofs.Common.{◌+◌, Some, sym, ◌∙◌, ap, subst}
-use Rattle.lane_traits.specs.Space.{Space, IsOwn, IsDataWord}
+use Rattle.lane_traits.specs.Space.{Space, IsOwn, IsDataWordOf}
 use Rattle.region_layout.specs.FiniteMap.{FiniteMap, without_key}
 use Rattle.persist_hash.specs.Calls.{Holds}
 use Rattle.persist_hash.proofs.Places.{has_hash, none_of, some_of, place_own}
@@ -33,7 +33,7 @@ unlink-requires-clause-own g c =
 pub unlink-requires-clause-held : goal.unlink-requires-clause-held
 unlink-requires-clause-held g c =
     let holds = c.requires.holds in
-    subst (λ (u : Space). IsDataWord u.land c.place_of-place.result.link) (sym c.place_of-place.ensures.same)
+    subst (λ (u : Space). IsDataWordOf u.land c.place_of-place.result.link) (sym c.place_of-place.ensures.same)
     (link_held (g.W.Reads.space c.args.words.now) c.args.root c.args.key holds.chains _ _ _ holds.is
     (c.place_of-place.ensures.place holds.chains holds.is) c.if-place-eq0.false)
 

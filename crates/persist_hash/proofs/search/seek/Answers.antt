@@ -1,5 +1,5 @@
 use Rattle.std.proofs.Common.{◌≡◌, ◌≢◌, ◌⊎◌, ◌<◌, ◌+◌, ◌^◌, sym, ◌∙◌, ap, subst, arith}
-use Rattle.lane_traits.specs.Space.{Space, IsOwn, IsDataWord}
+use Rattle.lane_traits.specs.Space.{Space, IsOwn, IsDataWordOf}
 use Rattle.persist_hash.specs.Chains.{nodes_left}
 use Rattle.persist_hash.proofs.Searching.{data_word, sought_first, first_fits, sought_own, sought_next, next_fits, fewer_left, found_at}
 use Rattle.persist_hash.proofs.search.seek.Goals as goal
@@ -27,7 +27,7 @@ pub link_at-node-requires-in-loop-link-clause-held : goal.link_at-node-requires-
 link_at-node-requires-in-loop-link-clause-held g c =
     let s = g.W.Reads.space c.args.words.now in
     let own = sought_own s c.args.first c.args.key c.loop-link.link c.loop-link.node c.loop-link.invariant.sought (c.passes.ensures.on c.loop-link-test.true).0 in
-    subst (λ (u : Space). IsDataWord u.land (c.loop-link.node + 3)) (sym (c.passes.ensures.same ∙ c.loop-link.invariant.same))
+    subst (λ (u : Space). IsDataWordOf u.land (c.loop-link.node + 3)) (sym (c.passes.ensures.same ∙ c.loop-link.invariant.same))
     (data_word s.land c.loop-link.node 3 own (omega arith) (omega arith))
 
 pub link_at-node-requires-in-loop-link-clause-fits : goal.link_at-node-requires-in-loop-link-clause-fits

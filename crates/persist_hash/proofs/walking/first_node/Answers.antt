@@ -1,5 +1,5 @@
 use Rattle.std.proofs.Common.{◌≢◌, ◌<◌, ◌+◌, ◌^◌, ◌%◌, sym, ◌∙◌, ap, subst, arith}
-use Rattle.lane_traits.specs.Space.{Space, IsOwn, IsDataWord}
+use Rattle.lane_traits.specs.Space.{Space, IsOwn, IsDataWordOf}
 use Rattle.region_layout.specs.HashMap.{directory_of, first_link}
 use Rattle.persist_hash.proofs.Searching.{chain_fits}
 use Rattle.persist_hash.proofs.Places.{directory_held, directory_fits, directory_own, slot_held, first_is, none_is, own_chain}
@@ -37,7 +37,7 @@ link_at-requires-clause-held g c =
     let s = g.W.Reads.space c.args.words.now in
     let e = c.link_at-directory.ensures.value in
     let own = directory_own s.land s.word c.args.root c.requires.hash.chains c.args.chain c.requires.hash.is c.requires.chain (λ z. c.if-directory-eq0.false (e ∙ z)) in
-    subst (λ (u : Space). IsDataWord u.land (c.link_at-directory.result + 1 + c.args.chain % 8)) (sym c.link_at-directory.ensures.same)
+    subst (λ (u : Space). IsDataWordOf u.land (c.link_at-directory.result + 1 + c.args.chain % 8)) (sym c.link_at-directory.ensures.same)
     (slot_held s.land c.link_at-directory.result c.args.chain (subst (IsOwn s.land) (sym e) own))
 
 pub link_at-requires-clause-fits : goal.link_at-requires-clause-fits

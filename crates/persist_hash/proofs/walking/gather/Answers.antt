@@ -1,5 +1,5 @@
 use Rattle.std.proofs.Common.{◌<◌, ◌+◌, ◌^◌, sym, ◌∙◌, ap, subst, arith}
-use Rattle.lane_traits.specs.Space.{Space, IsOwn, IsDataWord}
+use Rattle.lane_traits.specs.Space.{Space, IsOwn, IsDataWordOf}
 use Rattle.persist_hash.specs.Chains.{nodes_left}
 use Rattle.persist_hash.proofs.Searching.{data_word}
 use Rattle.persist_hash.proofs.Gathering.{walked_first, walked_own, walked_fits, walked_next, walked_fewer, walked_end}
@@ -26,7 +26,7 @@ overflow_add-node g c =
 pub link_at-node-requires-clause-held : goal.link_at-node-requires-clause-held
 link_at-node-requires-clause-held g c =
     let s = g.W.Reads.space c.args.words.now in
-    subst (λ (u : Space). IsDataWord u.land (c.loop-node.node + 3)) (sym (c.pair_at-pair.ensures.same ∙ c.loop-node.invariant.same))
+    subst (λ (u : Space). IsDataWordOf u.land (c.loop-node.node + 3)) (sym (c.pair_at-pair.ensures.same ∙ c.loop-node.invariant.same))
     (data_word s.land c.loop-node.node 3 (walked_own s _ c.loop-node.node _ _ c.loop-node.invariant.walked c.loop-node-test.true) (omega arith) (omega arith))
 
 pub link_at-node-requires-clause-fits : goal.link_at-node-requires-clause-fits

@@ -1,5 +1,5 @@
 use Rattle.std.proofs.Common.{sym, ap, ◌∙◌, Some}
-use Rattle.bucket_log.specs.declared.parts.Part.TheVariants.{Append, Word}
+use Rattle.plan_records.specs.declared.parts.Part.TheVariants.{Append, Word}
 use Rattle.plan_records.proofs.PartNumbers.{undo_even, undo_odd, undo_past}
 use Rattle.plan_records.proofs.sequences.undo_part.Goals as goal
 

@@ -1,5 +1,5 @@
 use Rattle.std.proofs.Common.{◌≡◌, drop}
-use Rattle.recovery_lists.specs.Images.{word_in}
+use Rattle.recovery_lists.specs.ListRegion.{word_in}
 use Rattle.recovery_lists.proofs.tests.word_of.Given as goal
 
 abbrev pub invariant-loop-pair : goal.invariant-loop-pair

@@ -1,7 +1,7 @@
 use Rattle.std.proofs.Common.{◌∙◌, ◌++◌, ◌∷◌, [], ap, sym, map, arith}
 use Rattle.std.specs.List.{range_with_len}
 use Rattle.std.proofs.lemmas.List.FromFn.{map-range_with_len_more}
-use Rattle.recovery_lists.specs.Images.{word_in, words_in}
+use Rattle.recovery_lists.specs.ListRegion.{word_in, words_in}
 use Rattle.recovery_lists.proofs.tests.words_of.Goals as goal
 
 pub loop-a-preserved : goal.loop-a-preserved

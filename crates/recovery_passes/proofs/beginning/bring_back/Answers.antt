@@ -8,7 +8,7 @@ use Rattle.log_partition.specs.Used.{KnowsChains, chains_in}
 use Rattle.recovery_run.proofs.Reaching.{settled_reached}
 use Rattle.recovery_undo.proofs.Places.{logs_of}
 use Rattle.recovery_analysis.specs.Changes.{stored}
-use Rattle.recovery_passes.specs.Passing.{begin_events, undo_all_events}
+use Rattle.recovery_passes.specs.LoserPass.{begin_events, undo_all_events}
 use Rattle.recovery_passes.proofs.Counting.{counted_more, counted_then}
 use Rattle.recovery_passes.proofs.Starting.{may_store, stores_above, undoes_at}
 use Rattle.recovery_passes.proofs.beginning.bring_back.Goals as goal

@@ -1,6 +1,6 @@
 use Rattle.std.proofs.Common.{ap, arith}
 use Rattle.std.specs.Vec.{vec_len}
-use Rattle.recovery_passes.specs.Passing.{gates_len}
+use Rattle.recovery_passes.specs.LoserPass.{gates_len}
 use Rattle.recovery_passes.proofs.ClearBounds.{one_wanted}
 use Rattle.recovery_passes.proofs.Readying.{ready_plain, can_checkpoint, ready_checkpointed}
 use Rattle.recovery_passes.proofs.clearing.checkpoint_if.Goals as goal

@@ -2,8 +2,8 @@ use Rattle.std.proofs.Common.{◌+◌, ◌*◌, if◌then◌else◌, refl, sym, 
 use Rattle.lane_traits.specs.declared.device.Done.TheVariants.{Made, Stopped}
 use Rattle.persist_model.specs.Region.{Region}
 use Rattle.region_layout.specs.Layout.{layout_shape}
-use Rattle.recovery_run.specs.Edges.{IsHeaderWord}
-use Rattle.recovery_passes.specs.Passing.{gates_len, HasNoGates, clear_events}
+use Rattle.recovery_run.specs.Edges.{IsPlainHeaderWord}
+use Rattle.recovery_passes.specs.LoserPass.{gates_len, HasNoGates, clear_events}
 use Rattle.recovery_passes.specs.Stages.{AreShort}
 use Rattle.recovery_passes.proofs.ClearBounds.{close_fits, clear_fits}
 use Rattle.recovery_passes.proofs.Counting.{counted_more, counted_then, keeps_then}
@@ -26,7 +26,7 @@ returns-in-Stopped-close_gates-clause-counted g c =
 
 pub returns-in-Stopped-close_gates-clause-header : goal.returns-in-Stopped-close_gates-clause-header
 returns-in-Stopped-close_gates-clause-header g c =
-    keeps_then (IsHeaderWord (layout_shape c.args.layout)) (g.D.Device.cells c.args.device.now) (g.D.Device.cells c.checkpoint_if.new.device) (g.D.Device.cells c.close_gates.new.device)
+    keeps_then (IsPlainHeaderWord (layout_shape c.args.layout)) (g.D.Device.cells c.args.device.now) (g.D.Device.cells c.checkpoint_if.new.device) (g.D.Device.cells c.close_gates.new.device)
     c.in-Made.ensures.header c.in-Stopped-close_gates.ensures.header
 
 pub drop_all-requires-clause-settled : goal.drop_all-requires-clause-settled
@@ -64,8 +64,8 @@ returns-clause-counted g c =
 
 pub returns-clause-header : goal.returns-clause-header
 returns-clause-header g c =
-    keeps_then (IsHeaderWord (layout_shape c.args.layout)) (g.D.Device.cells c.args.device.now) (g.D.Device.cells c.close_gates.new.device) (g.D.Device.cells c.drop_all.new.device)
-    (keeps_then (IsHeaderWord (layout_shape c.args.layout)) (g.D.Device.cells c.args.device.now) (g.D.Device.cells c.checkpoint_if.new.device) (g.D.Device.cells c.close_gates.new.device)
+    keeps_then (IsPlainHeaderWord (layout_shape c.args.layout)) (g.D.Device.cells c.args.device.now) (g.D.Device.cells c.close_gates.new.device) (g.D.Device.cells c.drop_all.new.device)
+    (keeps_then (IsPlainHeaderWord (layout_shape c.args.layout)) (g.D.Device.cells c.args.device.now) (g.D.Device.cells c.checkpoint_if.new.device) (g.D.Device.cells c.close_gates.new.device)
     c.in-Made.ensures.header c.in-Made-close_gates.ensures.header) c.drop_all.ensures.header
 
 pub returns-clause-idle : goal.returns-clause-idle

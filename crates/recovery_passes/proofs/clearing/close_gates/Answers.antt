@@ -1,7 +1,7 @@
 use Rattle.std.proofs.Common.{◌+◌, length, arith}
 use Rattle.region_layout.specs.Layout.{layout_shape}
 use Rattle.log_clearing.specs.Plans.{closing_plan}
-use Rattle.recovery_passes.specs.Passing.{gates_len}
+use Rattle.recovery_passes.specs.LoserPass.{gates_len}
 use Rattle.recovery_passes.proofs.Counting.{counted_more}
 use Rattle.recovery_passes.proofs.Closed.{plan_few, ready_lists, closed_log, closed_already}
 use Rattle.recovery_passes.proofs.clearing.close_gates.Goals as goal

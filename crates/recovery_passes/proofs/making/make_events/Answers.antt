@@ -2,8 +2,8 @@ use Rattle.std.proofs.Common.{◌≤◌, ◌+◌, refl, sym, ◌∙◌, subst, a
 use Rattle.lane_traits.specs.declared.device.Done.TheVariants.{Stopped}
 use Rattle.persist_model.specs.Region.{Region}
 use Rattle.region_layout.specs.Layout.{layout_shape}
-use Rattle.recovery_run.specs.Edges.{HasCounted, IsHeaderWord}
-use Rattle.recovery_passes.specs.Passing.{begin_events, clear_events, HasNoGates}
+use Rattle.recovery_run.specs.Edges.{HasCounted, IsPlainHeaderWord}
+use Rattle.recovery_passes.specs.LoserPass.{begin_events, clear_events, HasNoGates}
 use Rattle.recovery_passes.specs.Stages.{AreShort}
 use Rattle.recovery_passes.proofs.Counting.{counted_more, counted_then, keeps_then}
 use Rattle.recovery_passes.proofs.Bounds.{planned_total, plan_begins, plan_fits, total_is, none_redone, none_running, none_wanted, no_gates}
@@ -124,7 +124,7 @@ returns-clause-counted g c = λ first some h enough.
 
 pub returns-clause-header : goal.returns-clause-header
 returns-clause-header g c =
-    keeps_then (IsHeaderWord (layout_shape c.args.layout)) (g.D.Device.cells c.args.device.now) (g.D.Device.cells c.bring_back.new.device) (g.D.Device.cells c.clear.new.device)
+    keeps_then (IsPlainHeaderWord (layout_shape c.args.layout)) (g.D.Device.cells c.args.device.now) (g.D.Device.cells c.bring_back.new.device) (g.D.Device.cells c.clear.new.device)
     c.in-Made.ensures.header c.clear.ensures.header
 
 pub returns-clause-idle : goal.returns-clause-idle

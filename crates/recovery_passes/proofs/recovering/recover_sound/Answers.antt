@@ -2,7 +2,7 @@ use Rattle.std.proofs.Common.{◌≡◌, ◌+◌, ◌-◌, refl, ap, subst, arit
 use Rattle.persist_model.specs.Region.{Region}
 use Rattle.lane_traits.specs.Device.{Counts}
 use Rattle.region_layout.specs.Layout.{layout_shape}
-use Rattle.recovery_run.specs.Edges.{KeepsWords, IsHeaderWord}
+use Rattle.recovery_run.specs.Edges.{KeepsWords, IsPlainHeaderWord}
 use Rattle.recovery_passes.proofs.Results.{start_of, image_read, IsReady, ready_of, fates_of, few_are, size_there, header_there, stopped_there, restored_there, finished_there, idle_there, counted_there, made_counts, made_few, made_rises, stopped_counts, stopped_few}
 use Rattle.recovery_passes.proofs.recovering.recover_sound.Goals as goal
 use Rattle.recovery_passes.proofs.recovering.recover_sound.Goals.{After-as_slice-2, In-Stopped, In-Made, After-events}
@@ -25,8 +25,8 @@ make_events-done-requires-clause-can g c =
 
 -- ---- a stop
 
-stop_keeps : (g : _) (c : In-Stopped g) → KeepsWords (IsHeaderWord (layout_shape c.args.layout)) (g.D.Device.cells c.args.device.now) (g.D.Device.cells c.make_events-done.new.device)
-stop_keeps g c = subst (λ (r : Region). KeepsWords (IsHeaderWord (layout_shape c.args.layout)) r (g.D.Device.cells c.make_events-done.new.device)) c.in_ok-make_room.ensures.cells c.in-Stopped.ensures.header
+stop_keeps : (g : _) (c : In-Stopped g) → KeepsWords (IsPlainHeaderWord (layout_shape c.args.layout)) (g.D.Device.cells c.args.device.now) (g.D.Device.cells c.make_events-done.new.device)
+stop_keeps g c = subst (λ (r : Region). KeepsWords (IsPlainHeaderWord (layout_shape c.args.layout)) r (g.D.Device.cells c.make_events-done.new.device)) c.in_ok-make_room.ensures.cells c.in-Stopped.ensures.header
 
 pub returns-in-Stopped-clause-size : goal.returns-in-Stopped-clause-size
 returns-in-Stopped-clause-size g c =
@@ -64,8 +64,8 @@ returns-in-Stopped-clause-header g c =
 
 -- ---- the end
 
-end_keeps : (g : _) (c : In-Made g) → KeepsWords (IsHeaderWord (layout_shape c.args.layout)) (g.D.Device.cells c.args.device.now) (g.D.Device.cells c.make_events-done.new.device)
-end_keeps g c = subst (λ (r : Region). KeepsWords (IsHeaderWord (layout_shape c.args.layout)) r (g.D.Device.cells c.make_events-done.new.device)) c.in_ok-make_room.ensures.cells c.in-Made.ensures.header
+end_keeps : (g : _) (c : In-Made g) → KeepsWords (IsPlainHeaderWord (layout_shape c.args.layout)) (g.D.Device.cells c.args.device.now) (g.D.Device.cells c.make_events-done.new.device)
+end_keeps g c = subst (λ (r : Region). KeepsWords (IsPlainHeaderWord (layout_shape c.args.layout)) r (g.D.Device.cells c.make_events-done.new.device)) c.in_ok-make_room.ensures.cells c.in-Made.ensures.header
 
 -- the events are counted from the old count
 end_events : (g : _) (c : After-events g) → c.events.result - c.events-before.result ≡ (g.D.Device.counts c.make_events-done.new.device).events - (g.D.Device.counts c.args.device.now).events

@@ -2,7 +2,7 @@ use Rattle.std.proofs.Common.{sym, subst}
 use Rattle.persist_model.specs.Region.{Region}
 use Rattle.log_clearing.specs.Plans.{closing_plan}
 use Rattle.log_laws.specs.Parts.{EachKeeps}
-use Rattle.recovery_run.specs.Closing.{HasClosed}
+use Rattle.recovery_run.specs.ClosingParts.{HasClosed}
 use Rattle.persist_model.specs.Progress.{start}
 use Rattle.recovery_run.proofs.Composing.{parts_keep}
 use Rattle.recovery_run.proofs.ClosingPart.{closing_leads, closing_done}

@@ -4,7 +4,7 @@ use Rattle.persist_model.specs.Region.{Region, after}
 use Rattle.log_laws.specs.Recovering.{RECOVERY}
 use Rattle.lane_traits.specs.Device.{Counts, counted, stores_of, IsWithin}
 use Rattle.log_laws.specs.Parts.{after_plan}
-use Rattle.recovery_run.specs.Edges.{HasOneValue}
+use Rattle.recovery_run.specs.Edges.{HasOnlyValue}
 use Rattle.recovery_run.proofs.Making.{plan_more, places_left, past_end, take_whole, same_size}
 use Rattle.recovery_run.proofs.Aside.{elsewhere_take, plan_keeps}
 use Rattle.recovery_run.proofs.runner.run.Goals as goal
@@ -89,7 +89,7 @@ returns-in-Stopped-clause-spare_left g c =
 pub returns-in-Stopped-clause-aside : goal.returns-in-Stopped-clause-aside
 returns-in-Stopped-clause-aside g c = λ a v off one.
     let plan = g.P.Plan.events c.args.plan.now in
-    subst (λ (r : Region). HasOneValue v (r.at a)) (sym (c.in-Stopped.ensures.stopped_cells refl ∙ c.loop-event.invariant.cells))
+    subst (λ (r : Region). HasOnlyValue v (r.at a)) (sym (c.in-Stopped.ensures.stopped_cells refl ∙ c.loop-event.invariant.cells))
     (plan_keeps RECOVERY (g.D.Device.cells c.args.device.now) (take c.loop-event.i plan) a v (elsewhere_take a c.loop-event.i plan off) one)
 
 pub returns-clause-made : goal.returns-clause-made
@@ -111,5 +111,5 @@ returns-clause-counted g c = record { events = c.loop-event.i; few = c.loop-even
 pub returns-clause-aside : goal.returns-clause-aside
 returns-clause-aside g c = λ a v off one.
     let plan = g.P.Plan.events c.args.plan.now in
-    subst (λ (r : Region). HasOneValue v (r.at a)) (sym c.loop-event.invariant.cells)
+    subst (λ (r : Region). HasOnlyValue v (r.at a)) (sym c.loop-event.invariant.cells)
     (plan_keeps RECOVERY (g.D.Device.cells c.args.device.now) (take c.loop-event.i plan) a v (elsewhere_take a c.loop-event.i plan off) one)

@@ -6,7 +6,7 @@ use Rattle.log_laws.specs.Recovering.{RECOVERY, with_heap}
 use Rattle.log_laws.specs.Recovery.{grown}
 use Rattle.persist_model.specs.Progress.{start}
 use Rattle.log_laws.specs.Parts.{after_plan, EachKeeps, HasCome}
-use Rattle.recovery_run.specs.Appending.{HasStored}
+use Rattle.recovery_run.specs.AppendParts.{HasStored}
 use Rattle.recovery_run.proofs.Composing.{parts_keep, size_plan}
 use Rattle.recovery_run.proofs.Making.{take_whole}
 use Rattle.recovery_run.proofs.AppendPart.{append_leads, append_done, come_store}

@@ -27,4 +27,4 @@ returns-in-At-clause-made g c = λ same first y h.
     (checkpoint_take c.args.layout c.args.next.now c.args.gates.now first y (g.D.Device.cells c.args.device.now) h c.plain_cell-cell.result c.plain_cell-cell.ensures c.args.layout.partitions_within.0) h.settled
     (checkpoint_steps c.args.layout c.args.next.now c.args.gates.now first y (g.D.Device.cells c.args.device.now) h c.plain_cell-cell.result c.plain_cell-cell.ensures c.args.layout.partitions_within.0))
     (λ q lt. c.in-At.ensures.quiet q lt (h.quiet q lt))
-    c.put.ensures.items c.put.ensures.len c.put.ensures.capacity refl refl
+    c.put_gate.ensures.items c.put_gate.ensures.len c.put_gate.ensures.capacity refl refl

@@ -12,8 +12,8 @@ append_record-requires-clause-spare g c =
     let at = c.requires.can in
     note_spare c.args.target at.0 at.1 at.2 c.args.next.now c.args.gates.now _ at.3 c.args.cell.now at.4
 
-pub put-requires : goal.put-requires
-put-requires g c =
+pub put_gate-requires : goal.put_gate-requires
+put_gate-requires g c =
     let at = c.requires.can in
     note_fits c.args.target at.0 at.1 at.2 c.args.next.now c.args.gates.now _ at.3 c.args.cell.now at.4
 
@@ -38,5 +38,5 @@ returns-in-At-clause-made g c = λ same start z left h can.
           (c.in-At.ensures.made start.first z take can.comes)
           (λ q lt. c.in-At.ensures.quiet q lt (h.quiet q lt))
           (record { counted = c.in-At.ensures.counted; spare = c.in-At.ensures.spare; header = c.in-At.ensures.header })
-          c.put.ensures.items c.put.ensures.len c.put.ensures.capacity refl refl,
+          c.put_gate.ensures.items c.put_gate.ensures.len c.put_gate.ensures.capacity refl refl,
     )

@@ -1,6 +1,6 @@
 use Rattle.std.proofs.Common.{refl, sym, ◌∙◌, arith}
 use Rattle.region_layout.specs.Layout.{layout_shape}
-use Rattle.recovery_undo.specs.Passing.{seen}
+use Rattle.recovery_undo.specs.UndoProgress.{seen}
 use Rattle.recovery_undo.proofs.Chains.{log_words_kept, knows_kept}
 use Rattle.recovery_undo.proofs.Ending.{fence_halts, fenced_quiet, end_take, end_steps, end_spare, end_fits, end_next, end_halts, finishes}
 use Rattle.recovery_undo.proofs.undoing.finish.Goals as goal
@@ -39,8 +39,8 @@ append_record-requires-clause-table g c =
     (log_words_kept c.args.target.layout at.0.first at.2.state before at.2.gone.reached (λ b. Unit {0}) later (λ a lt. tt) c.in-Made.ensures.aside
     (settled.come.size ∙ sym at.2.gone.reached.come.size) (g.met.D.Device.full c.fence.new.device)) c.requires.table
 
-pub put-requires : goal.put-requires
-put-requires g c =
+pub put_gate-requires : goal.put_gate-requires
+put_gate-requires g c =
     let at = c.requires.passes in
     end_fits c.args.target at.0 at.1 c.args.next.now c.args.gates.now _ at.2 (seen (g.D.Device.cells c.fence.new.device) (g.D.Device.counts c.fence.new.device) (g.D.Device.spare c.fence.new.device))
     (c.in-Made.ensures.made refl (layout_shape c.args.target.layout) at.0.first at.2.state at.2.gone.reached) c.in-Made.ensures.counted c.in-Made.ensures.spare_left c.in-Made.ensures.aside
@@ -83,4 +83,4 @@ returns-in-At-clause-made g c = λ same start counter h.
     (λ q lt. c.in-At.ensures.quiet q lt (fenced_quiet c.args.target start counter c.args.next.now c.args.gates.now _ h kept settled c.in-Made.ensures.counted c.in-Made.ensures.spare_left c.in-Made.ensures.aside
     (g.met.D.Device.full c.fence.new.device) c.plain_cell-cell.result c.plain_cell-cell.ensures q lt))
     (record { counted = c.in-At.ensures.counted; spare = c.in-At.ensures.spare; header = c.in-At.ensures.header })
-    c.put.ensures.items c.put.ensures.len c.put.ensures.capacity refl refl
+    c.put_gate.ensures.items c.put_gate.ensures.len c.put_gate.ensures.capacity refl refl

@@ -1,6 +1,6 @@
 use Rattle.std.proofs.Common.{◌≡◌, ◌-◌, [], ◌∷◌, map, reverse, take, get_or, refl, ap, arith}
 use Rattle.bucket_log.specs.Scans.{record_of_placed}
-use Rattle.recovery_undo.specs.Passing.{Start, Passes, seen}
+use Rattle.recovery_undo.specs.UndoProgress.{Start, Passes, seen}
 use Rattle.recovery_undo.proofs.Stepping.{no_placed, newest_of, passes_on}
 use Rattle.recovery_undo.proofs.undoing.pass.Goals as goal
 

@@ -1,7 +1,7 @@
 use Rattle.std.proofs.Common.{◌≤◌, ◌+◌, length, map, reverse, take}
 use Rattle.bucket_log.specs.Scans.{record_of_placed}
-use Rattle.recovery_undo.specs.Appending.{KnowsRegion}
-use Rattle.recovery_undo.specs.Passing.{seen, Start, Passes}
+use Rattle.recovery_undo.specs.RecoveryAppends.{KnowsRegion}
+use Rattle.recovery_undo.specs.UndoProgress.{seen, Start, Passes}
 use Rattle.recovery_undo.proofs.undoing.pass.Given as goal
 
 abbrev pub invariant-loop-left : goal.invariant-loop-left

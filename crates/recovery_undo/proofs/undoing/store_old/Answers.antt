@@ -3,7 +3,7 @@ use Rattle.persist_model.specs.Shape.{heap}
 use Rattle.lane_traits.specs.declared.device.Done.TheVariants.{Made, Stopped}
 use Rattle.region_layout.specs.Layout.{layout_shape}
 use Rattle.bucket_log.specs.Scans.{record_of_placed}
-use Rattle.recovery_undo.specs.Passing.{seen}
+use Rattle.recovery_undo.specs.UndoProgress.{seen}
 use Rattle.recovery_undo.proofs.Chains.{log_words_kept}
 use Rattle.recovery_undo.proofs.Going.{counted_as, quiet_kept, at_most_three}
 use Rattle.recovery_undo.proofs.Stepping.{heap_word, word_inside, covered, spare_one, old_goes, old_halts}
@@ -33,9 +33,9 @@ returns-clause-made g c = λ made start left counter next gates h.
     let word = heap_word c.args.target start u left next gates _ counter h c.requires.update in
     let low : 32 ≤ heap shape = omega arith in
     let reached = c.store.ensures.made made shape start.first h.state h.gone.reached word.0 (covered c.args.target start u left next gates _ counter h c.requires.update) in
-    let off : (a : ℕ) → a < 32 → a ≡ c.args.update.now.cell.address → ⊥ = λ a lt e. (let le = word.0 in omega (arith, lt, e, le, low)) in
+    let off : (a : ℕ) → a < 32 → a ≡ c.args.update.now.cell.word → ⊥ = λ a lt e. (let le = word.0 in omega (arith, lt, e, le, low)) in
     old_goes c.args.target start u left next gates _ counter h c.requires.update (seen (g.D.Device.cells c.store.new.device) (g.D.Device.counts c.store.new.device) (g.D.Device.spare c.store.new.device)) reached
-    (quiet_kept shape start.first h.state (g.D.Device.cells c.args.device.now) (g.D.Device.cells c.store.new.device) (λ b. b ≡ c.args.update.now.cell.address → ⊥)
+    (quiet_kept shape start.first h.state (g.D.Device.cells c.args.device.now) (g.D.Device.cells c.store.new.device) (λ b. b ≡ c.args.update.now.cell.word → ⊥)
     (at_most_three c.args.target start h.state _ next gates _ h.gone) h.gone.reached off c.store.ensures.aside
     (reached.come.size ∙ sym h.gone.reached.come.size) (g.met.D.Device.full c.store.new.device) h.gone.quiet)
     (record { counted = counted_as 1 c.store.result Made (g.D.Device.counts c.args.device.now) (g.D.Device.counts c.store.new.device) made c.store.ensures.counted; spare = c.store.ensures.spare_left; header = λ a v is one. c.store.ensures.aside a v (off a is.below) one })
@@ -46,7 +46,7 @@ returns-clause-stopped g c = λ stopped start left counter next gates h.
     let u = record_of_placed c.args.update.now in
     let word = heap_word c.args.target start u left next gates _ counter h c.requires.update in
     let low : 32 ≤ heap shape = omega arith in
-    let off : (a : ℕ) → a < 32 → a ≡ c.args.update.now.cell.address → ⊥ = λ a lt e. (let le = word.0 in omega (arith, lt, e, le, low)) in
+    let off : (a : ℕ) → a < 32 → a ≡ c.args.update.now.cell.word → ⊥ = λ a lt e. (let le = word.0 in omega (arith, lt, e, le, low)) in
     old_halts c.args.target start u left next gates _ counter h c.requires.update (seen (g.D.Device.cells c.store.new.device) (g.D.Device.counts c.store.new.device) (g.D.Device.spare c.store.new.device))
     (c.store.ensures.stopped stopped shape start.first h.state h.gone.sound h.gone.reached)
     (record { counted = counted_as 1 c.store.result Stopped (g.D.Device.counts c.args.device.now) (g.D.Device.counts c.store.new.device) stopped c.store.ensures.counted; spare = c.store.ensures.spare_left; header = λ a v is one. c.store.ensures.aside a v (off a is.below) one })
@@ -60,5 +60,5 @@ returns-clause-log_words g c = λ made.
     let u = record_of_placed c.args.update.now in
     let word = heap_word c.args.target start u at.1 at.3 at.4 _ at.2 h c.requires.update in
     let reached = c.store.ensures.made made shape start.first h.state h.gone.reached word.0 (covered c.args.target start u at.1 at.3 at.4 _ at.2 h c.requires.update) in
-    log_words_kept c.args.target.layout start.first h.state (g.D.Device.cells c.args.device.now) h.gone.reached (λ b. b ≡ c.args.update.now.cell.address → ⊥) (g.D.Device.cells c.store.new.device)
+    log_words_kept c.args.target.layout start.first h.state (g.D.Device.cells c.args.device.now) h.gone.reached (λ b. b ≡ c.args.update.now.cell.word → ⊥) (g.D.Device.cells c.store.new.device)
     (λ a lt e. (let le = word.0 in omega (arith, lt, e, le))) c.store.ensures.aside (reached.come.size ∙ sym h.gone.reached.come.size) (g.met.D.Device.full c.store.new.device)

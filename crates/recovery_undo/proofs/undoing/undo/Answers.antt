@@ -1,4 +1,4 @@
-use Rattle.recovery_undo.specs.Passing.{seen, HasSpent}
+use Rattle.recovery_undo.specs.UndoProgress.{seen, HasSpent}
 use Rattle.recovery_undo.specs.Undoing.{CanUndo, undo_events}
 use Rattle.region_layout.specs.Layout.{layout_shape}
 use Rattle.recovery_undo.proofs.Stepping.{no_placed}

@@ -1,7 +1,7 @@
 use Rattle.std.specs.Prelude.{slice_index, length}
 use Rattle.std.proofs.lemmas.Result.{err_from_is_err_and}
 use Rattle.log_laws.proofs.Soundness.{sound_has_no_fault}
-use Rattle.sound_check.proofs.Images.{of_sound, of_unsound}
+use Rattle.sound_check.proofs.TriedImages.{of_sound, of_unsound}
 use Rattle.sound_check.proofs.checking.check.Goals as goal
 
 pub returns-in_err-read-clause-of_sound : goal.returns-in_err-read-clause-of_sound

@@ -5,7 +5,7 @@ use Rattle.persist_model.specs.Faults.{in_header}
 use Rattle.region_layout.specs.Layout.{layout_shape}
 use Rattle.log_tables.specs.Rows.{log_of_rows}
 use Rattle.sound_check.proofs.PartsTried.{unsound_as}
-use Rattle.sound_check.proofs.Images.{sized, are_logs, the_state, has_state, same_words, list_fault, log_fault, image_is_sound}
+use Rattle.sound_check.proofs.TriedImages.{sized, are_logs, the_state, has_state, same_words, list_fault, log_fault, image_is_sound}
 use Rattle.sound_check.proofs.checking.read_sound.Goals as goal
 
 pub returns-in_err-layout-clause-unsound : goal.returns-in_err-layout-clause-unsound

@@ -7,8 +7,8 @@ use Rattle.sound_check.proofs.order.is_barred.Goals as goal
 
 pub returns-then-named : goal.returns-then-named
 returns-then-named c = λ part log earlier past. barred_tells log earlier (record_of_placed c.args.r.now) _
-    (c.is_claimed-claimed.ensures part (is_barring log) earlier past ∙ ap (λ b. b && has_claim (is_barring log) c.args.r.now.cell.address c.args.r.now.cell.transaction earlier) c.if-named.ensures)
+    (c.is_claimed-claimed.ensures part (is_barring log) earlier past ∙ ap (λ b. b && has_claim (is_barring log) c.args.r.now.cell.word c.args.r.now.cell.transaction earlier) c.if-named.ensures)
 
 pub returns-else-named : goal.returns-else-named
 returns-else-named c = λ part log earlier past. barred_tells log earlier (record_of_placed c.args.r.now) _
-    (c.if-named.false ∙ ap (λ b. b && has_claim (is_barring log) c.args.r.now.cell.address c.args.r.now.cell.transaction earlier) c.if-named.ensures)
+    (c.if-named.false ∙ ap (λ b. b && has_claim (is_barring log) c.args.r.now.cell.word c.args.r.now.cell.transaction earlier) c.if-named.ensures)

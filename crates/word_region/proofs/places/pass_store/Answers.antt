@@ -3,7 +3,7 @@ use Rattle.std.specs.List.{list_any}
 use Rattle.std.proofs.lemmas.List.{get_or_default}
 use Rattle.persist_model.specs.Region.{candidate, has_mark}
 use Rattle.word_region.specs.Places.{is_elsewhere, bears}
-use Rattle.word_region.proofs.Passing.{none_filter, unmarked_own, marked_step}
+use Rattle.word_region.proofs.FencePass.{none_filter, unmarked_own, marked_step}
 use Rattle.word_region.proofs.places.pass_store.Goals as goal
 
 pub returns-then-passed-mark-clause-fenced : goal.returns-then-passed-mark-clause-fenced

@@ -5,7 +5,7 @@ pub add-requires : goal.add-requires
 add-requires c = (c.requires.1, c.requires.2.summaries, c.requires.3)
 
 pub add_number-requires : goal.add_number-requires
-add_number-requires c = number_free c.args.self.now.numbers c.requires.1 c.args.s.now.cell.gate c.requires.2.numbers c.requires.4
+add_number-requires c = number_free c.args.self.now.numbers c.requires.1 c.args.s.now.cell.lsn c.requires.2.numbers c.requires.4
 
 pub returns : goal.returns
 returns c = λ marks log bars past. record {

@@ -1,9 +1,0 @@
-use Rattle.std.specs.Prelude.{slice_index}
-use Rattle.std.proofs.Common.{ℕ, ◌<◌}
-use Rattle.persist_model.specs.Chain.{view}
-use Rattle.region_layout.specs.Layout.{layout_shape}
-use Rattle.sound_check.specs.Rules.{HasGoodLinks}
-use Rattle.sound_check.proofs.lists.try_all_links.Given as goal
-
-abbrev pub invariant-loop-p : goal.invariant-loop-p
-invariant-loop-p g l = (q : ℕ) → q < l.p → HasGoodLinks (layout_shape l.layout) q (view q (slice_index (g.W.Look.words l.words)))
