@@ -1,5 +1,6 @@
 -- What the end of a recovery says of the image that was loaded.
 use Rattle.std.proofs.Common.{◌≡◌, ℕ, ◌+◌, ◌≤◌, List, length, refl, sym, ◌∙◌, ap, subst, arith}
+use Rattle.persist_model.specs.ImageRules.{rule_number}
 use Rattle.persist_model.specs.Region.{Words, Region, AreSettled, loaded, newest_words}
 use Rattle.persist_model.specs.Shape.{Shape, shape_of, heap}
 use Rattle.persist_model.proofs.Images.{AreFull, length-newest_words}
@@ -141,7 +142,7 @@ module _ (i : Image) (cells later : Region) (before counts later_counts : Counts
 
 -- an image that was refused
 pub refused_end : (wanted : Wanted) (i : Image) (region later : Region) (counts later_counts : Counts) (why : CheckFault) → IsLoaded i counts later later_counts
-    → ((found : ImageFault) → why ≡ refusal.Unsound found → IsRefusedBy i found.fault found.addr) → IsEndOfImage wanted i region counts later later_counts (end_of_refusal why)
+    → ((found : ImageFault) → why ≡ refusal.Unsound found → IsRefusedBy i (rule_number found.rule) found.address) → IsEndOfImage wanted i region counts later later_counts (end_of_refusal why)
 refused_end wanted i region later counts later_counts (refusal.Unsound found) is_loaded first = (first found refl, is_loaded)
 refused_end wanted i region later counts later_counts refusal.NoMemory is_loaded first = unmade is_loaded
 

@@ -1,5 +1,6 @@
 -- What a recovery of an image text came to, each end with its cause, and what became of the device.
 use Rattle.std.specs.Prelude.{◌≡◌, ◌⊎◌, ℕ, ◌+◌, ◌≤◌, List, length, Ok, Err, slice_index}
+use Rattle.persist_model.specs.ImageRules.{rule_number}
 use Rattle.persist_model.specs.Region.{Words, Region, AreSettled, loaded, newest_words}
 use Rattle.persist_model.specs.Shape.{shape_of, heap, words_of_shape}
 use Rattle.persist_model.specs.Sound.{IsSound}
@@ -112,7 +113,7 @@ pub data IsShort (i : Image) (region : Region) (counts : Counts) (region_after :
 -- what an image came to, and why
 abbrev pub IsEndOfImage : Wanted → Image → Region → Counts → Region → Counts → Ended → Type 0
 IsEndOfImage wanted i region counts region_after counts_after (ended.Misread line) = ⊥
-IsEndOfImage wanted i region counts region_after counts_after (ended.Unsound found) = IsRefusedBy i found.fault found.addr × IsLoaded i counts region_after counts_after
+IsEndOfImage wanted i region counts region_after counts_after (ended.Unsound found) = IsRefusedBy i (rule_number found.rule) found.address × IsLoaded i counts region_after counts_after
 IsEndOfImage wanted i region counts region_after counts_after ended.Stopped = IsHalted i counts region_after counts_after
 IsEndOfImage wanted i region counts region_after counts_after (ended.Broken root) = IsBroken wanted i counts region_after counts_after root
 IsEndOfImage wanted i region counts region_after counts_after ended.NoMemory = IsShort i region counts region_after counts_after

@@ -1,6 +1,7 @@
 -- Whether the `map` lines of an image text fit its words.
 use Rattle.std.specs.Prelude.{◌≡◌, ℕ, ◌+◌, ◌<◌, List, length, Some}
 use Rattle.std.specs.List.{slice_get}
+use Rattle.persist_model.specs.ImageRules.{SIZES_RULE}
 use Rattle.persist_model.specs.Region.{Words}
 use Rattle.persist_model.specs.Shape.{SECOND_MAGIC}
 use Rattle.region_layout.specs.declared.layout.Kind.{Kind}
@@ -17,6 +18,6 @@ pub record Fit (w : Words) (kinds : List Kind) : Type 0 where
 
 -- The fault of lines that don't fit: their number, or the word of the first kind that is another.
 pub data IsLineFault (w : Words) (kinds : List Kind) (fault a : ℕ) : Type 0 where
-  counted : (length kinds ≡ w 5 → ⊥) → fault ≡ 4 → a ≡ 5 → IsLineFault w kinds fault a
+  counted : (length kinds ≡ w 5 → ⊥) → fault ≡ SIZES_RULE → a ≡ 5 → IsLineFault w kinds fault a
   other : length kinds ≡ w 5 → w 0 ≡ SECOND_MAGIC → (s : ℕ) → s < length kinds → (IsOfKind w kinds s → ⊥)
-      → ((t : ℕ) → t < s → IsOfKind w kinds t) → fault ≡ 4 → a ≡ 13 + s → IsLineFault w kinds fault a
+      → ((t : ℕ) → t < s → IsOfKind w kinds t) → fault ≡ SIZES_RULE → a ≡ 13 + s → IsLineFault w kinds fault a

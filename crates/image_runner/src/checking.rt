@@ -1,5 +1,6 @@
 //! Whether words are a sound image.
 ghost use Rattle.std.specs.Prelude.{◌≡◌, ℕ, Err, length, slice_index, OnOk, IfOk};
+ghost use Rattle.persist_model.specs.ImageRules.{rule_number};
 ghost use Rattle.persist_model.specs.Shape.{shape_of};
 ghost use Rattle.persist_model.specs.Sound.{IsSound};
 ghost use Rattle.persist_model.specs.Faults.{IsFirstFault};
@@ -17,7 +18,7 @@ pub(crate) fn check<W: Look>(alloc: Global, words: &W) -> Result<Layout, CheckFa
     ensures sound { OnOk result (IsSound (length (W.words words.now)) (slice_index (W.words words.now))) }
     ensures shape { IfOk result (λ layout. layout_shape layout ≡ shape_of (slice_index (W.words words.now))) }
     ensures unsound { (found : ImageFault) → result ≡ Err (CheckFault.Unsound found)
-        → IsFirstFault (length (W.words words.now)) (slice_index (W.words words.now)) found.fault found.addr }
+        → IsFirstFault (length (W.words words.now)) (slice_index (W.words words.now)) (rule_number found.rule) found.address }
 {
     sound_check::check(alloc, words)
 }

@@ -1,25 +1,24 @@
 //! Whether the `map` lines of an image fit its words.
 ghost use Rattle.std.specs.Prelude.{◌≡◌, ◌≤◌, ℕ, length, slice_index, IfSome, IfNone};
+ghost use Rattle.persist_model.specs.ImageRules.{rule_number};
 ghost use Rattle.image_runner.specs.MapLines.{Fit, IsLineFault};
 
-use persist_model::Look;
+use persist_model::{ImageRule, Look};
 use persist_model::format::{FIRST_KIND, SECOND_MAGIC, STRUCTURES};
 use region_layout::{ImageFault, Kind, number_of_kind};
 
-/// The number of the rule on the sizes, which the lines belong to.
-const SIZES_FAULT: u32 = 4;
 
 /// The fault of `map` lines that don't fit the words.
 pub(crate) fn wrong_line<W: Look>(words: &W, kinds: &[Kind]) -> Option<ImageFault>
     requires long { 32 ≤ length (W.words words.now) }
     requires few { length kinds.now ≤ 8 }
-    ensures fault { IfSome result (λ found. IsLineFault (slice_index (W.words words.now)) kinds.now found.fault found.addr) }
+    ensures fault { IfSome result (λ found. IsLineFault (slice_index (W.words words.now)) kinds.now (rule_number found.rule) found.address) }
     ensures fit { IfNone result (Fit (slice_index (W.words words.now)) kinds.now) }
 {
     if kinds.len() as u64 != words.word(STRUCTURES) {
         return Some(ImageFault {
-            fault: SIZES_FAULT,
-            addr: STRUCTURES,
+            rule: ImageRule::Sizes,
+            address: STRUCTURES,
         });
     }
     if words.word(0) != SECOND_MAGIC {
@@ -34,15 +33,15 @@ fn wrong_kind<W: Look>(words: &W, kinds: &[Kind]) -> Option<ImageFault>
     requires few { length kinds.now ≤ 8 }
     requires count { length kinds.now ≡ slice_index (W.words words.now) 5 }
     requires second { slice_index (W.words words.now) 0 ≡ 5933297088048660482 }
-    ensures fault { IfSome result (λ found. IsLineFault (slice_index (W.words words.now)) kinds.now found.fault found.addr) }
+    ensures fault { IfSome result (λ found. IsLineFault (slice_index (W.words words.now)) kinds.now (rule_number found.rule) found.address) }
     ensures fit { IfNone result (Fit (slice_index (W.words words.now)) kinds.now) }
 {
     for (s, kind) in kinds.iter().enumerate() {
-        let addr = FIRST_KIND + s as u32;
-        if words.word(addr) != number_of_kind(*kind) {
+        let address = FIRST_KIND + s as u32;
+        if words.word(address) != number_of_kind(*kind) {
             return Some(ImageFault {
-                fault: SIZES_FAULT,
-                addr,
+                rule: ImageRule::Sizes,
+                address,
             });
         }
     }

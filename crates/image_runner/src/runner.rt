@@ -1,5 +1,6 @@
 //! Recovers the image of a text on a device.
 ghost use Rattle.std.specs.Prelude.{◌≡◌, ◌≤◌, ℕ, Err, length, slice_index, OnOk, IfOk};
+ghost use Rattle.persist_model.specs.ImageRules.{rule_number};
 ghost use Rattle.persist_model.specs.Region.{Region, loaded};
 ghost use Rattle.persist_model.specs.Shape.{heap, shape_of, words_of_shape};
 ghost use Rattle.lane_traits.specs.Device.{Counts, since_load};
@@ -97,7 +98,7 @@ fn admit<W: Look>(alloc: Global, words: &W, kinds: &[Kind]) -> Result<Layout, Ch
     ensures admitted { OnOk result (IsAdmitted (record { kinds = kinds.now; words = W.words words.now })) }
     ensures shape { IfOk result (λ layout. layout_shape layout ≡ shape_of (slice_index (W.words words.now))) }
     ensures refused { (found : ImageFault) → result ≡ Err (CheckFault.Unsound found)
-        → IsRefusedBy (record { kinds = kinds.now; words = W.words words.now }) found.fault found.addr }
+        → IsRefusedBy (record { kinds = kinds.now; words = W.words words.now }) (rule_number found.rule) found.address }
 {
     match check(alloc, words) {
         Err(refusal) => Err(refusal),

@@ -2,6 +2,7 @@
 -- fault, which is its number, and an address: 1 magic, 2 policy, 3 cells, 4 sizes, 5 address, 6 list, 7 record, 8 order, 9 room.
 use Rattle.std.specs.Prelude.{◌≡◌, ◌≢◌, ◌⊎◌, ℕ, ◌+◌, ◌≤◌, List, [], ◌∷◌}
 use Rattle.std.specs.List.{range_with_len}
+use Rattle.persist_model.specs.ImageRules.{MAGIC_RULE, POLICY_RULE, CELLS_RULE, SIZES_RULE, ADDRESS_RULE, LIST_RULE, RECORD_RULE, ORDER_RULE, ROOM_RULE}
 use Rattle.persist_model.specs.Region.{Words}
 use Rattle.persist_model.specs.Records.{Record, Log, IsAmong}
 use Rattle.persist_model.specs.Order.{Follows}
@@ -41,23 +42,23 @@ parts shape = range_with_len 0 shape.partitions
 -- ---- the header
 
 abbrev pub TryMagic : ℕ → Words → FaultSet → FaultSet
-TryMagic size w next = Tried ((32 ≤ size) × IsMagic (w 0)) 1 0 next
+TryMagic size w next = Tried ((32 ≤ size) × IsMagic (w 0)) MAGIC_RULE 0 next
 
 abbrev pub TryPolicy : Words → FaultSet → FaultSet
-TryPolicy w next = Tried (IsPolicy (w 1)) 2 1 next
+TryPolicy w next = Tried (IsPolicy (w 1)) POLICY_RULE 1 next
 
 abbrev pub TryCells : Words → FaultSet → FaultSet
-TryCells w next = Tried (IsCellCount (w 2)) 3 2 next
+TryCells w next = Tried (IsCellCount (w 2)) CELLS_RULE 2 next
 
 -- the words 3, 4 and 5, in format 2 also 6 and the kinds, and then how many words there are
 abbrev pub TrySizes : ℕ → Words → FaultSet → FaultSet
 TrySizes size w next =
-    Tried (IsBucketCount (w 3)) 4 3 (
-    Tried (IsBlockCount (w 4)) 4 4 (
-    Tried (IsStructureCount (w 5)) 4 5 (
-    Tried (w 0 ≡ SECOND_MAGIC → IsPartitionCount (w 3) (w 6)) 4 6 (
-    TriedEach (λ a. w 0 ≡ SECOND_MAGIC → IsKind (w a)) 4 (λ a. a) (range_with_len 13 (w 5)) (
-    Tried (size ≡ words_of_shape (shape_of w)) 4 0 next)))))
+    Tried (IsBucketCount (w 3)) SIZES_RULE 3 (
+    Tried (IsBlockCount (w 4)) SIZES_RULE 4 (
+    Tried (IsStructureCount (w 5)) SIZES_RULE 5 (
+    Tried (w 0 ≡ SECOND_MAGIC → IsPartitionCount (w 3) (w 6)) SIZES_RULE 6 (
+    TriedEach (λ a. w 0 ≡ SECOND_MAGIC → IsKind (w a)) SIZES_RULE (λ a. a) (range_with_len 13 (w 5)) (
+    Tried (size ≡ words_of_shape (shape_of w)) SIZES_RULE 0 next)))))
 
 abbrev pub IsShapeFault : ℕ → Words → FaultSet
 IsShapeFault size w = TryMagic size w (TryPolicy w (TryCells w (TrySizes size w NoFault)))
@@ -67,12 +68,12 @@ IsShapeFault size w = TryMagic size w (TryPolicy w (TryCells w (TrySizes size w 
 -- the words of a partition that are links, each of which is 0 or one of its buckets
 abbrev pub TryAddressesOf : Shape → Words → ℕ → FaultSet → FaultSet
 TryAddressesOf shape w p next fault a = (visited : List ℕ) × IsVisit (IsBucketOf shape p) (view p w) visited ×
-    TriedEach (λ b. IsLink (IsBucketOf shape p) (view p w b)) 5 (out_address p) (address_words (view p w) visited) next fault a
+    TriedEach (λ b. IsLink (IsBucketOf shape p) (view p w b)) ADDRESS_RULE (out_address p) (address_words (view p w) visited) next fault a
 
 -- the PREV of each of xs, the first being behind before
 abbrev pub TryLinksBack : Words → ℕ → List ℕ → FaultSet → FaultSet
 TryLinksBack w before [] next = next
-TryLinksBack w before (x ∷ xs) next = Tried ((w (prev_of x) ≡ before) ⊎ IsExcepted w (prev_of x)) 6 (prev_of x) (TryLinksBack w x xs next)
+TryLinksBack w before (x ∷ xs) next = Tried ((w (prev_of x) ≡ before) ⊎ IsExcepted w (prev_of x)) LIST_RULE (prev_of x) (TryLinksBack w x xs next)
 
 -- what is asked of the bucket n that is being put in, behind those that were visited
 abbrev pub MayAppend : Words → List ℕ → ℕ → Type 0
@@ -86,12 +87,12 @@ MayRemove shape w chain n = RemoveRule w chain n (w (prev_of n)) (w (next_of n))
 -- arrives; what is put in and what is taken out may be; and each PREV and TAIL name the bucket before.
 abbrev pub TryPoints : Shape → ℕ → Words → List ℕ → FaultSet → FaultSet
 TryPoints shape base w visited next =
-    Tried ((w TO_APPEND ≡ 0) ⊎ (w TO_REMOVE ≡ 0)) 6 (base + 4) (
-    Tried (HasArrived w visited) 6 base (
-    Tried (w TO_APPEND ≢ 0 → MayAppend w visited (w TO_APPEND)) 6 (base + 2) (
-    Tried (w TO_REMOVE ≢ 0 → MayRemove shape w (chain_from w visited) (w TO_REMOVE)) 6 (base + 4) (
+    Tried ((w TO_APPEND ≡ 0) ⊎ (w TO_REMOVE ≡ 0)) LIST_RULE (base + 4) (
+    Tried (HasArrived w visited) LIST_RULE base (
+    Tried (w TO_APPEND ≢ 0 → MayAppend w visited (w TO_APPEND)) LIST_RULE (base + 2) (
+    Tried (w TO_REMOVE ≢ 0 → MayRemove shape w (chain_from w visited) (w TO_REMOVE)) LIST_RULE (base + 4) (
     TryLinksBack w 0 (chain_from w visited) (
-    Tried ((w TAIL ≡ last_or 0 (chain_from w visited)) ⊎ IsExcepted w TAIL) 6 (base + 1) next)))))
+    Tried ((w TAIL ≡ last_or 0 (chain_from w visited)) ⊎ IsExcepted w TAIL) LIST_RULE (base + 1) next)))))
 
 abbrev pub TryListOf : Shape → Words → ℕ → FaultSet → FaultSet
 TryListOf shape w p next fault a = (visited : List ℕ) × IsVisit (IsBucketOf shape p) (view p w) visited × TryPoints shape (list_words p) (view p w) visited next fault a
@@ -111,16 +112,16 @@ IsListFault shape w = TryAddresses shape w (parts shape) (TryLists shape w (part
 -- ---- the log
 
 abbrev pub TryRecords : Shape → State → FaultSet → FaultSet
-TryRecords shape s next = TriedOldest (λ earlier r. IsWellFormed shape r) 7 s.log next
+TryRecords shape s next = TriedOldest (λ earlier r. IsWellFormed shape r) RECORD_RULE s.log next
 
 abbrev pub TryOrder : Shape → State → FaultSet → FaultSet
-TryOrder shape s next = TriedOldest (Follows (part_of shape) s.log) 8 s.log next
+TryOrder shape s next = TriedOldest (Follows (part_of shape) s.log) ORDER_RULE s.log next
 
 -- the room of each partition, the fault being at its TAIL, and then the numbers that recovery draws
 abbrev pub TryRoom : Shape → State → FaultSet → FaultSet
 TryRoom shape s next =
-    TriedEach (λ p. HasRoom shape s.log p (s.room p)) 9 (λ p. list_words p + 1) (parts shape) (
-    Tried ((r : Record) → IsAmong s.log r → HasNumbers shape s.log r) 9 9 next)
+    TriedEach (λ p. HasRoom shape s.log p (s.room p)) ROOM_RULE (λ p. list_words p + 1) (parts shape) (
+    Tried ((r : Record) → IsAmong s.log r → HasNumbers shape s.log r) ROOM_RULE 9 next)
 
 abbrev pub IsLogFault : Shape → State → FaultSet
 IsLogFault shape s = TryRecords shape s (TryOrder shape s (TryRoom shape s NoFault))

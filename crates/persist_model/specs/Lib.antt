@@ -15,4 +15,5 @@ pub mod State
 pub mod Chain
 pub mod Visit
 pub mod Sound
+pub mod ImageRules
 pub mod Faults

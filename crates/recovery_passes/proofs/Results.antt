@@ -1,6 +1,7 @@
 -- What recovery's clauses say, from what its stages did.
 use Rattle.std.proofs.Common.{◌≡◌, ℕ, ◌+◌, ◌-◌, ◌*◌, ◌≤◌, Bool, true, false, if◌then◌else◌, List, [], ◌∷◌, length, refl, sym, ap, ◌∙◌, subst, arith}
 use Rattle.std.specs.Prelude.{slice_index, IsTrue, ◌↔◌, Result, Err}
+use Rattle.persist_model.specs.ImageRules.{rule_number}
 use Rattle.persist_model.specs.Region.{Words, Region, AreSettled, newest_words}
 use Rattle.persist_model.specs.Records.{Log, IsCommitted, IsLoser}
 use Rattle.persist_model.specs.Shape.{Shape, shape_of, part_of, words_of_shape}
@@ -233,10 +234,10 @@ counted_there {layout = layout} {s0 = s0} {redo = redo} {running = running} {che
 -- ---- a refusal
 
 pub unsound_read : (words : List ℕ) (region : Region) → words ≡ newest_words region → (fault : RecoverFault) → IfRefused fault (IsFirstFault (length words) (slice_index words)) → (found : ImageFault) →
-    fault ≡ Unsound found → IsFirstFault region.size (newest_at region) found.fault found.addr
+    fault ≡ Unsound found → IsFirstFault region.size (newest_at region) (rule_number found.rule) found.address
 unsound_read words region is fault there found same =
-    subst (λ n. IsFirstFault n (newest_at region) found.fault found.addr) (length-newest_words region)
-    (subst (λ (xs : List ℕ). IsFirstFault (length xs) (slice_index xs) found.fault found.addr) is
+    subst (λ n. IsFirstFault n (newest_at region) (rule_number found.rule) found.address) (length-newest_words region)
+    (subst (λ (xs : List ℕ). IsFirstFault (length xs) (slice_index xs) (rule_number found.rule) found.address) is
     (subst (λ (r : RecoverFault). IfRefused r (IsFirstFault (length words) (slice_index words))) same there))
 
 pub err_is : {X : Type 0} (a b : RecoverFault) → ◌≡◌ {A = Result X RecoverFault} (Err a) (Err b) → a ≡ b

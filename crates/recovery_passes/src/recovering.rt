@@ -1,4 +1,5 @@
 ghost use Rattle.std.specs.Prelude.{◌≡◌, ◌≤◌, ◌<◌, ◌+◌, ◌^◌, ℕ, Err, OnOk, IfOk, IfErr, length, slice_index};
+ghost use Rattle.persist_model.specs.ImageRules.{rule_number};
 ghost use Rattle.persist_model.specs.Region.{AreSettled};
 ghost use Rattle.persist_model.specs.Shape.{shape_of};
 ghost use Rattle.persist_model.specs.Sound.{IsSound};
@@ -195,7 +196,7 @@ pub fn recover<D: Device>(alloc: Global, device: &mut D) -> Result<Recovered, Re
     ensures again { IsFinished (D.cells device.old).size (newest_at (D.cells device.old)) → IfOk result (λ done. done.events ≡ 0) }
     // The refusals
     ensures unsound { (found : ImageFault) → result ≡ Err (RecoverFault.Unsound found)
-        → IsFirstFault (D.cells device.old).size (newest_at (D.cells device.old)) found.fault found.addr }
+        → IsFirstFault (D.cells device.old).size (newest_at (D.cells device.old)) (rule_number found.rule) found.address }
     ensures unsound_cells { (found : ImageFault) → result ≡ Err (RecoverFault.Unsound found) → D.cells device.new ≡ D.cells device.old }
     ensures unsound_counts { (found : ImageFault) → result ≡ Err (RecoverFault.Unsound found) → D.counts device.new ≡ D.counts device.old }
     ensures memory_cells { result ≡ Err RecoverFault.NoMemory → D.cells device.new ≡ D.cells device.old }

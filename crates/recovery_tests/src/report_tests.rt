@@ -4,6 +4,7 @@ ghost use Rattle.std.specs.Prelude.{◌≡◌};
 use crate::images::{Image, words_of};
 use crate::runs::{Case, check, check_words, loaded};
 use lane_traits::Device;
+use persist_model::ImageRule;
 use recovery_passes::{RecoverFault, recover};
 use region_layout::{Layout, Policy};
 use std::test::Fail;
@@ -58,7 +59,7 @@ fn an_image_that_is_not_sound_is_left_as_it_is(rt: HostRuntime) -> Result<(), Fa
     let mut region = loaded(&rt, alloc, &words);
     match recover(alloc, &mut region) {
         Err(RecoverFault::Unsound(found)) => {
-            assert_eq!(rt; (found.fault, found.addr), (8, 56));
+            assert_eq!(rt; (found.rule, found.address), (ImageRule::Order, 56));
         }
         _ => return Err("not refused".into()),
     }

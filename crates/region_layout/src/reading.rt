@@ -1,69 +1,60 @@
 //! The layout that the words of a region say.
 ghost use Rattle.std.specs.Prelude.{◌≡◌, ℕ, ◌+◌, ◌*◌, ◌<◌, ◌≤◌, ◌↔◌, length, slice_index, IsTrue, IfOk, IfErr, OnOk, MatchOption};
+ghost use Rattle.persist_model.specs.ImageRules.{rule_number};
 ghost use Rattle.persist_model.specs.Shape.{shape_of, IsMagic, IsPolicy, IsCellCount, IsStructureCount, IsKind, IsShape, SECOND_MAGIC as second_magic};
 ghost use Rattle.persist_model.specs.Faults.{IsShapeFault};
 ghost use Rattle.region_layout.specs.Layout.{layout_shape, policy_number};
 ghost use Rattle.region_layout.specs.Reading.{HasSizes, IsWrongKind, IsWrongSize};
 
 use crate::layout::{Layout, Policy};
-use persist_model::Look;
+use persist_model::{ImageRule, Look};
 use persist_model::format::{
     BLOCKS, BUCKETS, CELLS, FIRST_KIND, HEADER_WORDS, PARTITIONS, POLICY, SECOND_MAGIC, STRUCTURES,
     is_magic,
 };
 
-/// The number of the rule on word 0.
-const MAGIC_FAULT: u32 = 1;
-/// The number of the rule on the policy.
-const POLICY_FAULT: u32 = 2;
-/// The number of the rule on the cells of a bucket.
-const CELLS_FAULT: u32 = 3;
-/// The number of the rule on the sizes.
-const SIZES_FAULT: u32 = 4;
-
-/// The first rule that words break, by its number from 1 to 9, and the address that it names.
-/// Number 10 is a structure that isn't a map, with the address of its root.
+/// The first rule that words break, and the address that it names.
 #[derive(Clone, Copy, Debug, PartialEq, Eq)]
 pub struct ImageFault {
-    pub fault: u32,
-    pub addr: u32,
+    pub rule: ImageRule,
+    pub address: u32,
 }
 
 /// The layout that the header says, or which of the rules 1 to 4 is the first that fails.
 pub fn read_layout<W: Look>(words: &W) -> Result<Layout, ImageFault>
     ensures shape { IfOk result (λ layout. layout_shape layout ≡ shape_of (slice_index (W.words words.now))) }
     ensures ok { OnOk result (IsShape (length (W.words words.now)) (slice_index (W.words words.now))) }
-    ensures fault { IfErr result (λ found. IsShapeFault (length (W.words words.now)) (slice_index (W.words words.now)) found.fault found.addr) }
+    ensures fault { IfErr result (λ found. IsShapeFault (length (W.words words.now)) (slice_index (W.words words.now)) (rule_number found.rule) found.address) }
 {
     if !has_magic(words) {
         return Err(ImageFault {
-            fault: MAGIC_FAULT,
-            addr: 0,
+            rule: ImageRule::Magic,
+            address: 0,
         });
     }
     let Some(policy) = policy_of(words.word(POLICY)) else {
         return Err(ImageFault {
-            fault: POLICY_FAULT,
-            addr: POLICY,
+            rule: ImageRule::Policy,
+            address: POLICY,
         });
     };
     if !is_cell_count(words.word(CELLS)) {
         return Err(ImageFault {
-            fault: CELLS_FAULT,
-            addr: CELLS,
+            rule: ImageRule::Cells,
+            address: CELLS,
         });
     }
-    if let Some(addr) = wrong_size(words) {
+    if let Some(address) = wrong_size(words) {
         return Err(ImageFault {
-            fault: SIZES_FAULT,
-            addr,
+            rule: ImageRule::Sizes,
+            address,
         });
     }
     let layout = layout_of(words, policy);
     if words.size() != layout.size() {
         return Err(ImageFault {
-            fault: SIZES_FAULT,
-            addr: 0,
+            rule: ImageRule::Sizes,
+            address: 0,
         });
     }
     Ok(layout)

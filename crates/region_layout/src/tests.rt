@@ -2,7 +2,7 @@
 ghost use Rattle.std.specs.Prelude.{◌≡◌, ◌<◌, ◌≤◌, ◌^◌, length};
 
 use crate::{Buckets, ImageFault, Kind, Layout, Policy, cell_word, format, read_cell, read_layout};
-use persist_model::Look;
+use persist_model::{ImageRule, Look};
 use persist_model::format::FIRST_MAGIC;
 use std::alloc::Global;
 use std::test::Fail;
@@ -86,25 +86,25 @@ fn a_fresh_region_has_its_header_and_its_roots(rt: HostRuntime) -> Result<(), Fa
 
 #[test]
 fn a_header_is_refused_by_its_first_wrong_word(rt: HostRuntime) -> Result<(), Fail> {
-    let cases: [(usize, u64, u32, u32); 12] = [
-        (0, 5, 1, 0),
-        (1, 0, 2, 1),
-        (2, 2, 3, 2),
-        (3, 3, 4, 3),
-        (3, 8, 4, 0),
-        (4, 65_537, 4, 4),
-        (5, 9, 4, 5),
-        (5, 0, 4, 5),
-        (6, 0, 4, 6),
-        (6, 2, 4, 6),
-        (13, 4, 4, 13),
-        (4, 17, 4, 0),
+    let cases: [(usize, u64, ImageRule, u32); 12] = [
+        (0, 5, ImageRule::Magic, 0),
+        (1, 0, ImageRule::Policy, 1),
+        (2, 2, ImageRule::Cells, 2),
+        (3, 3, ImageRule::Sizes, 3),
+        (3, 8, ImageRule::Sizes, 0),
+        (4, 65_537, ImageRule::Sizes, 4),
+        (5, 9, ImageRule::Sizes, 5),
+        (5, 0, ImageRule::Sizes, 5),
+        (6, 0, ImageRule::Sizes, 6),
+        (6, 2, ImageRule::Sizes, 6),
+        (13, 4, ImageRule::Sizes, 13),
+        (4, 17, ImageRule::Sizes, 0),
     ];
-    for (address, value, fault, addr) in cases {
+    for (address, value, rule, named) in cases {
         let row = changed(rt.alloc(), address, value)?.ok_or("fits")?;
         assert_eq!(rt;
             read_layout(&row),
-            Err(ImageFault { fault, addr }),
+            Err(ImageFault { rule, address: named }),
             "at {address}"
         );
     }

@@ -4,6 +4,7 @@ use Rattle.std.proofs.lemmas.Bool.{lt-ltb, le-ltb}
 use Rattle.rewind.specs.Served.{script as script_of_text}
 use Rattle.rewind.specs.Events.{with_events, has_stopped}
 use Rattle.std.proofs.lemmas.List.{length-append}
+use Rattle.persist_model.specs.ImageRules.{rule_number}
 use Rattle.persist_model.specs.Region.{Words, Region}
 use Rattle.persist_model.specs.Shape.{shape_of, heap}
 use Rattle.lane_traits.specs.Device.{Counts, since_load}
@@ -62,7 +63,7 @@ module _ (wanted : Wanted) (text : List ℕ) (region region' : Region) (counts c
 
   pub end_due : (end : Ended) (due : Status) → IsEndOf wanted text region counts region' counts' end → IsDue wanted text due → IsDueOrShort (status_of_end end) due
   end_due (ended.Misread line) due h d = misread_due wanted text region region' counts counts' short unstopped line due h.0 d
-  end_due (ended.Unsound found) due h d = refused_due wanted text region region' counts counts' short unstopped h.0 found.fault found.addr due h.1 h.2.0 d
+  end_due (ended.Unsound found) due h d = refused_due wanted text region region' counts counts' short unstopped h.0 (rule_number found.rule) found.address due h.1 h.2.0 d
   end_due ended.Stopped due h d = absurd (unstopped (halted_rose wanted text region region' counts counts' short unstopped h.0 h.2))
   end_due (ended.Broken root) due h d = broken_due wanted text region region' counts counts' short unstopped h.0 root due h.1 h.2.report h.2.broken d
   end_due ended.NoMemory due h d = inr refl

@@ -1,5 +1,6 @@
 -- What a call of the program did: what it took and wrote, the status with its cause, and what became of the region.
 use Rattle.std.specs.Prelude.{◌≡◌, ◌⊎◌, ℕ, ◌<◌, ◌≤◌, List, [], ◌++◌, length, Option, Some, None, Ok, Err, codes, decimal, IfSome, if◌then◌else◌, nat_lt}
+use Rattle.persist_model.specs.ImageRules.{MAP_RULE, rule_number}
 use Rattle.persist_model.specs.Region.{Words, Region}
 use Rattle.lane_traits.specs.Stream.{HasRisen, TakesPart}
 use Rattle.lane_traits.specs.Device.{Counts, since_load}
@@ -186,12 +187,12 @@ misread_text line = codes "script " ++ (decimal line ++ codes " image\n")
 abbrev pub unsound_text : ℕ → ℕ → List ℕ
 unsound_text fault a = codes "unsound " ++ (decimal fault ++ (codes " " ++ (decimal a ++ codes "\n")))
 
--- what is written of an image; fault 10 is a structure that is no map
+-- what is written of an image; the last rule is that each structure is a map
 abbrev pub text_of_end : Ended → List ℕ
 text_of_end (ended.Misread line) = misread_text line
-text_of_end (ended.Unsound found) = unsound_text found.fault found.addr
+text_of_end (ended.Unsound found) = unsound_text (rule_number found.rule) found.address
 text_of_end ended.Stopped = ended_line (codes "stopped")
-text_of_end (ended.Broken root) = unsound_text 10 root
+text_of_end (ended.Broken root) = unsound_text MAP_RULE root
 text_of_end ended.NoMemory = []
 text_of_end (ended.Done text) = text
 

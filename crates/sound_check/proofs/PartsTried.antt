@@ -5,6 +5,7 @@ use Rattle.std.specs.List.{range_with_len}
 use Rattle.std.proofs.lemmas.Bool.Decides.{nat_tests, eqb_tells}
 use Rattle.std.proofs.lemmas.Bool.{cases_lt}
 use Rattle.std.proofs.lemmas.List.{get_or-take, length-take}
+use Rattle.persist_model.specs.ImageRules.{rule_number}
 use Rattle.persist_model.specs.Region.{Words}
 use Rattle.persist_model.specs.Shape.{Shape, heap, log_words, list_words, IsBucketOf}
 use Rattle.persist_model.specs.Chain.{TAIL, view, out_address, IsLink, last_or, IsExcepted}
@@ -127,7 +128,7 @@ one_more shape z P p q before here lt = elim (eqb_tells q p) [
 
 -- what is said of a rule that fails
 pub unsound_as : (e : CheckFault) (P Q : FaultSet) → ((i a : ℕ) → P i a → Q i a) → IfUnsound e P → IfUnsound e Q
-unsound_as (Unsound found) P Q on h = on found.fault found.addr h
+unsound_as (Unsound found) P Q on h = on (rule_number found.rule) found.address h
 unsound_as NoMemory P Q on h = tt
 
 -- the words before the heap are as many as that

@@ -1,5 +1,6 @@
 -- An image of which each part was tried.
 use Rattle.std.proofs.Common.{◌≡◌, ℕ, ◌+◌, ◌<◌, List, refl, sym, ap, ◌∙◌, subst, arith}
+use Rattle.persist_model.specs.ImageRules.{rule_number}
 use Rattle.persist_model.specs.Region.{Words}
 use Rattle.persist_model.specs.Records.{Log}
 use Rattle.persist_model.specs.Shape.{Shape, shape_of, heap, words_of_shape, log_words, IsBucketOf, IsShape}
@@ -90,9 +91,9 @@ same_words w a below = refl
 -- ---- the answer
 
 pub of_sound : (size : ℕ) (w : Words) (e : CheckFault) → IfUnsound e (IsFirstFault size w) → IsSound size w → e ≡ NoMemory
-of_sound size w (Unsound found) f sound = absurd (sound_has_no_fault size w found.fault found.addr sound f)
+of_sound size w (Unsound found) f sound = absurd (sound_has_no_fault size w (rule_number found.rule) found.address sound f)
 of_sound size w NoMemory f sound = refl
 
 pub of_unsound : (size : ℕ) (w : Words) (e : CheckFault) (fault a : ℕ) → IfUnsound e (IsFirstFault size w) → IsFirstFault size w fault a → IfUnsound e (λ i b. (i ≡ fault) × (b ≡ a))
-of_unsound size w (Unsound found) fault a f g = first_fault_is_one size w found.fault found.addr fault a f g
+of_unsound size w (Unsound found) fault a f g = first_fault_is_one size w (rule_number found.rule) found.address fault a f g
 of_unsound size w NoMemory fault a f g = tt

@@ -1,5 +1,6 @@
 //! The address rule: the words of a partition that name buckets.
 ghost use Rattle.std.specs.Prelude.{◌≡◌, ◌<◌, ◌≤◌, length, slice_index, OnOk, IfErr};
+ghost use Rattle.persist_model.specs.ImageRules.{rule_number};
 ghost use Rattle.persist_model.specs.Shape.{heap, IsBucketOf};
 ghost use Rattle.persist_model.specs.Chain.{AreBuckets, Each, IsLink};
 ghost use Rattle.persist_model.specs.Visit.{address_words, links_at, links_of};
@@ -8,25 +9,23 @@ ghost use Rattle.sound_check.specs.Rules.{AreLinks, IsWrongLink};
 
 use crate::walk::is_link;
 use log_partition::out_address;
-use persist_model::Look;
+use persist_model::{ImageRule, Look};
 use persist_model::format::{HEAD, LAST_TAIL, TAIL, TO_APPEND, TO_REMOVE};
 use region_layout::{ImageFault, Layout};
 
-/// The number of the rule on the words that name buckets.
-const ADDRESS_FAULT: u32 = 5;
 
 // Tries the words at these addresses, in order.
 fn try_links<W: Look>(words: &W, layout: Layout, p: u32, ats: &[u32]) -> Result<(), ImageFault>
     requires part { p < layout.partitions }
     requires inside { Each (λ a. a < length (W.words words.now)) ats.now }
     ensures ok { OnOk result (AreLinks (layout_shape layout) p (slice_index (W.words words.now)) ats.now) }
-    ensures fault { IfErr result (λ found. IsWrongLink (layout_shape layout) p (slice_index (W.words words.now)) ats.now found.fault found.addr) }
+    ensures fault { IfErr result (λ found. IsWrongLink (layout_shape layout) p (slice_index (W.words words.now)) ats.now (rule_number found.rule) found.address) }
 {
     for a in ats {
         if !is_link(layout, p, words.word(*a)) {
             return Err(ImageFault {
-                fault: ADDRESS_FAULT,
-                addr: out_address(p, *a),
+                rule: ImageRule::Address,
+                address: out_address(p, *a),
             });
         }
     }
@@ -44,7 +43,7 @@ fn try_visited<W: Look>(
     requires long { heap (layout_shape layout) ≤ length (W.words words.now) }
     requires buckets { AreBuckets (IsBucketOf (layout_shape layout) p) visited.now }
     ensures ok { OnOk result (AreLinks (layout_shape layout) p (slice_index (W.words words.now)) (links_of visited.now)) }
-    ensures fault { IfErr result (λ found. IsWrongLink (layout_shape layout) p (slice_index (W.words words.now)) (links_of visited.now) found.fault found.addr) }
+    ensures fault { IfErr result (λ found. IsWrongLink (layout_shape layout) p (slice_index (W.words words.now)) (links_of visited.now) (rule_number found.rule) found.address) }
 {
     for b in visited {
         try_links(words, layout, p, &[*b, *b + 1])?;
@@ -59,7 +58,7 @@ fn try_named<W: Look>(words: &W, layout: Layout, p: u32, at: u32) -> Result<(), 
     requires inside { at < 32 }
     requires link { IsLink (IsBucketOf (layout_shape layout) p) (slice_index (W.words words.now) at) }
     ensures ok { OnOk result (AreLinks (layout_shape layout) p (slice_index (W.words words.now)) (links_at (slice_index (W.words words.now)) at)) }
-    ensures fault { IfErr result (λ found. IsWrongLink (layout_shape layout) p (slice_index (W.words words.now)) (links_at (slice_index (W.words words.now)) at) found.fault found.addr) }
+    ensures fault { IfErr result (λ found. IsWrongLink (layout_shape layout) p (slice_index (W.words words.now)) (links_at (slice_index (W.words words.now)) at) (rule_number found.rule) found.address) }
 {
     let named = words.word(at);
     if named == 0 {
@@ -81,7 +80,7 @@ pub(crate) fn try_addresses<W: Look>(
     requires long { heap (layout_shape layout) ≤ length (W.words words.now) }
     requires buckets { AreBuckets (IsBucketOf (layout_shape layout) p) visited.now }
     ensures ok { OnOk result (AreLinks (layout_shape layout) p (slice_index (W.words words.now)) (address_words (slice_index (W.words words.now)) visited.now)) }
-    ensures fault { IfErr result (λ found. IsWrongLink (layout_shape layout) p (slice_index (W.words words.now)) (address_words (slice_index (W.words words.now)) visited.now) found.fault found.addr) }
+    ensures fault { IfErr result (λ found. IsWrongLink (layout_shape layout) p (slice_index (W.words words.now)) (address_words (slice_index (W.words words.now)) visited.now) (rule_number found.rule) found.address) }
 {
     try_links(
         words,

@@ -1,5 +1,6 @@
 //! The record rule.
 ghost use Rattle.std.specs.Prelude.{◌≡◌, ◌≢◌, ◌⊎◌, ◌↔◌, ◌<◌, ◌≤◌, ℕ, IsTrue, OnOk, IfErr, MatchOption};
+ghost use Rattle.persist_model.specs.ImageRules.{rule_number};
 ghost use Rattle.persist_model.specs.Shape.{block, IsHeapWord, IsRootOwner, IsPlainOwner};
 ghost use Rattle.persist_model.specs.ImageRecords.{IsWellFormed, AreWellFormed};
 ghost use Rattle.persist_model.specs.Faults.{TriedOldest, NoFault};
@@ -8,13 +9,12 @@ ghost use Rattle.region_layout.specs.Layout.{layout_shape};
 ghost use Rattle.log_tables.specs.Rows.{log_of_rows};
 
 use bucket_log::Placed;
+use persist_model::ImageRule;
 use persist_model::format::{
     BLOCK_WORDS, CHECKPOINT, COMMITTED, COMPENSATION, DELETION, END, ROLLED_BACK, UPDATE,
 };
 use region_layout::{ImageFault, Layout};
 
-/// The number of the rule on records.
-const RECORD_FAULT: u32 = 7;
 
 // The number of the block whose owner stands at this word.
 fn owned_block(layout: Layout, word: u64) -> Option<u32>
@@ -107,13 +107,13 @@ fn is_formed(layout: Layout, r: &Placed) -> bool
 /// Tries the record rule, the oldest record first.
 pub(crate) fn try_records(layout: Layout, rows: &[Placed]) -> Result<(), ImageFault>
     ensures ok { OnOk result (AreWellFormed (layout_shape layout) (log_of_rows rows.now)) }
-    ensures fault { IfErr result (λ found. TriedOldest (λ earlier r. IsWellFormed (layout_shape layout) r) 7 (log_of_rows rows.now) NoFault found.fault found.addr) }
+    ensures fault { IfErr result (λ found. TriedOldest (λ earlier r. IsWellFormed (layout_shape layout) r) 7 (log_of_rows rows.now) NoFault (rule_number found.rule) found.address) }
 {
     for r in rows {
         if !is_formed(layout, r) {
             return Err(ImageFault {
-                fault: RECORD_FAULT,
-                addr: r.at,
+                rule: ImageRule::Record,
+                address: r.at,
             });
         }
     }

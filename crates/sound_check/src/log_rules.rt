@@ -1,5 +1,6 @@
 //! The rule on the room of partitions, and all rules of the log.
 ghost use Rattle.std.specs.Prelude.{◌≡◌, ◌<◌, ◌≤◌, ◌^◌, ◌+◌, ℕ, length, slice_index, OnOk, IfErr};
+ghost use Rattle.persist_model.specs.ImageRules.{rule_number};
 ghost use Rattle.persist_model.specs.State.{State, HasRoom};
 ghost use Rattle.persist_model.specs.Sound.{HasState};
 ghost use Rattle.region_layout.specs.Layout.{layout_shape};
@@ -17,13 +18,11 @@ use crate::order::try_order;
 use bucket_log::{Placed, room};
 use log_partition::PartView;
 use log_tables::{Transactions, read_transactions};
-use persist_model::Look;
+use persist_model::{ImageRule, Look};
 use persist_model::format::list_words;
 use region_layout::{ImageFault, Layout};
 use std::alloc::Global;
 
-/// The number of the rule on room and numbers.
-const ROOM_FAULT: u32 = 9;
 /// The address of a fault of the numbers: the first TAIL.
 const NUMBERS_ADDRESS: u32 = 9;
 
@@ -48,13 +47,13 @@ fn try_room<W: Look>(
     requires logs { AreLogsOf layout (length (W.words words.now)) (slice_index (W.words words.now)) }
     requires all { AreTransactions (part_of (layout_shape layout)) all.now (log_of_rows rows.now) }
     ensures ok { OnOk result (HasAllRoom (layout_shape layout) (slice_index (W.words words.now)) (log_of_rows rows.now)) }
-    ensures fault { IfErr result (λ found. LacksRoom (layout_shape layout) (slice_index (W.words words.now)) (log_of_rows rows.now) found.fault found.addr) }
+    ensures fault { IfErr result (λ found. LacksRoom (layout_shape layout) (slice_index (W.words words.now)) (log_of_rows rows.now) (rule_number found.rule) found.address) }
 {
     for p in 0..layout.partitions {
         if !has_room(layout, all, rows, p, room_of_part(words, layout, p)) {
             return Err(ImageFault {
-                fault: ROOM_FAULT,
-                addr: list_words(p) + 1,
+                rule: ImageRule::Room,
+                address: list_words(p) + 1,
             });
         }
     }
@@ -78,8 +77,8 @@ pub(crate) fn try_log<W: Look>(
     try_room(words, layout, &all, rows)?;
     if !keeps_numbers(layout, &all, rows) {
         return Err(CheckFault::Unsound(ImageFault {
-            fault: ROOM_FAULT,
-            addr: NUMBERS_ADDRESS,
+            rule: ImageRule::Room,
+            address: NUMBERS_ADDRESS,
         }));
     }
     Ok(())

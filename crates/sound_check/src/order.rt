@@ -16,12 +16,11 @@ ghost use Rattle.sound_check.specs.Barring.{names_word as names_word_of, is_barr
 use crate::fault::CheckFault;
 use bucket_log::{Placed, part_of};
 use log_tables::{Past, Summaries, Summary};
+use persist_model::ImageRule;
 use persist_model::format::{CHECKPOINT, COMPENSATION, DELETION, ROLLBACK, UPDATE};
 use region_layout::{ImageFault, Layout};
 use std::alloc::Global;
 
-/// The number of the rule on the order of records.
-const ORDER_FAULT: u32 = 8;
 
 // Whether a record names a word.
 fn names_word(s: &Placed) -> bool
@@ -168,8 +167,8 @@ pub(crate) fn try_order(
         let r = rows[i];
         if !follows(layout, whole, &past, &r) {
             return Err(CheckFault::Unsound(ImageFault {
-                fault: ORDER_FAULT,
-                addr: r.at,
+                rule: ImageRule::Order,
+                address: r.at,
             }));
         }
         past.add(layout, &r, is_barring(whole, &r))?;

@@ -1,5 +1,6 @@
 //! The list rules of a partition, whose words name buckets or none.
 ghost use Rattle.std.specs.Prelude.{◌≡◌, ◌≢◌, ◌↔◌, ◌⊎◌, ◌+◌, ◌*◌, ◌<◌, ◌≤◌, ◌^◌, IsTrue, length, slice_index, OnOk, IfErr};
+ghost use Rattle.persist_model.specs.ImageRules.{LIST_RULE, rule_number};
 ghost use Rattle.persist_model.specs.Shape.{heap, list_words as list_words_of, IsBucketOf};
 ghost use Rattle.persist_model.specs.Chain.{TAIL as TAIL_AT, TO_APPEND as APPEND_AT, LAST_TAIL as LAST_AT, TO_REMOVE as REMOVE_AT, next_of, prev_of, word_behind as behind_of, word_before as before_of, last_or as last_of, Each, AppendRule, RemoveRule, IsBefore, IsExcepted, LinksBackBut};
 ghost use Rattle.persist_model.specs.Visit.{HasArrived, chain_from};
@@ -9,21 +10,19 @@ ghost use Rattle.region_layout.specs.Layout.{layout_shape};
 ghost use Rattle.sound_check.specs.Rules.{IsReadable, MayBeTried, ListHolds, ChangesHold, IsWrongChange};
 
 use crate::walk::{is_among, last_or};
-use persist_model::Look;
+use persist_model::{ImageRule, Look};
 use persist_model::format::{
     BUCKET_HEADER_WORDS, CELL_WORDS, HEAD, LAST_TAIL, TAIL, TO_APPEND, TO_REMOVE, list_words,
 };
 use region_layout::{ImageFault, Layout};
 
-/// The number of the rule on the list.
-const LIST_FAULT: u32 = 6;
 
-fn list_fault(addr: u32) -> ImageFault
-    ensures { (result.fault ≡ 6) × (result.addr ≡ addr) }
+fn list_fault(address: u32) -> ImageFault
+    ensures { (rule_number result.rule ≡ LIST_RULE) × (result.address ≡ address) }
 {
     ImageFault {
-        fault: LIST_FAULT,
-        addr,
+        rule: ImageRule::List,
+        address,
     }
 }
 
@@ -193,7 +192,7 @@ fn try_prevs<W: Look>(words: &W, chain: &[u32]) -> Result<(), ImageFault>
         → IsReadable (length (W.words words.now)) (slice_index (W.words words.now) (next_of (slice_index (W.words words.now) REMOVE_AT))) }
     requires chain { Each (IsReadable (length (W.words words.now))) chain.now }
     ensures ok { OnOk result (LinksBackBut (slice_index (W.words words.now)) 0 chain.now) }
-    ensures fault { IfErr result (λ found. TryLinksBack (slice_index (W.words words.now)) 0 chain.now NoFault found.fault found.addr) }
+    ensures fault { IfErr result (λ found. TryLinksBack (slice_index (W.words words.now)) 0 chain.now NoFault (rule_number found.rule) found.address) }
 {
     let mut before = 0;
     for b in chain {
@@ -224,7 +223,7 @@ fn try_changes<W: Look>(
 ) -> Result<(), ImageFault>
     requires { MayBeTried (layout_shape layout) p (length (W.words words.now)) (slice_index (W.words words.now)) visited.now chain.now }
     ensures ok { OnOk result (ChangesHold (layout_shape layout) (slice_index (W.words words.now)) visited.now chain.now) }
-    ensures fault { IfErr result (λ found. IsWrongChange (layout_shape layout) (list_words_of p) (slice_index (W.words words.now)) visited.now chain.now found.fault found.addr) }
+    ensures fault { IfErr result (λ found. IsWrongChange (layout_shape layout) (list_words_of p) (slice_index (W.words words.now)) visited.now chain.now (rule_number found.rule) found.address) }
 {
     let base = list_words(p);
     if !is_single(words) {
@@ -252,7 +251,7 @@ pub(crate) fn try_points<W: Look>(
 ) -> Result<(), ImageFault>
     requires { MayBeTried (layout_shape layout) p (length (W.words words.now)) (slice_index (W.words words.now)) visited.now chain.now }
     ensures ok { OnOk result (ListHolds (layout_shape layout) (slice_index (W.words words.now)) visited.now chain.now) }
-    ensures fault { IfErr result (λ found. TryPoints (layout_shape layout) (list_words_of p) (slice_index (W.words words.now)) visited.now NoFault found.fault found.addr) }
+    ensures fault { IfErr result (λ found. TryPoints (layout_shape layout) (list_words_of p) (slice_index (W.words words.now)) visited.now NoFault (rule_number found.rule) found.address) }
 {
     try_changes(words, layout, p, visited, chain)?;
     try_prevs(words, chain)?;

@@ -83,7 +83,7 @@ fn verdict_of(alloc: Global, words: Vec<u64>) -> Result<(u32, u32), Fail> {
     }
     match check(alloc, &Row { words }) {
         Ok(_) => Ok((0, 0)),
-        Err(CheckFault::Unsound(found)) => Ok((found.fault, found.addr)),
+        Err(CheckFault::Unsound(found)) => Ok((found.rule.number(), found.address)),
         Err(CheckFault::NoMemory) => Err("memory".into()),
     }
 }

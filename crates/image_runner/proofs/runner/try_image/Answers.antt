@@ -1,4 +1,5 @@
 use Rattle.std.proofs.Common.{◌≡◌, ◌∙◌, ℕ, sym, ap, subst, List, Err, slice_index}
+use Rattle.persist_model.specs.ImageRules.{rule_number}
 use Rattle.persist_model.specs.Region.{newest_words}
 use Rattle.persist_model.specs.Shape.{shape_of}
 use Rattle.image_text.specs.declared.image.Image.{Image}
@@ -25,4 +26,4 @@ returns-in-Err g c = λ before counts since.
     subst (λ (end : Ended). IsEndOfImage c.args.wanted c.args.image.now before counts (g.D.Device.cells c.args.region.now) (g.D.Device.counts c.args.region.now) end) (sym c.end_of_refusal.ensures)
     (refused_end c.args.wanted c.args.image.now before (g.D.Device.cells c.args.region.now) counts (g.D.Device.counts c.args.region.now) c.in-Err.refusal
     (record { words = c.requires.loaded; unmade = since })
-    (λ found same. subst (λ (i : Image). IsRefusedBy i found.fault found.addr) image (c.in-Err.ensures.refused found (ap Err same))))
+    (λ found same. subst (λ (i : Image). IsRefusedBy i (rule_number found.rule) found.address) image (c.in-Err.ensures.refused found (ap Err same))))

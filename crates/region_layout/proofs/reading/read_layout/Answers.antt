@@ -9,7 +9,7 @@ returns-in-Some-wrong_size-clause-fault g c =
     let w : ℕ → ℕ = slice_index words in
     let policy : IsPolicy (w 1) = policy_is c.in-Some.policy (w 1) (c.in-Some.ensures ∙ c.word.ensures) in
     let cells : IsCellCount (w 2) = subst IsCellCount c.word-2.ensures (c.if-not-is_cell_count.ensures.0 refl) in
-    inr (c.if-not-has_magic.ensures.0 refl, inr (policy, inr (cells, sizes_tried (length words) w 4 c.in-Some-wrong_size.addr c.in-Some-wrong_size.ensures)))
+    inr (c.if-not-has_magic.ensures.0 refl, inr (policy, inr (cells, sizes_tried (length words) w 4 c.in-Some-wrong_size.address c.in-Some-wrong_size.ensures)))
 
 pub returns-then-size-clause-fault : goal.returns-then-size-clause-fault
 returns-then-size-clause-fault g c =

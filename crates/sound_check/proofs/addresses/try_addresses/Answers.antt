@@ -1,6 +1,7 @@
 use Rattle.std.specs.Prelude.{slice_index}
 use Rattle.std.proofs.Common.{arith}
 use Rattle.std.proofs.lemmas.Result.{err_from_is_err_and, on_ok_weaker, MatchResult-weaker}
+use Rattle.persist_model.specs.ImageRules.{rule_number}
 use Rattle.persist_model.specs.Shape.{IsBucketOf}
 use Rattle.persist_model.specs.Chain.{IsLink, out_address}
 use Rattle.region_layout.specs.Layout.{layout_shape}
@@ -34,4 +35,4 @@ returns-clause-ok g c = on_ok_weaker c.try_named-2.result (third_left (λ a. IsL
 
 pub returns-clause-fault : goal.returns-clause-fault
 returns-clause-fault g c = MatchResult-weaker c.try_named-2.result c.try_named-2.ensures.fault (λ x h. h)
-    (λ found f. (third_left (λ a. IsLink (IsBucketOf (layout_shape c.args.layout) c.args.p) ((slice_index (g.W.Look.words c.args.words.now)) a)) (slice_index (g.W.Look.words c.args.words.now)) c.args.visited.now 5 (out_address c.args.p) c.in_ok-try_links.ensures.ok c.in_ok-try_visited.ensures.ok c.in_ok-try_named.ensures.ok).fails found.fault found.addr f)
+    (λ found f. (third_left (λ a. IsLink (IsBucketOf (layout_shape c.args.layout) c.args.p) ((slice_index (g.W.Look.words c.args.words.now)) a)) (slice_index (g.W.Look.words c.args.words.now)) c.args.visited.now 5 (out_address c.args.p) c.in_ok-try_links.ensures.ok c.in_ok-try_visited.ensures.ok c.in_ok-try_named.ensures.ok).fails (rule_number found.rule) found.address f)

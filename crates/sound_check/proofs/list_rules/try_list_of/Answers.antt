@@ -1,6 +1,7 @@
 use Rattle.std.specs.Prelude.{slice_index, length}
 use Rattle.std.proofs.Common.{sym, subst, ap, ◌∙◌, arith}
 use Rattle.std.proofs.lemmas.Result.{err_from_is_err_and}
+use Rattle.persist_model.specs.ImageRules.{rule_number}
 use Rattle.persist_model.specs.Shape.{list_words, IsBucketOf}
 use Rattle.persist_model.specs.Chain.{AreBuckets}
 use Rattle.persist_model.specs.Visit.{chain_from, address_words}
@@ -29,7 +30,7 @@ returns-in_err-try_points-clause-fault g c =
     rw (p.1, p.2) (record {
       visited = c.in_ok-visited.visited.items;
       visit = c.in_ok-visited.ensures;
-      wrong = subst (λ xs. TryPoints (layout_shape c.args.layout) (list_words c.args.p) (slice_index (g.W.Look.words c.args.words.now)) xs NoFault c.in_err-try_points.field-0.0.fault c.in_err-try_points.field-0.0.addr) c.as_slice-2.ensures.value c.in_err-try_points.ensures.fault;
+      wrong = subst (λ xs. TryPoints (layout_shape c.args.layout) (list_words c.args.p) (slice_index (g.W.Look.words c.args.words.now)) xs NoFault (rule_number c.in_err-try_points.field-0.0.rule) c.in_err-try_points.field-0.0.address) c.as_slice-2.ensures.value c.in_err-try_points.ensures.fault;
     })
 
 pub returns-clause-ok : goal.returns-clause-ok

@@ -1,6 +1,7 @@
 use Rattle.std.specs.Prelude.{slice_index, length}
 use Rattle.std.proofs.Common.{refl, sym, ap, subst, ◌+◌, ◌∙◌, ◌≡◌, ◌⊎◌}
 use Rattle.std.proofs.lemmas.Result.{err_from_is_err_and}
+use Rattle.persist_model.specs.ImageRules.{rule_number}
 use Rattle.persist_model.specs.Shape.{list_words}
 use Rattle.persist_model.specs.Chain.{TAIL, last_or, IsExcepted, LinksBackBut}
 use Rattle.persist_model.specs.Faults.{TryPoints, TryLinksBack, NoFault}
@@ -30,14 +31,14 @@ pub returns-in_err-try_changes-clause-fault : goal.returns-in_err-try_changes-cl
 returns-in_err-try_changes-clause-fault g c =
     let p = err_from_is_err_and c.from_residual.result c.from_residual.ensures.1 in
     rw (p.1, p.2) (change_fails (layout_shape c.args.layout) (list_words c.args.p) (slice_index (g.W.Look.words c.args.words.now)) c.args.visited.now _ _
-    (subst (λ xs. IsWrongChange (layout_shape c.args.layout) (list_words c.args.p) (slice_index (g.W.Look.words c.args.words.now)) c.args.visited.now xs c.in_err-try_changes.field-0.0.fault c.in_err-try_changes.field-0.0.addr) c.requires.chain_is c.in_err-try_changes.ensures.fault))
+    (subst (λ xs. IsWrongChange (layout_shape c.args.layout) (list_words c.args.p) (slice_index (g.W.Look.words c.args.words.now)) c.args.visited.now xs (rule_number c.in_err-try_changes.field-0.0.rule) c.in_err-try_changes.field-0.0.address) c.requires.chain_is c.in_err-try_changes.ensures.fault))
 
 pub returns-in_err-try_prevs-clause-fault : goal.returns-in_err-try_prevs-clause-fault
 returns-in_err-try_prevs-clause-fault g c =
     let p = err_from_is_err_and c.from_residual-in_err-try_prevs.result c.from_residual-in_err-try_prevs.ensures.1 in
     rw (p.1, p.2) (prev_fails (layout_shape c.args.layout) (list_words c.args.p) (slice_index (g.W.Look.words c.args.words.now)) c.args.visited.now _ _
     (subst (ChangesHold (layout_shape c.args.layout) (slice_index (g.W.Look.words c.args.words.now)) c.args.visited.now) c.requires.chain_is c.in_ok-try_changes.ensures.ok)
-    (subst (λ xs. TryLinksBack (slice_index (g.W.Look.words c.args.words.now)) 0 xs NoFault c.in_err-try_prevs.field-0.0.fault c.in_err-try_prevs.field-0.0.addr) c.requires.chain_is c.in_err-try_prevs.ensures.fault))
+    (subst (λ xs. TryLinksBack (slice_index (g.W.Look.words c.args.words.now)) 0 xs NoFault (rule_number c.in_err-try_prevs.field-0.0.rule) c.in_err-try_prevs.field-0.0.address) c.requires.chain_is c.in_err-try_prevs.ensures.fault))
 
 pub returns-then-not-names_before-clause-fault : goal.returns-then-not-names_before-clause-fault
 returns-then-not-names_before-clause-fault g c =

@@ -14,7 +14,7 @@ loop-b-preserved g c =
 
 pub returns-then-not-names_before-clause-fault : goal.returns-then-not-names_before-clause-fault
 returns-then-not-names_before-clause-fault g c =
-    subst (λ i. TryLinksBack (slice_index (g.W.Look.words c.args.words.now)) 0 c.args.chain.now NoFault i c.list_fault.result.addr) (sym c.list_fault.ensures.0)
+    subst (λ i. TryLinksBack (slice_index (g.W.Look.words c.args.words.now)) 0 c.args.chain.now NoFault i c.list_fault.result.address) (sym c.list_fault.ensures.0)
     (subst (λ a. TryLinksBack (slice_index (g.W.Look.words c.args.words.now)) 0 c.args.chain.now NoFault 6 a) (sym c.list_fault.ensures.1)
     (back_here (slice_index (g.W.Look.words c.args.words.now)) c.args.chain.now c.loop-b.before c.loop-b.b-index (omega arith) c.loop-b.invariant (λ k. let e = c.names_before.ensures.1 k in cc)))
 
