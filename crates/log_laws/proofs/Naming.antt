@@ -1,13 +1,13 @@
 -- The stack of a running transaction is the list of its updates that no compensation names.
-use Rattle.std.proofs.Common.{◌≡◌, ◌≢◌, ◌⊎◌, inl, inr, ℕ, ◌≤◌, Bool, true, false, not, ◌==◌, ◌&&◌, ◌||◌, if◌then◌else◌, [], ◌∷◌, ◌++◌, refl, sym, ap, ◌∙◌, subst, arith}
+use Rattle.std.proofs.Common.{◌≡◌, ◌≢◌, ◌⊎◌, inl, inr, ℕ, ◌+◌, ◌≤◌, Bool, true, false, not, ◌==◌, ◌&&◌, ◌||◌, if◌then◌else◌, [], ◌∷◌, ◌++◌, length, refl, sym, ap, ◌∙◌, subst, arith}
 use Rattle.std.proofs.lemmas.Bool.Decides.{eqb_tells, nat_tests}
 use Rattle.persist_model.specs.Records.{Record, Log, IsAmong, IsNewer, IsNewestFirst, Has, HasNo, IsCompensation, IsRunning}
-use Rattle.persist_model.specs.Order.{is_kind_of, undo_point, UndoesWell, FollowEach}
-use Rattle.persist_model.specs.Need.{rest, to_undo, is_named, unnamed_updates}
-use Rattle.persist_model.specs.Shape.{part_of}
-use Rattle.log_laws.specs.Naming.{StackIsUnnamed, UndoPointIsEarlier}
+use Rattle.persist_model.specs.Order.{is_kind_of, undo_point, UndoesWell, IsNextToUndo, FollowEach, IsInOrder}
+use Rattle.persist_model.specs.Need.{rest, to_undo, is_named, unnamed_updates, has_kind_of, need_of, sum_over}
+use Rattle.log_laws.specs.Naming.{StackIsUnnamed, NeedIsUnnamed, UndoPointIsEarlier, unnamed_need}
 use Rattle.log_laws.proofs.Standings.{AreNumbered}
 use Rattle.log_laws.proofs.Growing.{numbered}
+use Rattle.log_laws.proofs.Needs.{has_kind_true}
 use Rattle.log_laws.proofs.Stacks.{IsTo, updates, compensates, neither, is_to, top_lsn, HasStack, IsStack, has_stack}
 
 well_by : (part : ℕ → ℕ) (t : ℕ) (all log : Log) (r : Record) → IsRunning all t → FollowEach part all (r ∷ log) → r.transaction ≡ t → r.kind ≢ 5 → UndoesWell log r
@@ -100,23 +100,71 @@ unnamed_fresh part t all names (r ∷ log) f u us e = by (λ k. unnamed_fresh pa
 
 -- ---- the stack
 
--- a record more
-unnamed_on : (part : ℕ → ℕ) (t : ℕ) (all : Log) (r : Record) (log : Log) → IsRunning all t → AreNumbered (r ∷ log) → ((x : Record) → IsAmong (r ∷ log) x → x.lsn ≢ 0) → FollowEach part all (r ∷ log) →
-    to_undo t log ≡ unnamed_updates t log log → to_undo t (r ∷ log) ≡ unnamed_updates t (r ∷ log) (r ∷ log)
-unnamed_on part t all r log running apart nonzero f again = by_kind (is_to t r)
+-- where there is a stack, this is the number of its top
+abbrev IsTop : ℕ → Log → Type 0
+IsTop point [] = Unit {0}
+IsTop point (u ∷ stack) = point ≡ u.lsn
+
+-- each of the stack is a record of the log, and names the one below it
+abbrev IsPile : Log → Log → Type 0
+IsPile log [] = Unit {0}
+IsPile log (u ∷ stack) = IsAmong log u × IsTop u.undo_next stack × IsPile log stack
+
+-- No number is asked to be open for this: where the stack is empty, the undo point may be anything.
+record HasTop (t : ℕ) (log : Log) : Type 0 where
+  pub pile : IsPile log (to_undo t log)
+  pub top : IsTop (undo_point t log) (to_undo t log)
+
+pile_on : (r : Record) (log stack : Log) → IsPile log stack → IsPile (r ∷ log) stack
+pile_on r log [] h = h
+pile_on r log (u ∷ stack) h = (inr h.0, h.1, pile_on r log stack h.2)
+
+top_updated : (t : ℕ) (r : Record) (log : Log) → is_kind_of t 1 r ≡ true → r.undo_next ≡ undo_point t log → HasTop t log → HasTop t (r ∷ log)
+top_updated t r log one next h = record {
+  pile = rw one (inl refl, subst (λ n. IsTop n (to_undo t log)) (sym next) h.top, pile_on r log (to_undo t log) h.pile);
+  top = rw one refl;
+}
+
+-- a compensation of the update at the undo point, u
+top_compensated : (t : ℕ) (c u : Record) (log stack : Log) → is_kind_of t 1 c ≡ false → is_kind_of t 2 c ≡ true → AreNumbered log → IsNextToUndo t log u → c.undo_next ≡ u.undo_next →
+    to_undo t log ≡ stack → IsPile log stack → IsTop (undo_point t log) stack → HasTop t (c ∷ log)
+top_compensated t c u log [] not_one two apart next same shape pile top = record { pile = rw (not_one, two, shape) tt; top = rw (not_one, two, shape) tt }
+top_compensated t c u log (v ∷ stack) not_one two apart next same shape pile top = record {
+  pile = rw (not_one, two, shape) (pile_on c log stack pile.2);
+  top = rw (not_one, two, shape) (subst (λ n. IsTop n stack) (sym (same ∙ ap (λ (x : Record). x.undo_next) (apart u v next.among pile.0 (next.point ∙ top)))) pile.1);
+}
+
+has_top : (part : ℕ → ℕ) (t : ℕ) (all log : Log) → IsRunning all t → AreNumbered log → FollowEach part all log → HasTop t log
+has_top part t all [] running apart f = record { pile = tt; top = tt }
+has_top part t all (r ∷ log) running apart f = by_kind (is_to t r) (has_top part t all log running (λ x y m k. apart x y (inr m) (inr k)) f.1)
   where
-    stack : HasStack t log
-    stack = has_stack part t all log running (λ x y m k. apart x y (inr m) (inr k)) (λ x m. nonzero x (inr m)) f.1
+    by_kind : IsTo t r → HasTop t log → HasTop t (r ∷ log)
+    by_kind (updates one update owner) h =
+        let well = well_by part t all log r running f owner (λ k. absurd (omega (arith, update, k))) in
+        top_updated t r log one (subst (λ x. r.undo_next ≡ undo_point x log) owner (well.undo_next update)) h
+    by_kind (compensates not_one two comp owner) h =
+        let c = (well_by part t all log r running f owner (λ k. absurd (omega (arith, comp, k)))).compensates comp in
+        top_compensated t r c.0 log (to_undo t log) not_one two (λ x y m k. apart x y (inr m) (inr k)) (subst (λ x. IsNextToUndo x log c.0) owner c.1) c.2.undo_next refl h.pile h.top
+    by_kind (neither not_one not_two none) h = record { pile = rw (not_one, not_two) (pile_on r log (to_undo t log) h.pile); top = rw (not_one, not_two) h.top }
+
+-- a record more
+unnamed_on : (part : ℕ → ℕ) (t : ℕ) (all : Log) (r : Record) (log : Log) → IsRunning all t → AreNumbered (r ∷ log) → FollowEach part all (r ∷ log) →
+    to_undo t log ≡ unnamed_updates t log log → to_undo t (r ∷ log) ≡ unnamed_updates t (r ∷ log) (r ∷ log)
+unnamed_on part t all r log running apart f again = by_kind (is_to t r)
+  where
+    has : HasTop t log
+    has = has_top part t all log running (λ x y m k. apart x y (inr m) (inr k)) f.1
 
     not_named : (b : Bool) → is_named t r.lsn log ≡ b → b ≡ false
     not_named true e = (let h = named_is_some part t r.lsn all log running f.1 e in absurd (f.0.fresh h.0 h.1 h.2))
     not_named false e = refl
 
-    less : (s : Log) → to_undo t log ≡ s → rest s ≡ without_lsn (top_lsn s) s
-    less [] e = refl
-    less (u ∷ us) e =
-        let on : (u.lsn == u.lsn) ≡ true = grind (arith, nat_tests) in
-        rw on (sym (without_none u.lsn us (unnamed_fresh part t all log log f.1 u us (sym again ∙ e))))
+    less : (point : ℕ) (s : Log) → IsTop point s → to_undo t log ≡ s → rest s ≡ without_lsn point s
+    less point [] top e = refl
+    less point (u ∷ us) top e =
+        let on : (point == u.lsn) ≡ true = grind (arith, nat_tests, top) in
+        let fresh = unnamed_fresh part t all log log f.1 u us (sym again ∙ e) in
+        rw on (sym (without_none point us (λ v m k. fresh v m (k ∙ top))))
 
     by_kind : IsTo t r → to_undo t (r ∷ log) ≡ unnamed_updates t (r ∷ log) (r ∷ log)
     by_kind (updates one update owner) =
@@ -135,11 +183,11 @@ unnamed_on part t all r log running apart nonzero f again = by_kind (is_to t r)
             ∙ ap (λ b. if not b then r ∷ unnamed_updates t (r ∷ log) log else unnamed_updates t (r ∷ log) log) fresh)
     by_kind (compensates not_one two comp owner) =
         let names : (lsn : ℕ) → is_named t lsn (r ∷ log) ≡ ((undo_point t log == lsn) || is_named t lsn log) = (λ lsn. rw two refl) in
-        let listed : unnamed_updates t (r ∷ log) log ≡ without_lsn (top_lsn (to_undo t log)) (to_undo t log) =
-        unnamed_less t (undo_point t log) log (r ∷ log) log names ∙ ap (without_lsn (undo_point t log)) (sym again) ∙ ap (λ n. without_lsn n (to_undo t log)) stack.point in
+        let listed : unnamed_updates t (r ∷ log) log ≡ without_lsn (undo_point t log) (to_undo t log) =
+        unnamed_less t (undo_point t log) log (r ∷ log) log names ∙ ap (without_lsn (undo_point t log)) (sym again) in
         let left : to_undo t (r ∷ log) ≡ rest (to_undo t log) = rw (not_one, two) refl in
         let right : unnamed_updates t (r ∷ log) (r ∷ log) ≡ unnamed_updates t (r ∷ log) log = skipped not_one in
-        left ∙ less (to_undo t log) refl ∙ sym listed ∙ sym right
+        left ∙ less (undo_point t log) (to_undo t log) has.top refl ∙ sym listed ∙ sym right
       where
         skipped : is_kind_of t 1 r ≡ false → unnamed_updates t (r ∷ log) (r ∷ log) ≡ unnamed_updates t (r ∷ log) log
         skipped not_one = ap (λ b. if b && not (is_named t r.lsn (r ∷ log)) then r ∷ unnamed_updates t (r ∷ log) log else unnamed_updates t (r ∷ log) log) not_one
@@ -152,15 +200,28 @@ unnamed_on part t all r log running apart nonzero f again = by_kind (is_to t r)
         skipped : is_kind_of t 1 r ≡ false → unnamed_updates t (r ∷ log) (r ∷ log) ≡ unnamed_updates t (r ∷ log) log
         skipped not_one = ap (λ b. if b && not (is_named t r.lsn (r ∷ log)) then r ∷ unnamed_updates t (r ∷ log) log else unnamed_updates t (r ∷ log) log) not_one
 
-stack_is_unnamed : (part : ℕ → ℕ) (t : ℕ) (all log : Log) → IsRunning all t → AreNumbered log → ((r : Record) → IsAmong log r → r.lsn ≢ 0) → FollowEach part all log →
-    to_undo t log ≡ unnamed_updates t log log
-stack_is_unnamed part t all [] running apart nonzero f = refl
-stack_is_unnamed part t all (r ∷ log) running apart nonzero f =
-    unnamed_on part t all r log running apart nonzero f (stack_is_unnamed part t all log running (λ x y m k. apart x y (inr m) (inr k)) (λ x m. nonzero x (inr m)) f.1)
+unnamed_from : (part : ℕ → ℕ) (t : ℕ) (all log : Log) → IsRunning all t → AreNumbered log → FollowEach part all log → to_undo t log ≡ unnamed_updates t log log
+unnamed_from part t all [] running apart f = refl
+unnamed_from part t all (r ∷ log) running apart f =
+    unnamed_on part t all r log running apart f (unnamed_from part t all log running (λ x y m k. apart x y (inr m) (inr k)) f.1)
 
-pub stack_of_sound : StackIsUnnamed
-stack_of_sound shape s t h running =
-    stack_is_unnamed (part_of shape) t s.log s.log running (numbered (part_of shape) s.log s.log h.order) h.gates h.order
+pub stack_is_unnamed : StackIsUnnamed
+stack_is_unnamed part log t order running = unnamed_from part t log log running (numbered part log log order) order
+
+-- the need counts them
+
+need_unnamed : (part : ℕ → ℕ) (log : Log) (t : ℕ) (b : Bool) → IsInOrder part log → has_kind_of t 4 log ≡ b → need_of log t ≡ unnamed_need log t
+need_unnamed part log t true order ended = rw ended refl
+need_unnamed part log t false order not_ended =
+    ap (λ l. if has_kind_of t 4 log then 0 else (if has_kind_of t 3 log then 0 else 1) + (length l + 1)) (stack_is_unnamed part log t order running)
+  where
+    running : IsRunning log t
+    running r m end = let on = has_kind_true t 4 log (r, m, end) in absurd (cc)
+
+pub need_is_unnamed : NeedIsUnnamed
+need_is_unnamed part p log order =
+    let same : need_of log ≡ unnamed_need log = (λ i t. need_unnamed part log t (has_kind_of t 4 log) order refl i) in
+    ap (λ number. sum_over part p number log) same
 
 -- ---- the undo point
 

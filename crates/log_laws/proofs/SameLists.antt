@@ -1,9 +1,9 @@
 -- The rules of a list speak of its five words and of the links of its buckets alone.
-use Rattle.std.proofs.Common.{◌≡◌, ◌≢◌, ◌⊎◌, inl, inr, ℕ, zero, suc, Bool, true, false, ◌+◌, ◌-◌, ◌<◌, ◌≤◌, ◌==◌, ◌||◌, if◌then◌else◌, List, [], ◌∷◌, ◌++◌, refl, sym, ap, subst, ◌∙◌, arith}
+use Rattle.std.proofs.Common.{◌≡◌, ◌≢◌, inl, inr, ℕ, zero, suc, Bool, true, false, ◌+◌, ◌-◌, ◌<◌, ◌≤◌, ◌==◌, ◌||◌, if◌then◌else◌, List, [], ◌∷◌, ◌++◌, refl, sym, ap, subst, ◌∙◌, arith}
 use Rattle.std.proofs.lemmas.Bool.Decides.{nat_tests, eqb_tells}
 use Rattle.persist_model.specs.Region.{Words}
 use Rattle.persist_model.specs.Shape.{list_words}
-use Rattle.persist_model.specs.Chain.{HEAD, TAIL, TO_APPEND, LAST_TAIL, TO_REMOVE, view, next_of, prev_of, word_behind, word_before, IsLink, Each, HasLinks, last_or, without, Links, IsWalk, IsWholeWalk, IsCutWalk, AppendRule, RemoveRule, IsExcepted, LinksBackBut, ListRules}
+use Rattle.persist_model.specs.Chain.{HEAD, TAIL, TO_APPEND, TO_REMOVE, view, next_of, prev_of, word_behind, word_before, IsLink, Each, HasLinks, without, Links, IsWalk, AppendRule, RemoveRule, IsExcepted, LinksBackBut, ListRules}
 
 pub each_map : (P Q : ℕ → Type 0) → ((b : ℕ) → P b → Q b) → (xs : List ℕ) → Each P xs → Each Q xs
 each_map P Q f [] h = tt

@@ -1,7 +1,7 @@
 -- What keeps standing values.
 use Rattle.std.proofs.Common.{◌≡◌, ◌⊎◌, inl, inr, ℕ, ◌≤◌, [], ◌∷◌, refl, sym, ap, ◌∙◌, arith, subst}
 use Rattle.persist_model.specs.Region.{Words}
-use Rattle.persist_model.specs.Records.{Record, Log, IsAmong, Has, HasNo}
+use Rattle.persist_model.specs.Records.{Record, Log, IsAmong, HasNo}
 use Rattle.persist_model.specs.Standing.{IsToUndo, IsToDelete, IsToRedo, IsEarliest, IsLatest, Stands, undone, deleted, redone, kept}
 use Rattle.log_laws.specs.Recovery.{HasDecidingRecord}
 use Rattle.log_laws.proofs.Deciding.{IsDecided, decide_at_most, has_or_none, decide_to_undo, decide_to_delete, decide_to_redo}

@@ -2,7 +2,7 @@
 #![tactic(auto)]
 
 ghost use Rattle.log_laws.specs.Soundness.{SoundOrFaulty, SoundHasNoFault, FirstFaultIsOne, StandingIsOne};
-ghost use Rattle.log_laws.specs.Naming.{StackIsUnnamed, UndoPointIsEarlier};
+ghost use Rattle.log_laws.specs.Naming.{StackIsUnnamed, NeedIsUnnamed, UndoPointIsEarlier};
 ghost use Rattle.log_laws.specs.Recovery.{RecoveryKeeps, RunsKeep, RecoveryEnds};
 ghost use Rattle.log_laws.specs.MoveRoom.{UpdateFits, DeletionFits, RollbackFits, CompensationFits, EndFits, CheckpointFits};
 ghost use Rattle.log_laws.specs.Moves.{MovesKeep, CommitsKeep};
@@ -29,9 +29,14 @@ pub fn standing_is_one()
     ensures { StandingIsOne }
 {}
 
-/// In a sound state the stack of a running transaction is the list of its updates that no compensation names.
+/// In a log in order, whatever its room, the stack of a running transaction is the list of its updates that no compensation names.
 pub fn stack_is_unnamed()
     ensures { StackIsUnnamed }
+{}
+
+/// So the need of a partition counts the updates that no compensation names.
+pub fn need_is_unnamed()
+    ensures { NeedIsUnnamed }
 {}
 
 /// The update that a compensation names is an earlier record, so it may be sought among all.
