@@ -69,7 +69,7 @@ empty_chain = chain_at (words_of (word 8 0 ∷ word 9 0 ∷ first)) simple 0 [] 
 
 -- ---- bucket 48 is taken out from between 32 and 64
 
-abbrev three : List (ℕ × ℕ)
+abbrev pub three : List (ℕ × ℕ)
 three = word 32 48 ∷ word 48 64 ∷ word 49 32 ∷ word 65 48 ∷ word 9 64 ∷ first
 
 three_chain : HasChain simple (words_of three) 0 (32 ∷ 48 ∷ 64 ∷ [])

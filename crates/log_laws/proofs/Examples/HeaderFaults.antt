@@ -56,3 +56,30 @@ no_kind = header_fault 352 (words_of (word 13 4 ∷ second)) 4 13 refl
 first_of_two : IsFirstFault 352 (words_of (word 0 0 ∷ word 1 3 ∷ first)) 1 0
 unfolding shape_some
 first_of_two = header_fault 352 (words_of (word 0 0 ∷ word 1 3 ∷ first)) 1 0 refl
+
+-- ---- a size above its limit, or 0
+
+many_buckets : IsFirstFault 352 (words_of (word 3 1025 ∷ first)) 4 3
+unfolding shape_some
+many_buckets = header_fault 352 (words_of (word 3 1025 ∷ first)) 4 3 refl
+
+many_blocks : IsFirstFault 352 (words_of (word 4 65537 ∷ first)) 4 4
+unfolding shape_some
+many_blocks = header_fault 352 (words_of (word 4 65537 ∷ first)) 4 4 refl
+
+no_structures : IsFirstFault 352 (words_of (word 5 0 ∷ first)) 4 5
+unfolding shape_some
+no_structures = header_fault 352 (words_of (word 5 0 ∷ first)) 4 5 refl
+
+no_partitions : IsFirstFault 352 (words_of (word 6 0 ∷ second)) 4 6
+unfolding shape_some
+no_partitions = header_fault 352 (words_of (word 6 0 ∷ second)) 4 6 refl
+
+kind_of_0 : IsFirstFault 352 (words_of (word 13 0 ∷ second)) 4 13
+unfolding shape_some
+kind_of_0 = header_fault 352 (words_of (word 13 0 ∷ second)) 4 13 refl
+
+-- a wrong kind behind a right one
+second_kind : IsFirstFault 352 (words_of (word 5 2 ∷ word 14 4 ∷ second)) 4 14
+unfolding shape_some
+second_kind = header_fault 352 (words_of (word 5 2 ∷ word 14 4 ∷ second)) 4 14 refl

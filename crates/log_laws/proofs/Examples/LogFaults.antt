@@ -8,6 +8,7 @@ use Rattle.log_laws.proofs.LogFaults.{log_some}
 use Rattle.log_laws.proofs.Verdicts.{word, words_of, is_sound, log_fault}
 use Rattle.log_laws.proofs.Examples.LiteralImages.{simple, bucketed, header, ends, cell, update, compensation, rollback, ending, checkpoint, deletion}
 use Rattle.log_laws.proofs.Examples.FirstScript.{first}
+use Rattle.log_laws.proofs.Examples.Logged.{Breaks, breaks}
 
 -- ---- records
 
@@ -49,6 +50,32 @@ end_without = log_fault 352 (words_of (cell (ending 40 1 1 0) first)) simple (en
 checkpoint_of : IsFirstFault 352 (words_of (cell (record (checkpoint 40 1) { transaction = 3 }) first)) 7 40
 unfolding shape_some parts_some log_of log_some chains_in
 checkpoint_of = log_fault 352 (words_of (cell (record (checkpoint 40 1) { transaction = 3 }) first)) simple (record (checkpoint 40 1) { transaction = 3 } ∷ []) 7 40 refl refl refl refl refl
+
+-- kind 0, an outcome that is none, an address behind the heap and one below it
+kind_0 : Breaks 1 (record (update 40 1 1 583 0 5 0) { kind = 0 } ∷ []) 7 40
+unfolding shape_some parts_some log_of log_some chains_in
+kind_0 = breaks 1 (record (update 40 1 1 583 0 5 0) { kind = 0 } ∷ []) 7 40 refl refl refl refl refl
+
+outcome_3 : Breaks 1 (ending 40 1 1 3 ∷ []) 7 40
+unfolding shape_some parts_some log_of log_some chains_in
+outcome_3 = breaks 1 (ending 40 1 1 3 ∷ []) 7 40 refl refl refl refl refl
+
+behind_heap : Breaks 1 (update 40 1 1 832 0 5 0 ∷ []) 7 40
+unfolding shape_some parts_some log_of log_some chains_in
+behind_heap = breaks 1 (update 40 1 1 832 0 5 0 ∷ []) 7 40 refl refl refl refl refl
+
+below_heap : Breaks 1 (update 40 1 1 575 0 5 0 ∷ []) 7 40
+unfolding shape_some parts_some log_of log_some chains_in
+below_heap = breaks 1 (update 40 1 1 575 0 5 0 ∷ []) 7 40 refl refl refl refl refl
+
+-- a compensation's word is tried as an update's is, before its order is
+compensation_behind_heap : Breaks 1 (compensation 48 2 1 832 5 0 0 ∷ update 40 1 1 583 0 5 0 ∷ []) 7 48
+unfolding shape_some parts_some log_of log_some chains_in
+compensation_behind_heap = breaks 1 (compensation 48 2 1 832 5 0 0 ∷ update 40 1 1 583 0 5 0 ∷ []) 7 48 refl refl refl refl refl
+
+compensation_of_root : Breaks 1 (compensation 48 2 1 576 5 0 0 ∷ update 40 1 1 583 0 5 0 ∷ []) 7 48
+unfolding shape_some parts_some log_of log_some chains_in
+compensation_of_root = breaks 1 (compensation 48 2 1 576 5 0 0 ∷ update 40 1 1 583 0 5 0 ∷ []) 7 48 refl refl refl refl refl
 
 -- ---- order
 

@@ -10,6 +10,7 @@ use Rattle.log_laws.proofs.RecordSorting.{log_of}
 use Rattle.log_laws.proofs.LogFaults.{log_some}
 use Rattle.log_laws.proofs.Verdicts.{word, words_of, is_sound, log_fault, stands_at}
 use Rattle.log_laws.proofs.Examples.LiteralImages.{bucketed, header, ends, cell, update, compensation, rollback, ending, checkpoint, deletion}
+use Rattle.log_laws.proofs.Examples.Logged.{StandsAt, stands}
 
 -- an image with these cells and heap words
 abbrev image : ℕ → (List (ℕ × ℕ) → List (ℕ × ℕ)) → List (ℕ × ℕ) → List (ℕ × ℕ)
@@ -148,3 +149,20 @@ wrong_point = image 1 (λ more. cell (update 40 1 1 583 0 5 0) (cell (compensati
 wrong_point_fault : IsFirstFault 832 (words_of wrong_point) 8 56
 unfolding shape_some parts_some log_of log_some chains_in
 wrong_point_fault = log_fault 832 (words_of wrong_point) (bucketed 1) (update 56 3 1 583 0 9 1 ∷ compensation 48 2 1 583 5 0 0 ∷ update 40 1 1 583 0 5 0 ∷ []) 8 56 refl refl refl refl refl
+
+-- ---- where two cases are near
+
+-- under force nothing is redone, whatever the heap holds
+forced_other : StandsAt 1 (ending 48 2 1 1 ∷ update 40 1 1 583 0 5 0 ∷ []) (word 583 4 ∷ []) 583 4
+unfolding shape_some parts_some log_of log_some chains_in stands_some
+forced_other = stands 1 (ending 48 2 1 1 ∷ update 40 1 1 583 0 5 0 ∷ []) (word 583 4 ∷ []) 583 4 refl refl refl refl refl refl
+
+-- a skipped transaction's deletion is made all the same
+skipped_given : StandsAt 2 (checkpoint 56 3 ∷ ending 48 2 1 1 ∷ deletion 40 1 1 592 1 ∷ []) (word 592 1 ∷ []) 592 0
+unfolding shape_some parts_some log_of log_some chains_in stands_some
+skipped_given = stands 2 (checkpoint 56 3 ∷ ending 48 2 1 1 ∷ deletion 40 1 1 592 1 ∷ []) (word 592 1 ∷ []) 592 0 refl refl refl refl refl refl
+
+-- a deletion goes before what is to be redone
+given_redone : StandsAt 2 (ending 56 3 1 1 ∷ deletion 48 2 1 592 1 ∷ update 40 1 1 592 0 1 0 ∷ []) (word 592 1 ∷ []) 592 0
+unfolding shape_some parts_some log_of log_some chains_in stands_some
+given_redone = stands 2 (ending 56 3 1 1 ∷ deletion 48 2 1 592 1 ∷ update 40 1 1 592 0 1 0 ∷ []) (word 592 1 ∷ []) 592 0 refl refl refl refl refl refl

@@ -10,7 +10,7 @@ use Rattle.log_laws.proofs.Soundness.{shape_some, parts_some, chains_in}
 use Rattle.log_laws.proofs.RecordSorting.{log_of}
 use Rattle.log_laws.proofs.LogFaults.{log_some}
 use Rattle.log_laws.proofs.Verdicts.{word, words_of, is_sound, log_fault, lists_fault, stands_at, chain_at}
-use Rattle.log_laws.proofs.Examples.LiteralImages.{cell, update}
+use Rattle.log_laws.proofs.Examples.LiteralImages.{cell, update, checkpoint}
 
 abbrev pub two_parts : Shape
 two_parts = record { policy = 1; cells = 1; buckets = 8; blocks = 16; structures = 2; format = 2; partitions = 2 }
@@ -106,3 +106,12 @@ full = word 22 144 ∷ word 96 112 ∷ word 112 128 ∷ word 128 144 ∷ word 11
 no_room : IsFirstFault 416 (words_of full) 9 22
 unfolding shape_some parts_some log_of log_some chains_in
 no_room = log_fault 416 (words_of full) two_parts (update 152 5 2 184 0 9 4 ∷ update 136 4 2 183 0 9 3 ∷ update 120 3 2 182 0 9 2 ∷ update 104 2 2 181 0 9 0 ∷ update 40 1 1 167 0 7 0 ∷ []) 9 22 refl refl refl refl refl
+
+-- ---- a checkpoint record in each: no rule asks where it stands
+
+abbrev passed_twice : List (ℕ × ℕ)
+passed_twice = cell (checkpoint 40 1) (cell (checkpoint 104 2) one)
+
+passed_twice_is_sound : IsSound 416 (words_of passed_twice)
+unfolding shape_some parts_some log_of log_some chains_in
+passed_twice_is_sound = is_sound 416 (words_of passed_twice) two_parts (checkpoint 104 2 ∷ checkpoint 40 1 ∷ []) refl refl refl refl refl
