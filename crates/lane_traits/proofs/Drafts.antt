@@ -1,8 +1,8 @@
 -- What a draft shows: the blocks and words by their addresses, and what its calls change.
-use Rattle.std.proofs.Common.{◌≡◌, ◌⊎◌, inl, inr, ⊎_elim, ℕ, ◌+◌, ◌-◌, ◌/◌, ◌≤◌, Bool, true, false, ◌||◌, List, [], ◌∷◌, ◌++◌, length, if◌then◌else◌, ◌==◌, refl, append-nil, Option, Some, None, option_to_list, Result, Ok, Err, OnOk, OnErr, sym, ◌∙◌, ap, subst, arith}
+use Rattle.std.proofs.Common.{◌≡◌, ◌≢◌, ◌⊎◌, inl, inr, ⊎_elim, ℕ, ◌+◌, ◌-◌, ◌/◌, ◌≤◌, Bool, true, false, ◌||◌, List, [], ◌∷◌, ◌++◌, length, if◌then◌else◌, ◌==◌, refl, append-nil, Option, Some, None, option_to_list, Result, Ok, Err, OnOk, OnErr, sym, ◌∙◌, ap, subst, arith}
 use Rattle.std.proofs.lemmas.Bool.Decides.{eqb_tells}
 use Rattle.persist_model.specs.Records.{IsAmong}
-use Rattle.lane_traits.specs.Space.{Land, Space, IsOwn, IsDataWordOf, IsTaken, put_word, written, taken, given}
+use Rattle.lane_traits.specs.Space.{Land, Space, IsOwn, IsDataWordOf, IsTaken, root_block, put_word, written, taken, given}
 use Rattle.lane_traits.specs.declared.draft.WordWrite.{WordWrite}
 use Rattle.persist_model.specs.Chain.{HasNoRepeats}
 use Rattle.lane_traits.specs.Draft.{is_among, addresses, after_writes, last_writes, of_structure, drafted, at_start, IsOwnAt, IsDataAt, IsChange, block_before}
@@ -192,16 +192,18 @@ not_spare base structure log gives spare b own h =
 -- ---- what is handed back
 
 pub change_is : (base : Space) (structure : ℕ) (log writes : List WordWrite) (gives spare : List ℕ)
-    → ((b : ℕ) → IsAmong gives b → IsOwnAt (of_structure structure base.land) b) → ((b : ℕ) → IsAmong gives b → IsAmong spare b → ⊥) → HasNoRepeats gives
+    → ((b : ℕ) → IsAmong gives b → IsOwnAt (of_structure structure base.land) b)
+    → ((b : ℕ) → IsAmong gives b → b ≢ root_block (of_structure structure base.land)) → ((b : ℕ) → IsAmong gives b → IsAmong spare b → ⊥) → HasNoRepeats gives
     → ((a : ℕ) → IsAmong (addresses log) a → IsDataAt (of_structure structure base.land) a) → writes ≡ last_writes log
     → IsChange (drafted structure log gives spare base) writes gives
-change_is base structure log writes gives spare own apart once within is = record {
+change_is base structure log writes gives spare own not_root apart once within is = record {
   once = subst (λ (xs : List WordWrite). HasNoRepeats (addresses xs)) (sym is) (last_writes-once log);
   words = ap (λ (xs : List WordWrite). after_writes xs base.word) is ∙ last_writes-writes log base.word;
   fewer = (let e = last_writes-length log in subst (λ (xs : List WordWrite). length xs ≤ length log) (sym is) e);
   within = λ a h. started_word a (within a (last_writes-among log a (subst (λ (xs : List WordWrite). IsAmong (addresses xs) a) is h)));
   given_once = once;
   given = λ b h. (started b (own b h), apart b h);
+  not_root = not_root;
   owners = refl;
 }
   where

@@ -2,7 +2,7 @@
 use Rattle.std.proofs.Common.{◌≡◌, ◌≢◌, inl, inr, ℕ, ◌+◌, ◌-◌, ◌*◌, ◌<◌, Bool, true, false, if◌then◌else◌, ◌==◌, List, [], ◌∷◌, Result, Ok, Err, refl, sym, ◌∙◌, ap, subst, lit<, lit≤, arith}
 use Rattle.std.specs.Prelude.{OnOk, OnErr, IfOk}
 use Rattle.persist_model.specs.Records.{IsAmong}
-use Rattle.lane_traits.specs.Space.{Land, Space, IsBlock, IsOwn, IsDataWordOf, IsTaken, taken, given}
+use Rattle.lane_traits.specs.Space.{Land, Space, IsBlock, IsOwn, IsDataWordOf, IsTaken, root_block, taken, given}
 use Rattle.lane_traits.specs.Draft.{of_structure, drafted, AreSetAside}
 use Rattle.lane_traits.proofs.Among.{same_eq, apart_eq}
 
@@ -95,3 +95,11 @@ module _ (s t : Space) where
       ap (λ (on : Bool). if on then 0 else s.land.owner c) (apart_eq c b ne) ∙ own.1,
     )
     given_keeps (Err e) b _ same c ne own = subst (λ (u : Space). IsOwn u.land c) (sym same) own
+
+    pub root_taken : (r : Result ℕ E) → IfOk r (λ b. IsTaken s b t) → OnErr r (t ≡ s) → root_block t.land ≡ root_block s.land
+    root_taken (Ok b) k _ = ap (λ (u : Space). root_block u.land) k.space
+    root_taken (Err e) _ same = ap (λ (u : Space). root_block u.land) same
+
+    pub root_given : {T : Type 0} (r : Result T E) (b : ℕ) → OnOk r (t ≡ given b s) → OnErr r (t ≡ s) → root_block s.land ≡ 0 → root_block t.land ≡ 0
+    root_given (Ok x) b to _ is = ap (λ (u : Space). root_block u.land) to ∙ is
+    root_given (Err e) b _ same is = ap (λ (u : Space). root_block u.land) same ∙ is

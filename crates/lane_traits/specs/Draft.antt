@@ -4,7 +4,7 @@ use Rattle.persist_model.specs.Region.{Words}
 use Rattle.persist_model.specs.Records.{IsAmong}
 use Rattle.persist_model.specs.Chain.{HasNoRepeats}
 use Rattle.lane_traits.specs.Device.{MAX_WORDS}
-use Rattle.lane_traits.specs.Space.{Land, Space, IsOwn, IsDataWordOf, put_word}
+use Rattle.lane_traits.specs.Space.{Land, Space, IsOwn, IsDataWordOf, root_block, put_word}
 use Rattle.lane_traits.specs.declared.draft.WordWrite.{WordWrite}
 
 -- b is in the list
@@ -61,7 +61,7 @@ drafted structure log gives spare base = record {
 -- Blocks that were taken for a structure: each is its own and none its root, and each stands once.
 pub record AreSetAside (land : Land) (spare : List ℕ) : Type 0 where
   pub own : (b : ℕ) → IsAmong spare b → IsOwn land b
-  pub not_root : (b : ℕ) → IsAmong spare b → b ≢ land.heap + 16 * land.structure
+  pub not_root : (b : ℕ) → IsAmong spare b → b ≢ root_block land
   pub once : HasNoRepeats spare
 
 -- the block at or before an address
@@ -93,7 +93,8 @@ pub record IsChange (s : Space) (writes : List WordWrite) (gives : List ℕ) : T
   pub fewer : length writes ≤ s.writes
   -- it is a data word of what was the structure's at the beginning
   pub within : (a : ℕ) → IsAmong (addresses writes) a → IsDataWordOf (at_start s.land) a
-  -- each block that was given was the structure's at the beginning, and can't be taken
+  -- each block that was given was the structure's at the beginning, but not its root, and can't be taken
   pub given_once : HasNoRepeats gives
   pub given : (b : ℕ) → IsAmong gives b → IsOwn (at_start s.land) b × (IsAmong s.spare b → ⊥)
+  pub not_root : (b : ℕ) → IsAmong gives b → b ≢ root_block s.land
   pub owners : s.land.owner ≡ (λ b. if is_among gives b || is_among s.spare b then 0 else s.land.start.owner b)

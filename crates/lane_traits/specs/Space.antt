@@ -37,6 +37,10 @@ pub record IsBlock (land : Land) (b : ℕ) : Type 0 where
 abbrev pub IsOwn : Land → ℕ → Type 0
 IsOwn land b = IsBlock land b × (land.owner b ≡ land.structure + 1)
 
+-- the structure's root block
+abbrev pub root_block : Land → ℕ
+root_block land = land.heap + 16 * land.structure
+
 -- a data word of the structure's blocks
 pub record IsDataWordOf (land : Land) (a : ℕ) : Type 0 where
   pub block : ℕ

@@ -1,9 +1,9 @@
-ghost use Rattle.std.specs.Prelude.{◌≡◌, ◌↔◌, ℕ, ◌+◌, ◌<◌, ◌≤◌, [], ◌∷◌, ◌++◌, Bool, IsTrue, unwrap_or, length, take, drop, slice_index_or};
+ghost use Rattle.std.specs.Prelude.{◌≡◌, ◌≢◌, ◌↔◌, ℕ, ◌+◌, ◌<◌, ◌≤◌, [], ◌∷◌, ◌++◌, Bool, IsTrue, unwrap_or, length, take, drop, slice_index_or};
 ghost use Rattle.std.specs.List.{position};
 ghost use Rattle.persist_model.specs.Region.{Words};
 ghost use Rattle.persist_model.specs.Records.{IsAmong};
 ghost use Rattle.persist_model.specs.Chain.{HasNoRepeats};
-ghost use Rattle.lane_traits.specs.Space.{Space, IsDataWordOf};
+ghost use Rattle.lane_traits.specs.Space.{Space, IsDataWordOf, root_block};
 ghost use Rattle.lane_traits.specs.Draft.{addresses, has_address, after_writes, noted, last_writes, of_structure, drafted, IsOwnAt, IsDataAt};
 ghost use Rattle.lane_traits.specs.DraftLaws.{HasNoRepeats-prop};
 
@@ -39,6 +39,7 @@ pub struct Draft<R: Reads> {
     spare: List<u32>,
     ghost own_spare: { (b : ℕ) → IsAmong spare b → IsOwnAt (of_structure structure (R.space base).land) b },
     ghost own_gives: { (b : ℕ) → IsAmong gives b → IsOwnAt (of_structure structure (R.space base).land) b },
+    ghost not_root: { (b : ℕ) → IsAmong gives b → b ≢ root_block (of_structure structure (R.space base).land) },
     ghost apart: { (b : ℕ) → IsAmong gives b → IsAmong spare b → ⊥ },
     ghost spare_once: { HasNoRepeats spare } by { HasNoRepeats-prop spare },
     ghost gives_once: { HasNoRepeats gives } by { HasNoRepeats-prop gives },
@@ -184,8 +185,8 @@ impl<R: Reads> Reads for Draft<R> {
 }
 
 impl<R: Reads> Words for Draft<R> {
-    ghost use Rattle.std.specs.Prelude.{◌≡◌, ◌↔◌, ◌∷◌, ◌++◌, [], OnOk, OnErr, IfOk, Err};
-    ghost use Rattle.lane_traits.specs.Space.{Space, IsDataWordOf, IsOwn, IsTaken, written, given};
+    ghost use Rattle.std.specs.Prelude.{◌≡◌, ◌≢◌, ◌↔◌, ◌∷◌, ◌++◌, [], OnOk, OnErr, IfOk, Err};
+    ghost use Rattle.lane_traits.specs.Space.{Space, IsDataWordOf, IsOwn, IsTaken, root_block, written, given};
     ghost use Rattle.lane_traits.specs.Drafts.{writes_made, gives_made};
     ghost use Rattle.lane_traits.specs.DraftLaws.{data_below, are_spare};
 
@@ -221,7 +222,8 @@ impl<R: Reads> Words for Draft<R> {
     }
 
     fn give(&mut self, block: u32) -> Result<(), WordsRefusal>
-        requires { IsOwn (⟦<Draft<R> as Reads>⟧.space self.old).land block }
+        requires own { IsOwn (⟦<Draft<R> as Reads>⟧.space self.old).land block }
+        requires not_root { block ≢ root_block (⟦<Draft<R> as Reads>⟧.space self.old).land }
         ensures given { OnOk result (⟦<Draft<R> as Reads>⟧.space self.new ≡ given block (⟦<Draft<R> as Reads>⟧.space self.old)) }
         ensures refused { OnErr result (⟦<Draft<R> as Reads>⟧.space self.new ≡ ⟦<Draft<R> as Reads>⟧.space self.old) }
         ensures memory { OnErr result (result ≡ Err WordsRefusal.NoMemory) }

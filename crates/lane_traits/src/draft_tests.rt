@@ -1,6 +1,6 @@
 //! What drafts show and would change, over words that say where they stand.
 ghost use Rattle.std.specs.Prelude.{◌≡◌, ◌≢◌, ℕ, ◌<◌, [], true, IfOk, OnOk, ◌∷◌, ◌++◌};
-ghost use Rattle.lane_traits.specs.Space.{Space, IsOwn};
+ghost use Rattle.lane_traits.specs.Space.{Space, IsOwn, root_block};
 
 use crate::draft::{Draft, Drafted, WordWrite};
 use crate::words::{Reads, Words, WordsRefusal};
@@ -34,9 +34,11 @@ fn add(list: &mut List<u32>, block: u32) -> Result<(), NoMemory>
     list.push(block).map_err(|_| NoMemory)
 }
 
-// A draft of structure 0, to which the block at 16 belongs, and which can take those at 32, 48 and 64.
+// A draft of structure 0, to which the block at 16 belongs, and which can take those at 32, 48 and 64. No block stands where
+// its root would.
 fn fresh(alloc: Global) -> Result<Draft<Numbered>, NoMemory>
-    ensures { IfOk result (λ draft. IsOwn (⟦<Draft<Numbered> as Reads>⟧.space draft).land 16) }
+    ensures own { IfOk result (λ draft. IsOwn (⟦<Draft<Numbered> as Reads>⟧.space draft).land 16) }
+    ensures root { IfOk result (λ draft. root_block (⟦<Draft<Numbered> as Reads>⟧.space draft).land ≡ 0) }
 {
     let mut spare = List::new(alloc);
     add(&mut spare, 32)?;
@@ -88,13 +90,16 @@ fn write_all(
 fn take(draft: &mut Draft<Numbered>) -> Result<u32, WordsRefusal>
     ensures taken { IfOk result (λ b. IsOwn (⟦<Draft<Numbered> as Reads>⟧.space draft.new).land b) }
     ensures kept { (b : ℕ) → IsOwn (⟦<Draft<Numbered> as Reads>⟧.space draft.old).land b → IsOwn (⟦<Draft<Numbered> as Reads>⟧.space draft.new).land b }
+    ensures root { root_block (⟦<Draft<Numbered> as Reads>⟧.space draft.new).land ≡ root_block (⟦<Draft<Numbered> as Reads>⟧.space draft.old).land }
 {
     draft.take()
 }
 
 fn give(draft: &mut Draft<Numbered>, block: u32) -> Result<(), WordsRefusal>
-    requires { IsOwn (⟦<Draft<Numbered> as Reads>⟧.space draft.old).land block }
-    ensures { (b : ℕ) → b ≢ block → IsOwn (⟦<Draft<Numbered> as Reads>⟧.space draft.old).land b → IsOwn (⟦<Draft<Numbered> as Reads>⟧.space draft.new).land b }
+    requires own { IsOwn (⟦<Draft<Numbered> as Reads>⟧.space draft.old).land block }
+    requires root { root_block (⟦<Draft<Numbered> as Reads>⟧.space draft.old).land ≡ 0 }
+    ensures kept { (b : ℕ) → b ≢ block → IsOwn (⟦<Draft<Numbered> as Reads>⟧.space draft.old).land b → IsOwn (⟦<Draft<Numbered> as Reads>⟧.space draft.new).land b }
+    ensures root { root_block (⟦<Draft<Numbered> as Reads>⟧.space draft.new).land ≡ 0 }
 {
     draft.give(block)
 }

@@ -1,5 +1,5 @@
-ghost use Rattle.std.specs.Prelude.{◌≡◌, ◌↔◌, ℕ, Bool, IsTrue, OnOk, OnErr, IfOk, Err, []};
-ghost use Rattle.lane_traits.specs.Space.{Space, IsDataWordOf, IsOwn, IsTaken, AreSpare, written, given};
+ghost use Rattle.std.specs.Prelude.{◌≡◌, ◌≢◌, ◌↔◌, ℕ, Bool, IsTrue, OnOk, OnErr, IfOk, Err, []};
+ghost use Rattle.lane_traits.specs.Space.{Space, IsDataWordOf, IsOwn, IsTaken, AreSpare, root_block, written, given};
 
 use persist_model::NoMemory;
 
@@ -60,9 +60,10 @@ pub trait Words: Reads {
         ensures taken { IfOk result (λ b. IsTaken (Self.space self.old) b (Self.space self.new)) }
         ensures refused { OnErr result (Self.space self.new ≡ Self.space self.old) };
 
-    /// The block is no longer the structure's, and can't be taken. It is refused for want of memory alone.
+    /// The block, which isn't the root, is no longer the structure's, and can't be taken. It is refused for want of memory alone.
     fn give(&mut self, block: u32) -> Result<(), WordsRefusal>
-        requires { IsOwn (Self.space self.old).land block }
+        requires own { IsOwn (Self.space self.old).land block }
+        requires not_root { block ≢ root_block (Self.space self.old).land }
         ensures given { OnOk result (Self.space self.new ≡ given block (Self.space self.old)) }
         ensures refused { OnErr result (Self.space self.new ≡ Self.space self.old) }
         ensures memory { OnErr result (result ≡ Err WordsRefusal.NoMemory) };

@@ -1,16 +1,16 @@
 -- A root block of zeros is an empty map.
-use Rattle.std.proofs.Common.{◌≡◌, inl, ⊎_elim, ℕ, ◌+◌, ◌*◌, ◌/◌, ◌<◌, ◌≤◌, Bool, true, false, if◌then◌else◌, nat_lt, List, [], ◌∷◌, ◌++◌, refl, sym, subst, ◌∙◌, arith, ltb-true}
-use Rattle.std.specs.Prelude.{◌||◌}
+use Rattle.std.proofs.Common.{◌≡◌, inl, ⊎_elim, ℕ, ◌+◌, ◌*◌, ◌/◌, ◌<◌, ◌≤◌, Bool, true, false, if◌then◌else◌, nat_lt, List, [], ◌∷◌, ◌++◌, refl, sym, subst, ◌∙◌, ap, arith, ltb-true}
+use Rattle.std.specs.Prelude.{◌||◌, Option, Some, None, Result, Ok, Err, IfOk, OnOk, MatchOption}
 use Rattle.std.proofs.lemmas.Bool.Decides.{nat_tests, eqb_tells}
 use Rattle.persist_model.specs.Region.{Words}
 use Rattle.persist_model.specs.Records.{IsAmong}
 use Rattle.persist_model.specs.Chain.{HasNoRepeats}
-use Rattle.lane_traits.specs.Space.{Land, Space, IsOwn}
+use Rattle.lane_traits.specs.Space.{Land, Space, IsOwn, root_block, taken}
 use Rattle.lane_traits.specs.Draft.{is_among, of_structure, drafted, AreSetAside}
 use Rattle.lane_traits.specs.DraftLaws.{of_among, owner_of}
 use Rattle.lane_traits.proofs.Among.{among_of, among_last, among_front, among_end, once_more}
 use Rattle.region_layout.specs.HashMap.{Chains, IsHashMap}
-use Rattle.persist_hash.specs.Calls.{HasMap}
+use Rattle.persist_hash.specs.Calls.{HasMap, Took, GivesBlock}
 use Rattle.persist_hash.proofs.Blocks.{IsPlaced, of_placed}
 use Rattle.persist_hash.proofs.Places.{index_below, none_is}
 
@@ -130,3 +130,15 @@ others_more n spare some h = record {
       (eqb_tells k n);
   once = once_more spare (16 + 16 * n) h.once (λ among. let at = h.each (16 + 16 * n) among in let lt = at.2 in let e = at.3 in omega (arith, lt, e));
 }
+
+-- ---- the root stays where it is
+
+pub root_took : (bs : List ℕ) (s u : Space) → Took bs s u → root_block u.land ≡ root_block s.land
+root_took [] s u h = ap root_block h.0
+root_took (b ∷ bs) s u h = root_took bs (taken b s) u h.1
+
+pub root_removed : {E : Type 0} (s u : Space) (r : Result (Option ℕ) E) → IfOk r (λ before. MatchOption before (u ≡ s) (λ _. GivesBlock s u)) → root_block s.land ≡ 16
+    → OnOk r (root_block u.land ≡ 16)
+root_removed s u (Ok None) same is = ap (λ (t : Space). root_block t.land) same ∙ is
+root_removed s u (Ok (Some v)) gave is = ap root_block gave.land ∙ is
+root_removed s u (Err e) _ is = tt

@@ -345,6 +345,17 @@ link_held s root key chains directory link node h place some =
     (among_left (blocks place.front) (at.first.block ∷ blocks at.more) behind.0 behind.1)) (omega arith) (omega arith)))
     (link_where (slot_of s.word root c) place.front))
 
+-- the node of a key is not the root
+pub place_not_root : (s : Space) (root key : ℕ) (chains : Chains) (directory link node : ℕ) → IsHash s.land s.word root chains
+    → IsPlaceOf s root key (chains (chain_number key)) directory link node → node ≢ 0 → node ≢ root
+place_not_root s root key chains directory link node h place some e =
+    let c = chain_number key in
+    let at = node_there s root key chains directory link node h place some in
+    let parts = parts_at s root key chains directory link node h place at in
+    let among = subst (λ (bs : List ℕ). IsAmong bs at.first.block) (sym (in_chain_of s.land s.word root chains c place.front at.more at.first parts))
+    (among_right (blocks place.front) (blocks (at.first ∷ at.more)) at.first.block (inl refl)) in
+    parts.placed.root_no_node c parts.below (subst (IsAmong (blocks (chains c))) (sym at.block ∙ e) among)
+
 pub gives_one : (s u : Space) (node link x : ℕ) → IsOwn s.land node → u ≡ given node (written link x s) → GivesBlock s u
 gives_one s u node link x own is = record {
   block = node;

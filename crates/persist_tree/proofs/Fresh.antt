@@ -3,13 +3,13 @@ use Rattle.std.proofs.Common.{◌≡◌, ◌≢◌, ◌⊎◌, inl, inr, ℕ, �
 use Rattle.std.proofs.lemmas.Bool.Decides.{eqb_tells}
 use Rattle.std.proofs.lemmas.Bool.{cases_lt, lt-ltb}
 use Rattle.std.proofs.lemmas.List.{get_or_past}
-use Rattle.std.specs.Prelude.{slice_index, IsTrue, ◌||◌}
+use Rattle.std.specs.Prelude.{slice_index, IsTrue, ◌||◌, Option, Some, None, Result, Ok, Err, IfOk, OnOk, MatchOption}
 use Rattle.persist_model.specs.Records.{IsAmong}
 use Rattle.persist_model.specs.Chain.{HasNoRepeats, IsAbsent}
-use Rattle.lane_traits.specs.Space.{Space, IsOwn, IsDataWordOf}
+use Rattle.lane_traits.specs.Space.{Space, IsOwn, IsDataWordOf, root_block}
 use Rattle.lane_traits.specs.Draft.{is_among, of_structure, drafted, AreSetAside}
 use Rattle.region_layout.specs.TreeMap.{Leaf}
-use Rattle.persist_tree.specs.Calls.{HoldsMap}
+use Rattle.persist_tree.specs.Calls.{HoldsMap, KeepsBlocks, TakesOne, GivesOne}
 use Rattle.persist_tree.proofs.Nodes.{among_left, among_right, among_either}
 
 -- ---- a list grows at its end
@@ -111,6 +111,21 @@ module _ (xs : List ℕ) (n : ℕ) (spare : List ℕ) (m : IsMemory xs n spare) 
       root_owner : (IsAmong spare 16 × (is_among spare 16 ≡ true)) ⊎ ((IsAmong spare 16 → ⊥) × (is_among spare 16 ≡ false)) → (if is_among [] 16 || is_among spare 16 then 0 else slice_index xs 16) ≡ 1
       root_owner (inl there) = absurd (let k = m.each 16 there.0 in let some = k.1 in let is = k.3 in omega (arith, some, is))
       root_owner (inr out) = let off = out.1 in rw off (m.owners 0 (let some = m.some in omega (arith, some)))
+
+-- ---- the root stays where it is
+
+module _ {E : Type 0} (s u : Space) where
+  pub root_put : (r : Result (Option ℕ) E) → IfOk r (λ before. MatchOption before (TakesOne s u) (λ _. KeepsBlocks s u)) → root_block s.land ≡ 16
+      → OnOk r (root_block u.land ≡ 16)
+  root_put (Ok None) took is = ap root_block took.land ∙ is
+  root_put (Ok (Some v)) kept is = ap root_block kept.land ∙ is
+  root_put (Err e) _ is = tt
+
+  pub root_removed : (r : Result (Option ℕ) E) → IfOk r (λ before. MatchOption before (KeepsBlocks s u) (λ _. GivesOne s u)) → root_block s.land ≡ 16
+      → OnOk r (root_block u.land ≡ 16)
+  root_removed (Ok None) kept is = ap root_block kept.land ∙ is
+  root_removed (Ok (Some v)) gave is = ap root_block gave.land ∙ is
+  root_removed (Err e) _ is = tt
 
 -- ---- the blocks but the root, one after the other
 

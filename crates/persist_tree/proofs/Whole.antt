@@ -5,7 +5,7 @@ use Rattle.std.specs.Prelude.{is_none}
 use Rattle.persist_model.specs.Region.{Words}
 use Rattle.persist_model.specs.Records.{IsAmong}
 use Rattle.persist_model.specs.Chain.{HasNoRepeats}
-use Rattle.lane_traits.specs.Space.{Land, Space, IsOwn, IsBlock, IsDataWordOf, IsTaken, AreSpare, put_word, written, taken, given, with_owner}
+use Rattle.lane_traits.specs.Space.{Land, Space, IsOwn, IsBlock, IsDataWordOf, IsTaken, AreSpare, root_block, put_word, written, taken, given, with_owner}
 use Rattle.region_layout.specs.FiniteMap.{FiniteMap, lookup, with_pair, without_key}
 use Rattle.region_layout.specs.TreeMap.{Tree, Leaf, Node, top, height, IsNode, IsLaid, EachNode, AreOwn, blocks, IsTree}
 use Rattle.persist_tree.specs.Trees.{IsIn, IsApart, IsAbsent, block_of, with_node, with_value, without_node}
@@ -68,6 +68,10 @@ located_in s root key b t locates some h = subst (IsIn t) (sym (locates t h)) (f
 
 pub located_own : (s : Space) (root key b : ℕ) → Locates s root key b → (b ≡ 0 → ⊥) → HoldsMap s root → IsOwn s.land b
 located_own s root key b locates some h = block_own s.land h.is.tree b h.is.is.own (located_in s root key b h.is.tree locates some h.is.is)
+
+located_apart : (s : Space) (root key b : ℕ) → Locates s root key b → (b ≡ 0 → ⊥) → HoldsMap s root → root ≢ b
+located_apart s root key b locates some h e =
+    root_out s.land s.word root h.is.tree h.is.is (subst (IsIn h.is.tree) (sym e) (located_in s root key b h.is.tree locates some h.is.is))
 
 pub needed_none : (s : Space) (root key b : ℕ) → Locates s root key b → b ≡ 0 → (m : FiniteMap) → Holds s root m → 1 ≡ needed key m
 needed_none s root key b locates none m h = ap (λ o. if is_none o then 1 else 0) (value_none s root key b locates none m h)
@@ -423,6 +427,11 @@ module _ (s t u : Space) (root key top link b : ℕ) (locates : Locates s root k
   module _ (v w : Space) (x : ℕ) (made : v ≡ written (root + 1) x u) (is_link : x ≡ link) where
     pub remove_give : HoldsMap s root → IsOwn v.land b
     remove_give h = subst (λ (y : Space). IsOwn y.land b) (sym made) (subst (λ (y : Land). IsOwn y b) (sym (remove_land h)) (located_own s root key b locates some h))
+
+    pub remove_not_root : HoldsMap s root → root ≡ root_block s.land → b ≢ root_block v.land
+    remove_not_root h first e =
+        let land : v.land ≡ s.land = ap (λ (y : Space). y.land) made ∙ remove_land h in
+        located_apart s root key b locates some h (first ∙ sym (e ∙ ap root_block land))
 
     module _ (gave : w ≡ given b v) where
       pub removed_by : (tree : Tree) → IsTree s.land s.word root tree → IsRemoved s w root key tree

@@ -1,6 +1,6 @@
 // The calls of a map.
 ghost use Rattle.std.specs.Prelude.{◌≡◌, ◌↔◌, ◌+◌, ◌<◌, ◌≤◌, Err, length, IfOk, OnOk, OnErr, MatchOption};
-ghost use Rattle.lane_traits.specs.Space.{Space};
+ghost use Rattle.lane_traits.specs.Space.{Space, root_block};
 ghost use Rattle.region_layout.specs.FiniteMap.{FiniteMap, lookup, with_pair, without_key};
 ghost use Rattle.persist_tree.specs.Calls.{HoldsMap, Holds, needed, KeepsBlocks, TakesOne, GivesOne, KeepsOthers, WritesFew};
 
@@ -69,7 +69,8 @@ pub fn put<W: Words>(
 /// The key then has no value. The answer is the value before.
 /// After `NoMemory` some of the writes may have been made; the words are then to be given up.
 pub fn remove<W: Words>(words: &mut W, root: u32, key: u64) -> Result<Option<u64>, WordsRefusal>
-    requires { HoldsMap (W.space words.old) root }
+    requires map { HoldsMap (W.space words.old) root }
+    requires root { root ≡ root_block (W.space words.old).land }
 
     ensures answer { IfOk result (λ before. (m : FiniteMap) → Holds (W.space words.old) root m → before ≡ lookup key m) }
     ensures contents { OnOk result ((m : FiniteMap) → Holds (W.space words.old) root m → Holds (W.space words.new) root (without_key key m)) }

@@ -2,7 +2,7 @@
 ghost use Rattle.std.specs.Prelude.{◌≡◌, ℕ, ◌+◌, ◌*◌, ◌<◌, ◌≤◌, Bool, true, nat_lt, if◌then◌else◌, IfOk, []};
 ghost use Rattle.persist_model.specs.Records.{IsAmong};
 ghost use Rattle.persist_model.specs.Chain.{HasNoRepeats};
-ghost use Rattle.lane_traits.specs.Space.{Space};
+ghost use Rattle.lane_traits.specs.Space.{Space, root_block};
 ghost use Rattle.persist_hash.specs.Calls.{HasMap};
 
 use lane_traits::{Draft, Reads};
@@ -52,7 +52,8 @@ fn other_blocks(alloc: Global, blocks: u32) -> Result<List<u32>, NoMemory>
 /// An empty map, and so many blocks that can be taken.
 pub fn fresh(alloc: Global, spare: u32) -> Result<Draft<Blank>, NoMemory>
     requires { spare ≤ 63 }
-    ensures { IfOk result (λ draft. HasMap (⟦<Draft<Blank> as Reads>⟧.space draft) 16) }
+    ensures map { IfOk result (λ draft. HasMap (⟦<Draft<Blank> as Reads>⟧.space draft) 16) }
+    ensures root { IfOk result (λ draft. root_block (⟦<Draft<Blank> as Reads>⟧.space draft).land ≡ 16) }
 {
     let others = other_blocks(alloc, spare + 1)?;
     Ok(Draft::new(alloc, Blank { blocks: spare + 1 }, 0, others))

@@ -1,5 +1,5 @@
 ghost use Rattle.std.specs.Prelude.{◌≡◌, ◌≤◌, OnOk};
-ghost use Rattle.lane_traits.specs.Space.{Space};
+ghost use Rattle.lane_traits.specs.Space.{Space, root_block};
 ghost use Rattle.persist_hash.specs.Calls.{HasMap};
 
 use crate::tests::blank::fresh;
@@ -17,8 +17,10 @@ enum Step {
 }
 
 fn made<W: Words>(rt: &impl Abort, words: &mut W, step: Step) -> Result<Option<u64>, WordsRefusal>
-    requires { HasMap (W.space words.old) 16 }
-    ensures { OnOk result (HasMap (W.space words.new) 16) }
+    requires map { HasMap (W.space words.old) 16 }
+    requires root { root_block (W.space words.old).land ≡ 16 }
+    ensures map { OnOk result (HasMap (W.space words.new) 16) }
+    ensures root { OnOk result (root_block (W.space words.new).land ≡ 16) }
 {
     match step {
         Step::Put(key, value) => {
@@ -36,8 +38,10 @@ fn follow<W: Words>(
     words: &mut W,
     steps: &[(Step, Option<u64>)],
 ) -> Result<(), WordsRefusal>
-    requires { HasMap (W.space words.old) 16 }
-    ensures { OnOk result (HasMap (W.space words.new) 16) }
+    requires map { HasMap (W.space words.old) 16 }
+    requires root { root_block (W.space words.old).land ≡ 16 }
+    ensures map { OnOk result (HasMap (W.space words.new) 16) }
+    ensures root { OnOk result (root_block (W.space words.new).land ≡ 16) }
 {
     for (step, want) in steps {
         let got = made(rt, words, *step)?;

@@ -2,7 +2,7 @@
 ghost use Rattle.std.specs.Prelude.{◌≡◌, ℕ, ◌+◌, ◌*◌, ◌<◌, ◌≤◌, length, slice_index, nat_lt, IfOk, OnOk, [], ◌∷◌, ◌++◌, IsTrue};
 ghost use Rattle.persist_model.specs.Records.{IsAmong};
 ghost use Rattle.persist_model.specs.Chain.{HasNoRepeats};
-ghost use Rattle.lane_traits.specs.Space.{Space};
+ghost use Rattle.lane_traits.specs.Space.{Space, root_block};
 ghost use Rattle.persist_tree.specs.Calls.{HoldsMap};
 
 use lane_traits::{Draft, Reads};
@@ -73,7 +73,8 @@ fn other_blocks(alloc: Global, blocks: u32) -> Result<List<u32>, NoMemory>
 /// An empty map, and so many blocks that can be taken.
 pub fn fresh(alloc: Global, spare: u32) -> Result<Draft<Memory>, NoMemory>
     requires { spare ≤ 63 }
-    ensures { IfOk result (λ draft. HoldsMap (⟦<Draft<Memory> as Reads>⟧.space draft) 16) }
+    ensures map { IfOk result (λ draft. HoldsMap (⟦<Draft<Memory> as Reads>⟧.space draft) 16) }
+    ensures root { IfOk result (λ draft. root_block (⟦<Draft<Memory> as Reads>⟧.space draft).land ≡ 16) }
 {
     let words = owned_words(alloc, spare + 1)?;
     let others = other_blocks(alloc, spare + 1)?;

@@ -1,5 +1,5 @@
 ghost use Rattle.std.specs.Prelude.{◌≡◌, ◌+◌, ◌<◌, ◌≤◌, OnOk};
-ghost use Rattle.lane_traits.specs.Space.{Space};
+ghost use Rattle.lane_traits.specs.Space.{Space, root_block};
 ghost use Rattle.persist_tree.specs.Calls.{HoldsMap};
 
 use crate::tests::memory::{Memory, fresh};
@@ -18,8 +18,10 @@ enum Step {
 }
 
 fn made(rt: &impl Abort, words: &mut Draft<Memory>, step: Step) -> Result<Option<u64>, WordsRefusal>
-    requires { HoldsMap (⟦<Draft<Memory> as Reads>⟧.space words.old) 16 }
-    ensures { OnOk result (HoldsMap (⟦<Draft<Memory> as Reads>⟧.space words.new) 16) }
+    requires map { HoldsMap (⟦<Draft<Memory> as Reads>⟧.space words.old) 16 }
+    requires root { root_block (⟦<Draft<Memory> as Reads>⟧.space words.old).land ≡ 16 }
+    ensures map { OnOk result (HoldsMap (⟦<Draft<Memory> as Reads>⟧.space words.new) 16) }
+    ensures root { OnOk result (root_block (⟦<Draft<Memory> as Reads>⟧.space words.new).land ≡ 16) }
 {
     match step {
         Step::Put(key, value) => {
@@ -37,8 +39,10 @@ fn follow(
     words: &mut Draft<Memory>,
     steps: &[(Step, Option<u64>)],
 ) -> Result<(), WordsRefusal>
-    requires { HoldsMap (⟦<Draft<Memory> as Reads>⟧.space words.old) 16 }
-    ensures { OnOk result (HoldsMap (⟦<Draft<Memory> as Reads>⟧.space words.new) 16) }
+    requires map { HoldsMap (⟦<Draft<Memory> as Reads>⟧.space words.old) 16 }
+    requires root { root_block (⟦<Draft<Memory> as Reads>⟧.space words.old).land ≡ 16 }
+    ensures map { OnOk result (HoldsMap (⟦<Draft<Memory> as Reads>⟧.space words.new) 16) }
+    ensures root { OnOk result (root_block (⟦<Draft<Memory> as Reads>⟧.space words.new).land ≡ 16) }
 {
     for (step, want) in steps {
         let got = made(rt, words, *step)?;

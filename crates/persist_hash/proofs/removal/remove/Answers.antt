@@ -1,15 +1,15 @@
-use Rattle.std.proofs.Common.{◌+◌, Some, sym, ◌∙◌, ap, subst}
-use Rattle.lane_traits.specs.Space.{Space, IsOwn, IsDataWordOf}
+use Rattle.std.proofs.Common.{◌≢◌, ◌+◌, Some, sym, ◌∙◌, ap, subst}
+use Rattle.lane_traits.specs.Space.{Space, IsOwn, IsDataWordOf, root_block}
 use Rattle.region_layout.specs.FiniteMap.{FiniteMap, without_key}
 use Rattle.persist_hash.specs.Calls.{Holds}
 use Rattle.persist_hash.proofs.Places.{has_hash, none_of, some_of, place_own}
 use Rattle.persist_hash.proofs.Entries.{without_absent}
 use Rattle.persist_hash.proofs.Adding.{others_same, others_unlinked}
-use Rattle.persist_hash.proofs.Removals.{holds_removed, link_held, gives_one, unlinked_at}
+use Rattle.persist_hash.proofs.Removals.{holds_removed, link_held, place_not_root, gives_one, unlinked_at}
 use Rattle.persist_hash.proofs.removal.remove.Goals as goal
 
 pub place_of-place-requires : goal.place_of-place-requires
-place_of-place-requires g c = has_hash (g.W.Reads.space c.args.words.now) c.args.root c.requires
+place_of-place-requires g c = has_hash (g.W.Reads.space c.args.words.now) c.args.root c.requires.map
 
 pub returns-then-place-eq0-clause-before : goal.returns-then-place-eq0-clause-before
 returns-then-place-eq0-clause-before g c = λ contents holds.
@@ -25,14 +25,21 @@ returns-then-place-eq0-clause-contents g c = λ contents holds.
 
 pub unlink-requires-clause-own : goal.unlink-requires-clause-own
 unlink-requires-clause-own g c =
-    let holds = c.requires.holds in
+    let holds = c.requires.map.holds in
     subst (λ (u : Space). IsOwn u.land c.place_of-place.result.node) (sym c.place_of-place.ensures.same)
     (place_own (g.W.Reads.space c.args.words.now) c.args.root c.args.key holds.chains _ _ _ holds.is
     (c.place_of-place.ensures.place holds.chains holds.is) c.if-place-eq0.false)
 
+pub unlink-requires-clause-not_root : goal.unlink-requires-clause-not_root
+unlink-requires-clause-not_root g c =
+    let holds = c.requires.map.holds in
+    subst (λ (u : Space). c.place_of-place.result.node ≢ root_block u.land) (sym c.place_of-place.ensures.same)
+    (λ e. place_not_root (g.W.Reads.space c.args.words.now) c.args.root c.args.key holds.chains _ _ _ holds.is
+    (c.place_of-place.ensures.place holds.chains holds.is) c.if-place-eq0.false (e ∙ sym c.requires.root))
+
 pub unlink-requires-clause-held : goal.unlink-requires-clause-held
 unlink-requires-clause-held g c =
-    let holds = c.requires.holds in
+    let holds = c.requires.map.holds in
     subst (λ (u : Space). IsDataWordOf u.land c.place_of-place.result.link) (sym c.place_of-place.ensures.same)
     (link_held (g.W.Reads.space c.args.words.now) c.args.root c.args.key holds.chains _ _ _ holds.is
     (c.place_of-place.ensures.place holds.chains holds.is) c.if-place-eq0.false)
@@ -52,7 +59,7 @@ returns-clause-contents g c = λ contents holds.
 pub returns-clause-gives : goal.returns-clause-gives
 returns-clause-gives g c =
     let place = c.place_of-place.result in
-    let holds = c.requires.holds in
+    let holds = c.requires.map.holds in
     let s = g.W.Reads.space c.args.words.now in
     gives_one s (g.W.Reads.space c.unlink.new.words) place.node place.link (s.word (place.node + 3))
     (place_own s c.args.root c.args.key holds.chains _ _ _ holds.is (c.place_of-place.ensures.place holds.chains holds.is) c.if-place-eq0.false)
@@ -65,7 +72,7 @@ returns-then-place-eq0-clause-others g c =
 pub returns-clause-others : goal.returns-clause-others
 returns-clause-others g c =
     let place = c.place_of-place.result in
-    let holds = c.requires.holds in
+    let holds = c.requires.map.holds in
     let s = g.W.Reads.space c.args.words.now in
     others_unlinked s (g.W.Reads.space c.unlink.new.words) place.node place.link (s.word (place.node + 3))
     (link_held s c.args.root c.args.key holds.chains _ _ _ holds.is (c.place_of-place.ensures.place holds.chains holds.is) c.if-place-eq0.false)
@@ -73,8 +80,8 @@ returns-clause-others g c =
 
 pub returns-then-place-eq0-clause-map : goal.returns-then-place-eq0-clause-map
 returns-then-place-eq0-clause-map g c =
-    record { contents = without_key c.args.key c.requires.contents; holds = returns-then-place-eq0-clause-contents g c c.requires.contents c.requires.holds }
+    record { contents = without_key c.args.key c.requires.map.contents; holds = returns-then-place-eq0-clause-contents g c c.requires.map.contents c.requires.map.holds }
 
 pub returns-clause-map : goal.returns-clause-map
 returns-clause-map g c =
-    record { contents = without_key c.args.key c.requires.contents; holds = returns-clause-contents g c c.requires.contents c.requires.holds }
+    record { contents = without_key c.args.key c.requires.map.contents; holds = returns-clause-contents g c c.requires.map.contents c.requires.map.holds }

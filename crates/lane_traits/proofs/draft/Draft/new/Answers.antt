@@ -10,6 +10,7 @@ pub invariant_of-result : goal.invariant_of-result
 invariant_of-result g c = record {
   own_spare = λ b among. own_at (of_structure c.args.structure (g.R.Reads.space c.args.base).land) b (c.requires.set_aside.own b among);
   own_gives = λ b among. absurd (subst (λ (xs : List ℕ). IsAmong xs b) c.new-2.ensures among);
+  not_root = λ b among. absurd (subst (λ (xs : List ℕ). IsAmong xs b) c.new-2.ensures among);
   apart = λ b among spare. subst (λ (xs : List ℕ). IsAmong xs b) c.new-2.ensures among;
   spare_once = c.requires.set_aside.once;
   gives_once = subst (λ (xs : List ℕ). HasNoRepeats xs) (sym c.new-2.ensures) tt;

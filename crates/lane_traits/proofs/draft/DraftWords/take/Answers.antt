@@ -9,6 +9,7 @@ invariant_of-self g c =
     record {
       own_spare = λ b among. self.own_spare b (popped b among);
       own_gives = self.own_gives;
+      not_root = self.not_root;
       apart = λ b given among. self.apart b given (popped b among);
       spare_once = popped_once c.pop.result self.spare c.pop.new.self c.pop.ensures.last self.spare_once;
       gives_once = self.gives_once;

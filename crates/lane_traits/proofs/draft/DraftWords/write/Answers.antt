@@ -13,6 +13,7 @@ invariant_of-self g c =
     record {
       own_spare = self.own_spare;
       own_gives = self.own_gives;
+      not_root = self.not_root;
       apart = self.apart;
       spare_once = self.spare_once;
       gives_once = self.gives_once;

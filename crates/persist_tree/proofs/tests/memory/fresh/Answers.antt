@@ -4,8 +4,8 @@ use Rattle.persist_tree.specs.Calls.{HoldsMap}
 use Rattle.persist_tree.proofs.Fresh.{memory_map}
 use Rattle.persist_tree.proofs.tests.memory.fresh.Goals as goal
 
-pub returns : goal.returns
-returns c = subst (λ (s : Space). HoldsMap s 16) (sym c.new.ensures.space) (memory_map c.in_ok-words.words.items (c.args.spare + 1) c.in_ok-others.others (record {
+pub returns-clause-map : goal.returns-clause-map
+returns-clause-map c = subst (λ (s : Space). HoldsMap s 16) (sym c.new.ensures.space) (memory_map c.in_ok-words.words.items (c.args.spare + 1) c.in_ok-others.others (record {
   some = omega arith;
   few = (let most = c.requires in omega (arith, most));
   size = c.in_ok-words.ensures.size;
