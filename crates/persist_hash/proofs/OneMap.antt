@@ -6,11 +6,11 @@ use Rattle.lane_traits.specs.Space.{Land, IsOwn}
 use Rattle.region_layout.specs.FiniteMap.{FiniteMap, lookup}
 use Rattle.region_layout.specs.HeapBlocks.{OwnsAlike, land_of, root_of}
 use Rattle.region_layout.specs.HashMap.{Chains, IsChain, IsHashMap, blocks, pairs, chain_number, directory_of, chain_word, first_link}
+use Rattle.region_layout.proofs.FiniteMaps.{same_entries}
 use Rattle.persist_hash.proofs.ChainLaws.{chain_once, chain_kept}
 use Rattle.persist_hash.proofs.Blocks.{IsPlaced, placed_of, of_placed}
 use Rattle.persist_hash.proofs.Changing.{first_kept}
 use Rattle.persist_hash.proofs.Places.{chain_below, index_below, own_chain}
-use Rattle.persist_hash.proofs.Walks.{same_entries}
 
 pub one_map : (land : Land) (w : Words) (root : ℕ) (m n : FiniteMap) → IsHashMap land w root m → IsHashMap land w root n → m ≡ n
 one_map land w root m n hm hn = same_entries m n hm.ascending hn.ascending (λ k.

@@ -14,10 +14,10 @@ use Rattle.region_layout.specs.Layout.{kind_number, IsAllowed}
 use Rattle.region_layout.specs.Fresh.{magic_of, header_word, second_word, fresh_word, fresh_words, empty_state, FreshIsEmpty}
 
 -- w has the words of a fresh region
-record AreFresh (shape : Shape) (kinds : List Kind) (w : Words) : Type 0 where
-  each : (a : ℕ) → a < words_of_shape shape → w a ≡ fresh_word shape kinds a
+pub record AreFresh (shape : Shape) (kinds : List Kind) (w : Words) : Type 0 where
+  pub each : (a : ℕ) → a < words_of_shape shape → w a ≡ fresh_word shape kinds a
 
-are_fresh : (shape : Shape) (kinds : List Kind) → AreFresh shape kinds (λ a. get_or (fresh_words shape kinds) a 0)
+pub are_fresh : (shape : Shape) (kinds : List Kind) → AreFresh shape kinds (λ a. get_or (fresh_words shape kinds) a 0)
 unfolding fresh_words
 are_fresh shape kinds = record { each = λ a within. get_or-map-range_with_len (fresh_word shape kinds) 0 (words_of_shape shape) a a 0 within (omega arith) }
 

@@ -9,3 +9,4 @@ pub mod TreeMap
 pub mod CellsMap
 pub mod HashMap
 pub mod Contents
+pub mod MapLaws

@@ -1,5 +1,5 @@
 -- The map in a structure of kind tree: a search tree whose nodes are blocks of the structure.
-use Rattle.std.specs.Prelude.{◌≡◌, ◌≢◌, ℕ, ◌+◌, ◌<◌, ◌≤◌, List, [], ◌∷◌, ◌++◌, max}
+use Rattle.std.specs.Prelude.{◌≡◌, ℕ, ◌+◌, ◌<◌, ◌≤◌, List, [], ◌∷◌, ◌++◌, max}
 use Rattle.persist_model.specs.Region.{Words}
 use Rattle.persist_model.specs.Records.{IsAmong}
 use Rattle.persist_model.specs.Chain.{HasNoRepeats}

@@ -4,6 +4,7 @@ ghost use Rattle.region_layout.specs.Apart.{WordsAreApart, PartsAreApart, SizesA
 ghost use Rattle.region_layout.specs.Fresh.{FreshIsEmpty};
 ghost use Rattle.region_layout.specs.Reading.{ShapesAreRead};
 ghost use Rattle.region_layout.specs.Cell.{CellsAreRecords};
+ghost use Rattle.region_layout.specs.MapLaws.{CellsHoldOneMap, CellsDependOnTheirBlocks, FreshHoldsEmptyMaps};
 
 use crate::layout::Layout;
 
@@ -25,6 +26,21 @@ pub fn parts_are_apart()
 /// A fresh region is sound: it has its layout's shape, empty chains, no record and all room.
 pub fn fresh_regions_are_empty()
     ensures { FreshIsEmpty }
+{}
+
+/// Each structure of a fresh region is the empty map.
+pub fn fresh_structures_are_empty_maps()
+    ensures { FreshHoldsEmptyMaps }
+{}
+
+/// The words of cells hold no two maps.
+pub fn cells_hold_one_map()
+    ensures { CellsHoldOneMap }
+{}
+
+/// Heaps in which the structure owns the same blocks, with the same words in them, hold the same map of cells.
+pub fn cells_depend_on_their_blocks()
+    ensures { CellsDependOnTheirBlocks }
 {}
 
 /// A cell that is read has the words from its address on, and is the record there.
