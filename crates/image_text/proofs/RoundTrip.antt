@@ -11,8 +11,9 @@ use Rattle.image_text.specs.declared.image.TextFault.{TextFault}
 use Rattle.image_text.specs.declared.draft.Part.TheVariants as part
 use Rattle.image_text.specs.declared.draft.Draft.{Draft}
 use Rattle.image_text.specs.Text.{hexadecimal}
-use Rattle.image_text.specs.Grammar.{◌>>=◌, guard, has_maps, padded, with_entry, with_size, with_map, with_word, with_end, after_line, blank_draft, image_of, image_from, image}
-use Rattle.image_text.specs.Written.{size_line, kind_line, kind_lines, word_line, word_lines, image_lines, WrittenReads}
+use Rattle.image_text.specs.Grammar.{◌>>=◌}
+use Rattle.image_text.specs.Reading.{guard, has_maps, padded, with_entry, with_size, with_map, with_word, with_end, after_line, blank_draft, image_of, image_from, image}
+use Rattle.image_text.specs.Written.{size_line, kind_line, kind_lines, word_line, word_lines, image_lines, image_text, IsWritable}
 use Rattle.image_text.proofs.Digits.{decimal_digits, hexadecimal_digits}
 use Rattle.image_text.proofs.Feeds.{AllLack, AllLack-append, lacks-append, digits_lack, lines-text_of}
 use Rattle.image_text.proofs.Entries.{entry_of-size, entry_of-kind, entry_of-end, entry_of-word}
@@ -161,9 +162,9 @@ words_read n a draft (v ∷ words) maps behind ends small fit =
 
 -- ---- the whole
 
-pub written_reads : WrittenReads
+pub written_read : (kinds : List Kind) (words : List ℕ) → IsWritable kinds words → image (image_text kinds words) ≡ Ok (record { kinds = kinds; words = words })
 unfolding image image_lines
-written_reads kinds words h =
+written_read kinds words h =
     let size = length words in
     let few : size ≤ MAX_WORDS = h.small in
     let ls = image_lines kinds words in

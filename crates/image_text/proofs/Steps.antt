@@ -5,7 +5,7 @@ use Rattle.image_text.specs.declared.image.TextFault.{TextFault}
 use Rattle.image_text.specs.declared.refusal.Refusal.{Refusal}
 use Rattle.image_text.specs.declared.refusal.Refusal.TheVariants as refusal
 use Rattle.image_text.specs.declared.draft.Draft.{Draft}
-use Rattle.image_text.specs.Grammar.{after_line, image_from, at_line, fault_at, Fails, Reads}
+use Rattle.image_text.specs.Reading.{after_line, image_from, at_line, fault_at, Fails, Reads}
 
 -- a right line
 pub goes_on : (n : ℕ) (draft next : Draft) (line : List ℕ) (rest : List (List ℕ)) → after_line draft line ≡ Some next

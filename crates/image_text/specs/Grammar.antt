@@ -1,30 +1,18 @@
--- The grammar of image texts: what each line says, and what the lines say together.
-use Rattle.std.specs.Prelude.{◌≡◌, ℕ, ◌+◌, ◌-◌, List, [], ◌∷◌, ◌++◌, length, Bool, true, false, ◌&&◌, ◌||◌, nat_lt, nat_le, Option, Some, None, Result, Ok, Err, if◌then◌else◌, codes, replicate}
+-- The grammar of image texts: what each line says, which lines make a text, and which line is the first that breaks it.
+use Rattle.std.specs.Prelude.{◌≡◌, ◌⊎◌, ℕ, ◌+◌, ◌<◌, ◌≤◌, List, [], ◌∷◌, ◌++◌, length, ◌==◌, Option, Some, None, if◌then◌else◌, codes, map, slice_index}
 use Rattle.std.specs.List.{before_first, after_first}
 use Rattle.std.specs.Str.{bytes_eq}
 use Rattle.persist_model.specs.declared.format.TheConstants.{MAX_WORDS}
 use Rattle.region_layout.specs.declared.layout.Kind.{Kind}
 use Rattle.region_layout.specs.declared.layout.Kind.TheVariants.{Cells, Tree, Hash}
-use Rattle.image_text.specs.declared.image.Image.{Image}
-use Rattle.image_text.specs.declared.image.TextFault.{TextFault}
-use Rattle.image_text.specs.declared.image.TextFault.TheVariants.{Line, NoMemory}
 use Rattle.image_text.specs.declared.entry.Entry.{Entry}
 use Rattle.image_text.specs.declared.entry.Entry.TheVariants.{Size, Map, Word, End}
-use Rattle.image_text.specs.declared.draft.Part.{Part}
-use Rattle.image_text.specs.declared.draft.Part.TheVariants as part
-use Rattle.image_text.specs.declared.draft.Draft.{Draft}
-use Rattle.image_text.specs.declared.refusal.Refusal.{Refusal}
-use Rattle.image_text.specs.declared.refusal.Refusal.TheVariants as refusal
 use Rattle.image_text.specs.Text.{is_space, lines, number_of, value_of}
 
 infixl 10 ◌>>=◌
 abbrev pub ◌>>=◌ : {A B : Type 0} → Option A → (A → Option B) → Option B
 None >>= f = None
 (Some x) >>= f = f x
-
-abbrev pub guard : Bool → Option (Unit {0})
-guard true = Some tt
-guard false = None
 
 -- the first, or where it is none the second
 abbrev pub otherwise : {A : Type 0} → Option A → Option A → Option A
@@ -64,105 +52,78 @@ entry_of line =
 
 -- ---- the lines together
 
-abbrev pub is_start : Part → Bool
-is_start part.Start = true
-is_start _ = false
+-- a word that a line names
+pub record NamedWord : Type 0 where
+  pub address : ℕ
+  pub value : ℕ
 
-abbrev pub is_maps : Part → Bool
-is_maps part.Maps = true
-is_maps _ = false
+abbrev pub entry_of_word : NamedWord → Entry
+entry_of_word word = Word word.address word.value
 
-abbrev pub is_words : Part → Bool
-is_words part.Words = true
-is_words _ = false
+-- The number of words, the maps, the words that lines name, and the end.
+abbrev pub entries : ℕ → List Kind → List NamedWord → List Entry
+entries size kinds named = Size size ∷ (map Map kinds ++ (map entry_of_word named ++ End ∷ []))
 
-abbrev pub is_done : Part → Bool
-is_done part.Done = true
-is_done _ = false
+-- The addresses rise, from this one on and below the number of words.
+abbrev pub Rise : ℕ → ℕ → List NamedWord → Type 0
+Rise least size [] = Unit {0}
+Rise least size (word ∷ named) = (least ≤ word.address) × (word.address < size) × Rise (word.address + 1) size named
 
--- the words, with zeros behind them up to this address
-abbrev pub padded : ℕ → List ℕ → List ℕ
-padded size words = words ++ replicate (size - length words) 0
+-- the value that a line names for this address, and 0 where none does
+abbrev pub value_at : ℕ → List NamedWord → ℕ
+value_at a [] = 0
+value_at a (word ∷ named) = if word.address == a then word.value else value_at a named
 
--- a word or the end may follow
-abbrev pub has_maps : Draft → Bool
-has_maps draft = (is_maps draft.part && nat_lt 0 (length draft.kinds)) || is_words draft.part
+-- These lines say one to eight maps and these words: each line its part, in order, and nothing else.
+pub record AreLinesOf (ls : List (List ℕ)) (kinds : List Kind) (words : List ℕ) : Type 0 where
+  pub named : List NamedWord
+  pub say : map entry_of ls ≡ map Some (entries (length words) kinds named)
+  pub small : length words ≤ MAX_WORDS
+  pub some : 1 ≤ length kinds
+  pub few : length kinds ≤ 8
+  pub rise : Rise 0 (length words) named
+  pub values : (a : ℕ) → slice_index words a ≡ value_at a named
 
--- The first line says the number of words.
-unfoldable pub with_size : Draft → ℕ → Option Draft
-with_size draft size = do
-  _ ← guard (is_start draft.part && nat_le size MAX_WORDS)
-  Some (record draft { part = part.Maps; size = size })
+-- The text of an image of these kinds and words.
+abbrev pub IsImageText : List ℕ → List Kind → List ℕ → Type 0
+IsImageText text kinds words = AreLinesOf (lines text) kinds words
 
--- Then come up to eight maps.
-unfoldable pub with_map : Draft → Kind → Option Draft
-with_map draft kind = do
-  _ ← guard (is_maps draft.part && nat_lt (length draft.kinds) 8)
-  Some (record draft { kinds = draft.kinds ++ kind ∷ [] })
+-- ---- the first wrong line
 
-abbrev pub is_next_word : Draft → ℕ → Bool
-is_next_word draft address = has_maps draft && (nat_le (length draft.words) address && nat_lt address draft.size)
+-- the lines of some image
+abbrev pub AreWhole : List (List ℕ) → Type 0
+AreWhole ls = (kinds : List Kind) × (words : List ℕ) × AreLinesOf ls kinds words
 
--- Then words, each at a higher address than the one before. Those between them are 0.
-unfoldable pub with_word : Draft → ℕ → ℕ → Option Draft
-with_word draft address value = do
-  _ ← guard (is_next_word draft address)
-  Some (record draft { part = part.Words; words = padded address draft.words ++ value ∷ [] })
+-- With some lines behind them they are the lines of an image.
+abbrev pub AreBeginning : List (List ℕ) → Type 0
+AreBeginning ls = (rest : List (List ℕ)) × AreWhole (ls ++ rest)
 
--- And then the end.
-unfoldable pub with_end : Draft → Option Draft
-with_end draft = do
-  _ ← guard (has_maps draft)
-  Some (record draft { part = part.Done })
+-- Line n, from 1, is the first that breaks the grammar: the lines before it begin an image text, and with it they don't. Or the
+-- lines end too early, and n is the number of the line that is missing.
+pub data AreBrokenAt (ls : List (List ℕ)) (n : ℕ) : Type 0 where
+  wrong : (before rest : List (List ℕ)) (line : List ℕ) → ls ≡ before ++ line ∷ rest → n ≡ length before + 1
+      → AreBeginning before → (AreBeginning (before ++ line ∷ []) → ⊥) → AreBrokenAt ls n
+  cut : n ≡ length ls + 1 → AreBeginning ls → (AreWhole ls → ⊥) → AreBrokenAt ls n
 
-abbrev pub with_entry : Draft → Entry → Option Draft
-with_entry draft (Size size) = with_size draft size
-with_entry draft (Map kind) = with_map draft kind
-with_entry draft (Word address value) = with_word draft address value
-with_entry draft End = with_end draft
+-- The text is no image text, and this line is the first that breaks the grammar.
+abbrev pub BreaksAt : List ℕ → ℕ → Type 0
+BreaksAt text n = AreBrokenAt (lines text) n
 
--- what has been read, with one more line
-unfoldable pub after_line : Draft → List ℕ → Option Draft
-after_line draft line = entry_of line >>= with_entry draft
+-- ---- what holds of all texts
 
--- nothing has been read
-abbrev pub blank_draft : Draft
-blank_draft = record { part = part.Start; size = 0; kinds = []; words = [] }
+-- Each text is that of an image or breaks at a line.
+abbrev pub HasMeaning : Type 0
+HasMeaning = (text : List ℕ) → ((kinds : List Kind) × (words : List ℕ) × IsImageText text kinds words) ⊎ ((n : ℕ) × BreaksAt text n)
 
--- the image of what has been read; a text that hasn't ended is wrong in its next line, which has this number
-unfoldable pub image_of : ℕ → Draft → Result Image TextFault
-image_of number draft = if is_done draft.part then Ok (record { kinds = draft.kinds; words = padded draft.size draft.words }) else Err (Line number)
+-- It is that of one image at most,
+abbrev pub SaysOneImage : Type 0
+SaysOneImage = (text : List ℕ) (kinds others : List Kind) (words other_words : List ℕ) → IsImageText text kinds words → IsImageText text others other_words
+    → (kinds ≡ others) × (words ≡ other_words)
 
-abbrev pub at_line : ℕ → Option Draft → (Draft → Result Image TextFault) → Result Image TextFault
-at_line number None next = Err (Line number)
-at_line number (Some draft) next = next draft
+-- breaks at one line at most,
+abbrev pub BreaksAtOneLine : Type 0
+BreaksAtOneLine = (text : List ℕ) (m n : ℕ) → BreaksAt text m → BreaksAt text n → m ≡ n
 
--- the image of what has been read and of the lines that follow, the first of which has this number
-unfoldable pub image_from : ℕ → Draft → List (List ℕ) → Result Image TextFault
-image_from number draft [] = image_of number draft
-image_from number draft (line ∷ rest) = at_line number (after_line draft line) (λ next. image_from (number + 1) next rest)
-
--- What a text means: an image, or the first line that breaks the grammar.
-unfoldable pub image : List ℕ → Result Image TextFault
-image text = image_from 1 blank_draft (lines text)
-
--- ---- what the reader answers
-
--- What a step answered is what the grammar says, unless memory ran out.
-abbrev pub Fails : Refusal → Option Draft → Type 0
-Fails refusal.Line step = step ≡ None
-Fails refusal.Memory step = Unit {0}
-
-abbrev pub Moves : Result (Unit {0}) Refusal → Draft → Option Draft → Type 0
-Moves (Ok x) draft step = step ≡ Some draft
-Moves (Err e) draft step = Fails e step
-
-abbrev pub fault_at : ℕ → Refusal → TextFault
-fault_at number refusal.Line = Line number
-fault_at number refusal.Memory = NoMemory
-
--- What the reader answered is what the text means, unless memory ran out.
-abbrev pub Reads : Result Image TextFault → Result Image TextFault → Type 0
-Reads (Err NoMemory) meaning = Unit {0}
-Reads (Err (Line line)) meaning = meaning ≡ Err (Line line)
-Reads (Ok found) meaning = meaning ≡ Ok found
+-- and isn't both.
+abbrev pub BreaksNowhere : Type 0
+BreaksNowhere = (text : List ℕ) (kinds : List Kind) (words : List ℕ) (n : ℕ) → IsImageText text kinds words → BreaksAt text n → ⊥

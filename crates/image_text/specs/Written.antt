@@ -1,11 +1,10 @@
 -- The text of an image.
-use Rattle.std.specs.Prelude.{◌≡◌, ℕ, ◌+◌, ◌<◌, ◌≤◌, ◌^◌, List, [], ◌∷◌, ◌++◌, length, ◌==◌, Ok, if◌then◌else◌, codes, decimal, map, slice_index}
+use Rattle.std.specs.Prelude.{ℕ, ◌+◌, ◌<◌, ◌≤◌, ◌^◌, List, [], ◌∷◌, ◌++◌, length, ◌==◌, if◌then◌else◌, codes, decimal, map, slice_index}
 use Rattle.persist_model.specs.declared.format.TheConstants.{MAX_WORDS}
 use Rattle.region_layout.specs.declared.layout.Kind.{Kind}
 use Rattle.region_layout.specs.declared.layout.Kind.TheVariants.{Cells, Tree, Hash}
-use Rattle.image_text.specs.declared.image.Image.{Image}
 use Rattle.image_text.specs.Text.{text_of, hexadecimal}
-use Rattle.image_text.specs.Grammar.{image}
+use Rattle.image_text.specs.Grammar.{IsImageText}
 
 -- image W
 unfoldable pub size_line : ℕ → List ℕ
@@ -43,11 +42,10 @@ pub record IsWritable (kinds : List Kind) (words : List ℕ) : Type 0 where
   pub small : length words ≤ MAX_WORDS
   pub fit : (a : ℕ) → a < length words → slice_index words a < 2 ^ 64
 
--- What was written reads as what it was written of.
+-- What is written of an image is its text.
 abbrev pub WrittenReads : Type 0
-WrittenReads = (kinds : List Kind) (words : List ℕ) → IsWritable kinds words
-    → image (image_text kinds words) ≡ Ok (record { kinds = kinds; words = words })
+WrittenReads = (kinds : List Kind) (words : List ℕ) → IsWritable kinds words → IsImageText (image_text kinds words) kinds words
 
 -- What a text says can be written.
 abbrev pub ReadIsWritable : Type 0
-ReadIsWritable = (text : List ℕ) (found : Image) → image text ≡ Ok found → IsWritable found.kinds found.words
+ReadIsWritable = (text : List ℕ) (kinds : List Kind) (words : List ℕ) → IsImageText text kinds words → IsWritable kinds words

@@ -1,7 +1,7 @@
 //! What has been read of a text.
 ghost use Rattle.std.specs.Prelude.{◌≡◌, OnOk, IfErr};
 ghost use Rattle.image_text.specs.declared.refusal.Refusal.TheVariants.{Memory};
-ghost use Rattle.image_text.specs.Grammar.{has_maps as has_maps_in, with_size as with_size_in, with_map as with_map_in, with_word as with_word_in, with_end as with_end_in, with_entry, is_next_word, after_line, blank_draft, image_of, padded, Moves, Reads};
+ghost use Rattle.image_text.specs.Reading.{has_maps as has_maps_in, with_size as with_size_in, with_map as with_map_in, with_word as with_word_in, with_end as with_end_in, with_entry, is_next_word, after_line, blank_draft, image_of, padded, Moves, Reads};
 
 use crate::entry::{Entry, entry_of};
 use crate::image::{Image, TextFault};
@@ -44,7 +44,7 @@ impl Draft {
     }
 
     /// Reads the next line.
-    #[tactic(auto, unfolding(crate::specs::Grammar::after_line))]
+    #[tactic(auto, unfolding(crate::specs::Reading::after_line))]
     pub fn read(&mut self, line: &[u8]) -> Result<(), Refusal>
         ensures { Moves result self.new (after_line self.old line.now) }
     {
@@ -55,7 +55,7 @@ impl Draft {
     }
 
     /// The image, where the line before the one with this number is the end.
-    #[tactic(auto, unfolding(crate::specs::Grammar::image_of))]
+    #[tactic(auto, unfolding(crate::specs::Reading::image_of))]
     pub fn finish(mut self, number: u64) -> Result<Image, TextFault>
         ensures { Reads result (image_of number self) }
     {
@@ -82,7 +82,7 @@ impl Draft {
         }
     }
 
-    #[tactic(auto, unfolding(crate::specs::Grammar::with_size))]
+    #[tactic(auto, unfolding(crate::specs::Reading::with_size))]
     fn take_size(&mut self, size: u64) -> Result<(), Refusal>
         ensures { Moves result self.new (with_size_in self.old size) }
     {
@@ -94,7 +94,7 @@ impl Draft {
         Ok(())
     }
 
-    #[tactic(auto, unfolding(crate::specs::Grammar::with_map))]
+    #[tactic(auto, unfolding(crate::specs::Reading::with_map))]
     fn take_map(&mut self, kind: Kind) -> Result<(), Refusal>
         ensures { Moves result self.new (with_map_in self.old kind) }
     {
@@ -105,7 +105,7 @@ impl Draft {
         Ok(())
     }
 
-    #[tactic(auto, unfolding(crate::specs::Grammar::with_word))]
+    #[tactic(auto, unfolding(crate::specs::Reading::with_word))]
     fn take_word(&mut self, address: u64, value: u64) -> Result<(), Refusal>
         ensures { Moves result self.new (with_word_in self.old address value) }
     {
@@ -118,7 +118,7 @@ impl Draft {
         Ok(())
     }
 
-    #[tactic(auto, unfolding(crate::specs::Grammar::with_end))]
+    #[tactic(auto, unfolding(crate::specs::Reading::with_end))]
     fn take_end(&mut self) -> Result<(), Refusal>
         ensures { Moves result self.new (with_end_in self.old) }
     {

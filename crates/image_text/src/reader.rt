@@ -1,6 +1,8 @@
 //! Reading an image text.
-ghost use Rattle.std.specs.Prelude.{IfOk};
-ghost use Rattle.image_text.specs.Grammar.{image as image_of_text, Reads};
+ghost use Rattle.std.specs.Prelude.{◌≡◌, ℕ, Err, IfOk};
+ghost use Rattle.image_text.specs.declared.image.TextFault.{TextFault};
+ghost use Rattle.image_text.specs.Grammar.{IsImageText, BreaksAt};
+ghost use Rattle.image_text.specs.Reading.{image as image_of_text, Reads};
 ghost use Rattle.image_text.specs.Written.{IsWritable};
 
 use crate::draft::Draft;
@@ -9,9 +11,19 @@ use crate::lines::next_line;
 use std::alloc::Global;
 
 /// The image that a text says, or the first line that breaks the grammar.
+///
+/// Each text is that of exactly one image, or breaks at exactly one line: so this answers as the text wants, or with want of memory.
 pub fn read_image(alloc: Global, text: &[u8]) -> Result<Image, TextFault>
-    ensures reads { Reads result (image_of_text text.now) }
+    ensures reads { IfOk result (λ found. IsImageText text.now found.kinds found.words) }
+    ensures breaks { (line : ℕ) → result ≡ Err (TextFault.Line line) → BreaksAt text.now line }
     ensures writable { IfOk result (λ found. IsWritable found.kinds found.words) }
+{
+    read_lines(alloc, text)
+}
+
+/// Reads line by line.
+fn read_lines(alloc: Global, text: &[u8]) -> Result<Image, TextFault>
+    ensures { Reads result (image_of_text text.now) }
 {
     let mut draft = Draft::new(alloc);
     let mut number: u64 = 1;

@@ -1,6 +1,6 @@
 ghost use Rattle.std.specs.Prelude.{◌≡◌};
 ghost use Rattle.image_text.specs.declared.refusal.Refusal.TheVariants.{Memory};
-ghost use Rattle.image_text.specs.Grammar.{fault_at};
+ghost use Rattle.image_text.specs.Reading.{fault_at};
 
 use crate::image::TextFault;
 use persist_model::NoMemory;

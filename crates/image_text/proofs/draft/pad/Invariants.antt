@@ -1,5 +1,5 @@
 use Rattle.std.proofs.Common.{◌≡◌, ◌-◌, length}
-use Rattle.image_text.specs.Grammar.{padded}
+use Rattle.image_text.specs.Reading.{padded}
 use Rattle.image_text.proofs.draft.pad.Given as goal
 
 -- The zeros that are left complete the words.

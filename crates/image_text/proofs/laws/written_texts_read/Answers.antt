@@ -1,4 +1,4 @@
-use Rattle.image_text.proofs.RoundTrip.{written_reads}
+use Rattle.image_text.proofs.Meanings.{written_reads}
 use Rattle.image_text.proofs.laws.written_texts_read.Goals as goal
 
 pub returns : goal.returns

@@ -1,7 +1,7 @@
 use Rattle.std.proofs.Common.{◌≡◌, ◌+◌, ◌≤◌, length}
 use Rattle.image_text.specs.Text.{lines}
-use Rattle.image_text.specs.Grammar.{image, image_from}
-use Rattle.image_text.proofs.reader.read_image.Given as goal
+use Rattle.image_text.specs.Reading.{image, image_from}
+use Rattle.image_text.proofs.reader.read_lines.Given as goal
 
 -- What is left of the text completes the image.
 abbrev pub invariant-loop-line : goal.invariant-loop-line
