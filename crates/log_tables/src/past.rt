@@ -3,6 +3,7 @@ ghost use Rattle.std.specs.Prelude.{◌≡◌, ◌↔◌, ◌==◌, ◌&&◌, �
 ghost use Rattle.std.specs.List.{list_any};
 ghost use Rattle.std.specs.BTreeMap.{get};
 ghost use Rattle.std.specs.Ordering.{nat_cmp};
+ghost use Rattle.persist_model.specs.Kinds.{COMPENSATION, UPDATE};
 ghost use Rattle.persist_model.specs.Records.{Record, Log, Has, HasNo};
 ghost use Rattle.persist_model.specs.Order.{last_new as last_new_of};
 ghost use Rattle.persist_model.specs.Shape.{part_of as part_of_shape};
@@ -16,7 +17,7 @@ use crate::seen::Seen;
 use crate::summaries::{Summaries, Summary};
 use bucket_log::Placed;
 use persist_model::NoMemory;
-use persist_model::format::{COMPENSATION, UPDATE};
+use persist_model::RecordKind;
 use region_layout::Layout;
 use std::alloc::{AllocError, Global};
 use std::collections::BTreeMap;
@@ -39,9 +40,9 @@ fn add_number(numbers: &mut Numbers, s: &Placed) -> Result<(), AllocError>
 
 // Whether a record changes a word.
 fn is_change(s: &Placed) -> bool
-    ensures { result ≡ ((s.now.cell.kind == 1) || (s.now.cell.kind == 2)) }
+    ensures { result ≡ ((s.now.cell.kind == UPDATE) || (s.now.cell.kind == COMPENSATION)) }
 {
-    s.cell.kind == UPDATE || s.cell.kind == COMPENSATION
+    s.cell.is(RecordKind::Update) || s.cell.is(RecordKind::Compensation)
 }
 
 // Takes a record, which may be a change.

@@ -2,6 +2,7 @@
 ghost use Rattle.std.specs.Prelude.{◌≡◌, ◌==◌, ◌&&◌, ◌||◌, ◌+◌, ◌<◌, ◌≤◌, ◌^◌, ◌∷◌, [], ℕ, not, nat_lt, is_some, length, OnOk};
 ghost use Rattle.std.specs.BTreeMap.{get};
 ghost use Rattle.std.specs.Ordering.{nat_cmp};
+ghost use Rattle.persist_model.specs.Kinds.{CHECKPOINT, COMMITTED, END, ROLLBACK};
 ghost use Rattle.persist_model.specs.Records.{Log};
 ghost use Rattle.persist_model.specs.Order.{undo_point as undo_point_of};
 ghost use Rattle.persist_model.specs.Need.{to_undo};
@@ -13,8 +14,7 @@ ghost use Rattle.log_tables.specs.Seen.{has_other};
 
 use crate::seen::Seen;
 use bucket_log::{Placed, part_of};
-use persist_model::NoMemory;
-use persist_model::format::{CHECKPOINT, COMMITTED, COMPENSATION, END, ROLLBACK, UPDATE};
+use persist_model::{NoMemory, Outcome, RecordKind};
 use region_layout::Layout;
 use std::alloc::{AllocError, Global};
 use std::collections::BTreeMap;
@@ -55,30 +55,30 @@ fn nothing() -> Summary
 
 // Whether there is a record behind this one.
 fn record_behind(s: &Placed, has_record: bool) -> bool
-    ensures { result ≡ (not (s.now.cell.kind == 5) || has_record) }
+    ensures { result ≡ (not (s.now.cell.kind == CHECKPOINT) || has_record) }
 {
-    s.cell.kind != CHECKPOINT || has_record
+    !s.cell.is(RecordKind::Checkpoint) || has_record
 }
 
 // Whether there is a rollback record behind this record.
 fn rollback_behind(s: &Placed, has_rollback: bool) -> bool
-    ensures { result ≡ ((s.now.cell.kind == 3) || has_rollback) }
+    ensures { result ≡ ((s.now.cell.kind == ROLLBACK) || has_rollback) }
 {
-    s.cell.kind == ROLLBACK || has_rollback
+    s.cell.is(RecordKind::Rollback) || has_rollback
 }
 
 // Whether there is an end that commits, behind a record.
 fn commit_behind(s: &Placed, has_commit: bool) -> bool
-    ensures { result ≡ (((s.now.cell.kind == 4) && (s.now.cell.outcome == 1)) || has_commit) }
+    ensures { result ≡ (((s.now.cell.kind == END) && (s.now.cell.outcome == COMMITTED)) || has_commit) }
 {
-    (s.cell.kind == END && s.cell.outcome == COMMITTED) || has_commit
+    (s.cell.is(RecordKind::End) && s.cell.has_outcome(Outcome::Committed)) || has_commit
 }
 
 // The partitions behind a record.
 fn parts_behind(layout: Layout, s: &Placed, parts: Seen) -> Seen
-    ensures { (p : ℕ) → has_other result p ≡ ((not (s.now.cell.kind == 5) && not (part_of_shape (layout_shape layout) s.now.at == p)) || has_other parts p) }
+    ensures { (p : ℕ) → has_other result p ≡ ((not (s.now.cell.kind == CHECKPOINT) && not (part_of_shape (layout_shape layout) s.now.at == p)) || has_other parts p) }
 {
-    if s.cell.kind == CHECKPOINT {
+    if s.cell.is(RecordKind::Checkpoint) {
         return parts;
     }
     parts.with(u64::from(part_of(layout, s.at)))
@@ -88,10 +88,16 @@ fn parts_behind(layout: Layout, s: &Placed, parts: Seen) -> Seen
 fn point_behind(s: &Placed, point: u64) -> u64
     ensures { (log : Log) → point ≡ undo_point_of s.now.cell.transaction log → result ≡ undo_point_of s.now.cell.transaction (record_of_placed s.now ∷ log) }
 {
-    match s.cell.kind {
-        UPDATE => s.cell.lsn,
-        COMPENSATION => s.cell.undo_next,
-        _ => point,
+    match s.cell.record_kind() {
+        Some(RecordKind::Update) => s.cell.lsn,
+        Some(RecordKind::Compensation) => s.cell.undo_next,
+        Some(
+            RecordKind::Rollback
+            | RecordKind::End
+            | RecordKind::Checkpoint
+            | RecordKind::Deletion,
+        )
+        | None => point,
     }
 }
 
@@ -101,19 +107,25 @@ fn count_behind(s: &Placed, count: u64) -> u64
     ensures count { (log : Log) → count ≡ length (to_undo s.now.cell.transaction log) → result ≡ length (to_undo s.now.cell.transaction (record_of_placed s.now ∷ log)) }
     ensures bound { result ≤ count + 1 }
 {
-    match s.cell.kind {
-        UPDATE => count + 1,
-        COMPENSATION => count.saturating_sub(1),
-        _ => count,
+    match s.cell.record_kind() {
+        Some(RecordKind::Update) => count + 1,
+        Some(RecordKind::Compensation) => count.saturating_sub(1),
+        Some(
+            RecordKind::Rollback
+            | RecordKind::End
+            | RecordKind::Checkpoint
+            | RecordKind::Deletion,
+        )
+        | None => count,
     }
 }
 
 // The least number of an end behind a record.
 fn end_behind(s: &Placed, first: Option<u64>) -> Option<u64>
-    ensures some { is_some result ≡ ((s.now.cell.kind == 4) || is_some first) }
-    ensures below { (n : ℕ) → is_end_below result n ≡ (((s.now.cell.kind == 4) && nat_lt s.now.cell.lsn n) || is_end_below first n) }
+    ensures some { is_some result ≡ ((s.now.cell.kind == END) || is_some first) }
+    ensures below { (n : ℕ) → is_end_below result n ≡ (((s.now.cell.kind == END) && nat_lt s.now.cell.lsn n) || is_end_below first n) }
 {
-    if s.cell.kind != END {
+    if !s.cell.is(RecordKind::End) {
         return first;
     }
     match first {

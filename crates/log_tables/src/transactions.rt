@@ -1,5 +1,6 @@
 //! The transactions of a log.
 ghost use Rattle.std.specs.Prelude.{◌≡◌, ◌==◌, ◌&&◌, ◌+◌, ◌<◌, ◌^◌, ◌∷◌, ◌++◌, [], ℕ, not, if◌then◌else◌, length, IfOk, OnOk};
+ghost use Rattle.persist_model.specs.Kinds.{CHECKPOINT};
 ghost use Rattle.persist_model.specs.Records.{Log};
 ghost use Rattle.persist_model.specs.Shape.{part_of as part_of_shape};
 ghost use Rattle.bucket_log.specs.Scans.{record_of_placed};
@@ -10,7 +11,7 @@ ghost use Rattle.log_tables.specs.Homes.{AreTransactions};
 use crate::summaries::Summaries;
 use bucket_log::{Placed, part_of};
 use persist_model::NoMemory;
-use persist_model::format::CHECKPOINT;
+use persist_model::RecordKind;
 use region_layout::Layout;
 use std::alloc::{AllocError, Global};
 
@@ -30,9 +31,9 @@ pub struct Transactions {
 
 // Whether a record is its transaction's first, where one has come before or not.
 fn is_first(s: &Placed, has_record: bool) -> bool
-    ensures { result ≡ (not (s.now.cell.kind == 5) && not has_record) }
+    ensures { result ≡ (not (s.now.cell.kind == CHECKPOINT) && not has_record) }
 {
-    s.cell.kind != CHECKPOINT && !has_record
+    !s.cell.is(RecordKind::Checkpoint) && !has_record
 }
 
 // Puts the transaction of this record behind the others, where the record is its first.

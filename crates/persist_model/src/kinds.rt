@@ -1,5 +1,5 @@
 //! The kinds of records and the outcomes of ends. A cell holds each as a number, and each number has one reading.
-ghost use Rattle.std.specs.Prelude.{◌≡◌};
+ghost use Rattle.std.specs.Prelude.{◌≡◌, ◌≢◌, ◌↔◌};
 ghost use Rattle.persist_model.specs.Kinds.{kind_number, kind_of, outcome_number, outcome_of};
 
 use crate::format::{
@@ -26,7 +26,9 @@ pub enum RecordKind {
 impl RecordKind {
     /// The kind that a cell's number names, or None of a number that no kind has.
     pub fn read(number: u64) -> Option<RecordKind>
-        ensures { result ≡ kind_of number }
+        ensures is { result ≡ kind_of number }
+        ensures some { (kind : RecordKind) → (result ≡ Some kind) ↔ (number ≡ kind_number kind) }
+        ensures none { result ≡ None → (kind : RecordKind) → number ≢ kind_number kind }
     {
         match number {
             UPDATE => Some(RecordKind::Update),

@@ -1,8 +1,9 @@
 //! The cells of records.
-ghost use Rattle.std.specs.Prelude.{◌≡◌, ◌+◌, ◌<◌, length, slice_index};
+ghost use Rattle.std.specs.Prelude.{◌≡◌, ◌≢◌, ◌↔◌, ◌==◌, ◌+◌, ◌<◌, length, slice_index};
+ghost use Rattle.persist_model.specs.Kinds.{kind_number, kind_of, outcome_number};
 ghost use Rattle.region_layout.specs.Cell.{cell_at, word_of_cell};
 
-use persist_model::Look;
+use persist_model::{Look, Outcome, RecordKind};
 
 /// The words of a record, in order. A gate of 0 is a closed cell, another is the record's number.
 #[derive(Clone, Copy, Debug, PartialEq, Eq)]
@@ -15,6 +16,31 @@ pub struct Cell {
     pub after: u64,
     pub undo_next: u64,
     pub outcome: u64,
+}
+
+impl Cell {
+    /// The kind of its record, or None where its number is no kind's.
+    pub fn record_kind(&self) -> Option<RecordKind>
+        ensures is { result ≡ kind_of self.now.kind }
+        ensures some { (kind : RecordKind) → (result ≡ Some kind) ↔ (self.now.kind ≡ kind_number kind) }
+        ensures none { result ≡ None → (kind : RecordKind) → self.now.kind ≢ kind_number kind }
+    {
+        RecordKind::read(self.kind)
+    }
+
+    /// Whether its record is of this kind.
+    pub fn is(&self, kind: RecordKind) -> bool
+        ensures { result ≡ (self.now.kind == kind_number kind) }
+    {
+        self.kind == kind.number()
+    }
+
+    /// Whether its record has this outcome.
+    pub fn has_outcome(&self, outcome: Outcome) -> bool
+        ensures { result ≡ (self.now.outcome == outcome_number outcome) }
+    {
+        self.outcome == outcome.number()
+    }
 }
 
 /// The cell whose gate stands at this address.
