@@ -1,5 +1,6 @@
 -- The rules of a log, said of each state that an image is.
 use Rattle.std.specs.Prelude.{◌≡◌, ℕ, ◌+◌, ◌<◌}
+use Rattle.persist_model.specs.ImageRules.{ROOM_RULE}
 use Rattle.persist_model.specs.Region.{Words}
 use Rattle.persist_model.specs.Records.{Log}
 use Rattle.persist_model.specs.Shape.{Shape, list_words}
@@ -14,7 +15,7 @@ HasAllRoom shape w log = (s : State) → HasState shape w s → (p : ℕ) → p 
 -- the first partition that hasn't
 abbrev pub LacksRoom : Shape → Words → Log → FaultSet
 LacksRoom shape w log fault a =
-    (s : State) → HasState shape w s → TriedEach (λ p. HasRoom shape log p (s.room p)) 9 (λ p. list_words p + 1) (parts shape) NoFault fault a
+    (s : State) → HasState shape w s → TriedEach (λ p. HasRoom shape log p (s.room p)) ROOM_RULE (λ p. list_words p + 1) (parts shape) NoFault fault a
 
 -- where the image has this log its state is sound
 abbrev pub HoldsLog : Shape → Words → Log → Type 0

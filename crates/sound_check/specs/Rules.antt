@@ -1,5 +1,6 @@
 -- The rules of a partition's list, each as what holds of its words and as the fault that there is.
 use Rattle.std.specs.Prelude.{◌≡◌, ◌≢◌, ◌⊎◌, ℕ, ◌+◌, ◌<◌, ◌≤◌, ◌^◌, List}
+use Rattle.persist_model.specs.ImageRules.{ADDRESS_RULE, LIST_RULE}
 use Rattle.persist_model.specs.Region.{Words}
 use Rattle.persist_model.specs.Shape.{Shape, heap, list_words, IsBucketOf}
 use Rattle.persist_model.specs.Chain.{TAIL, TO_APPEND, TO_REMOVE, view, out_address, Each, AreBuckets, IsLink, last_or, IsExcepted, LinksBackBut}
@@ -14,7 +15,7 @@ AreLinks shape p w ats = Each (λ a. IsLink (IsBucketOf shape p) (w a)) ats
 
 -- the first of them that doesn't
 abbrev pub IsWrongLink : Shape → ℕ → Words → List ℕ → FaultSet
-IsWrongLink shape p w ats = TriedEach (λ a. IsLink (IsBucketOf shape p) (w a)) 5 (out_address p) ats NoFault
+IsWrongLink shape p w ats = TriedEach (λ a. IsLink (IsBucketOf shape p) (w a)) ADDRESS_RULE (out_address p) ats NoFault
 
 -- ---- the list rules
 
@@ -41,10 +42,10 @@ pub record ChangesHold (shape : Shape) (w : Words) (visited chain : List ℕ) : 
 -- the first of them that fails, HEAD standing at base
 abbrev pub IsWrongChange : Shape → ℕ → Words → List ℕ → List ℕ → FaultSet
 IsWrongChange shape base w visited chain =
-    Tried ((w TO_APPEND ≡ 0) ⊎ (w TO_REMOVE ≡ 0)) 6 (base + 4) (
-    Tried (HasArrived w visited) 6 base (
-    Tried (w TO_APPEND ≢ 0 → MayAppend w visited (w TO_APPEND)) 6 (base + 2) (
-    Tried (w TO_REMOVE ≢ 0 → MayRemove shape w chain (w TO_REMOVE)) 6 (base + 4) NoFault)))
+    Tried ((w TO_APPEND ≡ 0) ⊎ (w TO_REMOVE ≡ 0)) LIST_RULE (base + 4) (
+    Tried (HasArrived w visited) LIST_RULE base (
+    Tried (w TO_APPEND ≢ 0 → MayAppend w visited (w TO_APPEND)) LIST_RULE (base + 2) (
+    Tried (w TO_REMOVE ≢ 0 → MayRemove shape w chain (w TO_REMOVE)) LIST_RULE (base + 4) NoFault)))
 
 -- all list rules
 pub record ListHolds (shape : Shape) (w : Words) (visited chain : List ℕ) : Type 0 where

@@ -1,6 +1,7 @@
 //! The record rule.
 ghost use Rattle.std.specs.Prelude.{◌≡◌, ◌≢◌, ◌⊎◌, ◌↔◌, ◌<◌, ◌≤◌, ℕ, IsTrue, OnOk, IfErr, MatchOption};
-ghost use Rattle.persist_model.specs.ImageRules.{rule_number};
+ghost use Rattle.persist_model.specs.Kinds.{CHECKPOINT, COMMITTED, COMPENSATION, DELETION, END, NO_OUTCOME as no_outcome, ROLLED_BACK, UPDATE, kind_number};
+ghost use Rattle.persist_model.specs.ImageRules.{RECORD_RULE, rule_number};
 ghost use Rattle.persist_model.specs.Shape.{block, IsHeapWord, IsRootOwner, IsPlainOwner};
 ghost use Rattle.persist_model.specs.ImageRecords.{IsWellFormed, AreWellFormed};
 ghost use Rattle.persist_model.specs.Faults.{TriedOldest, NoFault};
@@ -9,12 +10,9 @@ ghost use Rattle.region_layout.specs.Layout.{layout_shape};
 ghost use Rattle.log_tables.specs.Rows.{log_of_rows};
 
 use bucket_log::Placed;
-use persist_model::ImageRule;
-use persist_model::format::{
-    BLOCK_WORDS, CHECKPOINT, COMMITTED, COMPENSATION, DELETION, END, ROLLED_BACK, UPDATE,
-};
+use persist_model::format::{BLOCK_WORDS, NO_OUTCOME};
+use persist_model::{ImageRule, Outcome, RecordKind};
 use region_layout::{ImageFault, Layout};
-
 
 // The number of the block whose owner stands at this word.
 fn owned_block(layout: Layout, word: u64) -> Option<u32>
@@ -61,32 +59,44 @@ fn is_plain_owner(layout: Layout, word: u64) -> bool
 }
 
 // Whether a record of this kind may name this word.
-fn may_name(layout: Layout, kind: u64, word: u64) -> bool
-    ensures { IsTrue result ↔ (((kind ≡ 1) ⊎ (kind ≡ 2) → IsHeapWord (layout_shape layout) word × (IsRootOwner (layout_shape layout) word → ⊥))
-        × (kind ≡ 6 → IsPlainOwner (layout_shape layout) word)) }
+fn may_name(layout: Layout, kind: RecordKind, word: u64) -> bool
+    ensures { IsTrue result ↔ (((kind_number kind ≡ UPDATE) ⊎ (kind_number kind ≡ COMPENSATION) → IsHeapWord (layout_shape layout) word × (IsRootOwner (layout_shape layout) word → ⊥))
+        × (kind_number kind ≡ DELETION → IsPlainOwner (layout_shape layout) word)) }
 {
     match kind {
-        UPDATE | COMPENSATION => is_heap_word(layout, word) && !is_root_owner(layout, word),
-        DELETION => is_plain_owner(layout, word),
-        _ => true,
+        RecordKind::Update | RecordKind::Compensation => {
+            is_heap_word(layout, word) && !is_root_owner(layout, word)
+        }
+        RecordKind::Deletion => is_plain_owner(layout, word),
+        RecordKind::Rollback | RecordKind::End | RecordKind::Checkpoint => true,
     }
 }
 
 // Whether a record of this kind may have this transaction: a checkpoint record has none.
-fn may_be_of(kind: u64, transaction: u64) -> bool
-    ensures { IsTrue result ↔ (((kind ≡ 5) × (transaction ≡ 0)) ⊎ ((kind ≢ 5) × (1 ≤ transaction))) }
+fn may_be_of(kind: RecordKind, transaction: u64) -> bool
+    ensures { IsTrue result ↔ (((kind_number kind ≡ CHECKPOINT) × (transaction ≡ 0)) ⊎ ((kind_number kind ≢ CHECKPOINT) × (1 ≤ transaction))) }
 {
-    (kind == CHECKPOINT) == (transaction == 0)
+    match kind {
+        RecordKind::Checkpoint => transaction == 0,
+        RecordKind::Update
+        | RecordKind::Compensation
+        | RecordKind::Rollback
+        | RecordKind::End
+        | RecordKind::Deletion => transaction != 0,
+    }
 }
 
 // Whether a record of this kind may have this outcome: ends alone have one.
-fn may_come_out(kind: u64, outcome: u64) -> bool
-    ensures { IsTrue result ↔ (((kind ≡ 4) × ((outcome ≡ 1) ⊎ (outcome ≡ 2))) ⊎ ((kind ≢ 4) × (outcome ≡ 0))) }
+fn may_come_out(kind: RecordKind, outcome: u64) -> bool
+    ensures { IsTrue result ↔ (((kind_number kind ≡ END) × ((outcome ≡ COMMITTED) ⊎ (outcome ≡ ROLLED_BACK))) ⊎ ((kind_number kind ≢ END) × (outcome ≡ no_outcome))) }
 {
-    if kind == END {
-        outcome == COMMITTED || outcome == ROLLED_BACK
-    } else {
-        outcome == 0
+    match kind {
+        RecordKind::End => Outcome::read(outcome).is_some(),
+        RecordKind::Update
+        | RecordKind::Compensation
+        | RecordKind::Rollback
+        | RecordKind::Checkpoint
+        | RecordKind::Deletion => outcome == NO_OUTCOME,
     }
 }
 
@@ -94,10 +104,9 @@ fn may_come_out(kind: u64, outcome: u64) -> bool
 fn is_formed(layout: Layout, r: &Placed) -> bool
     ensures { IsTrue result ↔ IsWellFormed (layout_shape layout) (record_of_placed r.now) }
 {
-    let kind = r.cell.kind;
-    if kind < UPDATE || kind > DELETION {
+    let Some(kind) = r.cell.record_kind() else {
         return false;
-    }
+    };
     if !may_be_of(kind, r.cell.transaction) || !may_name(layout, kind, r.cell.word) {
         return false;
     }
@@ -107,7 +116,7 @@ fn is_formed(layout: Layout, r: &Placed) -> bool
 /// Tries the record rule, the oldest record first.
 pub(crate) fn try_records(layout: Layout, rows: &[Placed]) -> Result<(), ImageFault>
     ensures ok { OnOk result (AreWellFormed (layout_shape layout) (log_of_rows rows.now)) }
-    ensures fault { IfErr result (λ found. TriedOldest (λ earlier r. IsWellFormed (layout_shape layout) r) 7 (log_of_rows rows.now) NoFault (rule_number found.rule) found.address) }
+    ensures fault { IfErr result (λ found. TriedOldest (λ earlier r. IsWellFormed (layout_shape layout) r) RECORD_RULE (log_of_rows rows.now) NoFault (rule_number found.rule) found.address) }
 {
     for r in rows {
         if !is_formed(layout, r) {

@@ -1,6 +1,7 @@
 //! The rule on room and on numbers.
 ghost use Rattle.std.specs.Prelude.{◌≡◌, ◌↔◌, ◌+◌, ◌-◌, ◌<◌, ◌≤◌, ◌^◌, ◌==◌, ◌&&◌, ◌||◌, not, nat_lt, ℕ, min, IsTrue, if◌then◌else◌};
 ghost use Rattle.std.specs.List.{list_any};
+ghost use Rattle.persist_model.specs.Kinds.{CHECKPOINT};
 ghost use Rattle.persist_model.specs.Shape.{part_of as part_of_shape};
 ghost use Rattle.persist_model.specs.Records.{Record, Log, IsAmong};
 ghost use Rattle.persist_model.specs.Need.{need_of as need_of_log, need_in};
@@ -13,7 +14,7 @@ ghost use Rattle.log_tables.specs.Homes.{share_of, AreHomes, AreTransactions};
 
 use bucket_log::Placed;
 use log_tables::{Home, Summaries, Summary, Transactions};
-use persist_model::format::CHECKPOINT;
+use persist_model::RecordKind;
 use region_layout::{Layout, Policy};
 
 /// The greatest number that a record may have.
@@ -86,9 +87,9 @@ fn newest_checkpoint(rows: &[Placed]) -> u64
 
 // The same behind a record.
 fn newest_behind(s: &Placed, newest: u64) -> u64
-    ensures { (n : ℕ) → nat_lt n result ≡ (((s.now.cell.kind == 5) && nat_lt n s.now.cell.lsn) || nat_lt n newest) }
+    ensures { (n : ℕ) → nat_lt n result ≡ (((s.now.cell.kind == CHECKPOINT) && nat_lt n s.now.cell.lsn) || nat_lt n newest) }
 {
-    if s.cell.kind != CHECKPOINT {
+    if !s.cell.is(RecordKind::Checkpoint) {
         return newest;
     }
     newest.max(s.cell.lsn)
@@ -106,10 +107,10 @@ fn is_skipped(own: Summary, newest: u64) -> bool
 
 // Whether there is a running transaction, or an ended one whose end isn't older than this number.
 fn has_unskipped(whole: &Summaries, newest: u64, rows: &[Placed]) -> bool
-    ensures { result ≡ list_any (λ r. not (r.cell.kind == 5) && not (is_end_below (summary_of whole.now r.cell.transaction).first_end newest)) rows.now }
+    ensures { result ≡ list_any (λ r. not (r.cell.kind == CHECKPOINT) && not (is_end_below (summary_of whole.now r.cell.transaction).first_end newest)) rows.now }
 {
     rows.iter().any(|r| {
-        r.cell.kind != CHECKPOINT && !is_skipped(whole.of(r.cell.transaction), newest)
+        !r.cell.is(RecordKind::Checkpoint) && !is_skipped(whole.of(r.cell.transaction), newest)
     })
 }
 

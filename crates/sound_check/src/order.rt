@@ -1,6 +1,8 @@
 //! The order rule.
 ghost use Rattle.std.specs.Prelude.{◌≡◌, ◌≢◌, ◌↔◌, ◌==◌, ◌&&◌, ◌||◌, ℕ, not, Bool, is_some, IsTrue, OnOk, IfErr};
 ghost use Rattle.std.specs.List.{list_any};
+ghost use Rattle.persist_model.specs.ImageRules.{ORDER_RULE};
+ghost use Rattle.persist_model.specs.Kinds.{DELETION};
 ghost use Rattle.persist_model.specs.Records.{Record, Log, Has, IsOf, IsEnded, NamesWord};
 ghost use Rattle.persist_model.specs.Order.{UndoesWell, Follows, IsInOrder};
 ghost use Rattle.persist_model.specs.Shape.{part_of as part_of_shape};
@@ -16,25 +18,26 @@ ghost use Rattle.sound_check.specs.Barring.{names_word as names_word_of, is_barr
 use crate::fault::CheckFault;
 use bucket_log::{Placed, part_of};
 use log_tables::{Past, Summaries, Summary};
-use persist_model::ImageRule;
-use persist_model::format::{CHECKPOINT, COMPENSATION, DELETION, ROLLBACK, UPDATE};
+use persist_model::format::CHECKPOINT;
+use persist_model::{ImageRule, RecordKind};
 use region_layout::{ImageFault, Layout};
 use std::alloc::Global;
-
 
 // Whether a record names a word.
 fn names_word(s: &Placed) -> bool
     ensures { result ≡ names_word_of (record_of_placed s.now) }
 {
-    s.cell.kind == UPDATE || s.cell.kind == COMPENSATION || s.cell.kind == DELETION
+    s.cell.is(RecordKind::Update)
+        || s.cell.is(RecordKind::Compensation)
+        || s.cell.is(RecordKind::Deletion)
 }
 
 // Whether a record bars other transactions from its word, by what the records of its own come to.
 fn bars(own: Summary, s: &Placed) -> bool
-    ensures { result ≡ ((names_word_of (record_of_placed s.now) && not (is_some own.first_end)) || ((s.now.cell.kind == 6) && own.has_commit)) }
+    ensures { result ≡ ((names_word_of (record_of_placed s.now) && not (is_some own.first_end)) || ((s.now.cell.kind == DELETION) && own.has_commit)) }
 {
     let running = names_word(s) && own.first_end.is_none();
-    running || (s.cell.kind == DELETION && own.has_commit)
+    running || (s.cell.is(RecordKind::Deletion) && own.has_commit)
 }
 
 // Whether a record bars other transactions from its word.
@@ -82,7 +85,7 @@ fn compensates(r: &Placed, u: &Placed) -> bool
     ensures { result ≡ compensates_it (record_of_placed r.now) (record_of_placed u.now) }
 {
     u.cell.transaction == r.cell.transaction
-        && u.cell.kind == UPDATE
+        && u.cell.is(RecordKind::Update)
         && r.cell.word == u.cell.word
         && r.cell.before == u.cell.after
         && r.cell.after == u.cell.before
@@ -112,14 +115,15 @@ fn undoes_well(past: &Past, own: Summary, r: &Placed) -> bool
     ensures { (part : ℕ → ℕ) (marks : Record → Bool) (earlier : Log) → IsPast part marks past.now earlier → IsSummary part own r.now.cell.transaction earlier
         → IsTrue result ↔ UndoesWell earlier (record_of_placed r.now) }
 {
-    match r.cell.kind {
-        UPDATE => {
+    match r.cell.record_kind() {
+        Some(RecordKind::Update) => {
             let last = past.last_new(r.cell.transaction, r.cell.word, r.cell.before);
             updates_well(own, r, last)
         }
-        DELETION | ROLLBACK => !own.has_rollback,
-        COMPENSATION => compensates_at(past, r, own.undo_point),
-        _ => true,
+        Some(RecordKind::Deletion) => !own.has_rollback,
+        Some(RecordKind::Rollback) => !own.has_rollback,
+        Some(RecordKind::Compensation) => compensates_at(past, r, own.undo_point),
+        Some(RecordKind::End | RecordKind::Checkpoint) | None => true,
     }
 }
 
@@ -160,7 +164,7 @@ pub(crate) fn try_order(
 ) -> Result<(), CheckFault>
     requires { AreSummaries (part_of_shape (layout_shape layout)) whole.now (log_of_rows rows.now) }
     ensures ok { OnOk result (IsInOrder (part_of_shape (layout_shape layout)) (log_of_rows rows.now)) }
-    ensures fault { IfErr result (λ e. IfUnsound e (TriedOldest (Follows (part_of_shape (layout_shape layout)) (log_of_rows rows.now)) 8 (log_of_rows rows.now) NoFault)) }
+    ensures fault { IfErr result (λ e. IfUnsound e (TriedOldest (Follows (part_of_shape (layout_shape layout)) (log_of_rows rows.now)) ORDER_RULE (log_of_rows rows.now) NoFault)) }
 {
     let mut past = Past::new(alloc);
     for i in 0..rows.len() {
