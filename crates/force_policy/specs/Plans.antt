@@ -9,7 +9,8 @@ use Rattle.plan_records.specs.declared.parts.Giving.{Giving}
 use Rattle.plan_records.specs.declared.parts.Closing.{Closing}
 use Rattle.plan_records.specs.declared.parts.Undoing.{Undoing}
 use Rattle.persist_model.specs.declared.kinds.Outcome.TheVariants.{Committed, RolledBack}
-use Rattle.plan_records.specs.Cells.{cell_of_update, cell_of_rollback, cell_of_end, cell_of_deletion}
+use Rattle.plan_records.specs.Cells.{cell_of_update, cell_of_deletion}
+use Rattle.region_layout.specs.RecordCells.{cell_of_rollback, cell_of_end}
 use Rattle.plan_records.specs.Sequences.{undo_parts, owner_parts}
 
 -- the record is there before the word is stored

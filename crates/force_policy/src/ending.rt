@@ -4,9 +4,8 @@ ghost use Rattle.plan_records.specs.Sequences.{HasAddress};
 ghost use Rattle.force_policy.specs.Plans.{commit_plan, abort_plan};
 
 use persist_model::Outcome;
-use plan_records::{Closing, Part, Undoing};
-use plan_records::{end_cell, owner_part, owner_part_count, rollback_cell, undo_part};
-use region_layout::Policy;
+use plan_records::{Closing, Part, Undoing, owner_part, owner_part_count, undo_part};
+use region_layout::{Policy, end_cell, rollback_cell};
 
 /// Part i of a commit: a fence, so that what was written is kept; the end; the deletion of the blocks that were given back; and the
 /// clearing of the transaction's records.

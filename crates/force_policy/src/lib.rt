@@ -7,6 +7,6 @@ mod naming;
 #[cfg(test)]
 mod tests;
 
-pub use plan_records::{Closing, Giving, Part, Undoing, Update};
 pub use ending::{abort_part, commit_part};
 pub use naming::{give_part, write_part};
+pub use plan_records::{Closing, Giving, Part, Undoing, Update};

@@ -2,8 +2,7 @@
 ghost use Rattle.std.specs.Prelude.{◌≡◌, slice_get};
 ghost use Rattle.force_policy.specs.Plans.{write_plan, give_plan};
 
-use plan_records::{Giving, Part, Update};
-use plan_records::{deletion_cell, update_cell, word_store};
+use plan_records::{Giving, Part, Update, deletion_cell, update_cell, word_store};
 use region_layout::Policy;
 
 /// Part i of the write of a word: its record, and then the store.

@@ -8,8 +8,8 @@ use atomic_list::{Remove, remove_event};
 use bucket_log::{Place, append_event};
 use log_clearing::{ClearList, clear_event};
 use persist_model::{Event, List};
-use plan_records::{numbered, update_cell};
-use region_layout::{Cell, Layout, Policy};
+use plan_records::update_cell;
+use region_layout::{Cell, Layout, Policy, numbered};
 use std::alloc::Global;
 use std::test::Fail;
 

@@ -12,7 +12,8 @@ use Rattle.log_laws.specs.Moves.{IsDeletionBy, IsChangeBy}
 use Rattle.log_laws.proofs.Deciding.{has_or_none}
 use Rattle.log_laws.proofs.Standings.{latest_some}
 use Rattle.persist_model.specs.declared.kinds.Outcome.TheVariants.{Committed}
-use Rattle.plan_records.specs.Cells.{cell_of_end, appended}
+use Rattle.plan_records.specs.Cells.{appended}
+use Rattle.region_layout.specs.RecordCells.{cell_of_end}
 use Rattle.plan_records.specs.Appends.{Commits, with_record}
 use Rattle.plan_records.proofs.Changes.{decide_change, heap_word_is}
 use Rattle.plan_records.proofs.Records.{commit_ends_write}

@@ -12,7 +12,8 @@ use Rattle.bucket_log.specs.declared.append.Place.{Place}
 use Rattle.bucket_log.specs.Appends.{region_append}
 use Rattle.log_clearing.specs.Plans.{closing_plan}
 use Rattle.log_clearing.specs.Closed.{AreGroups, IsListed}
-use Rattle.plan_records.specs.Cells.{cell_of_checkpoint, appended}
+use Rattle.plan_records.specs.Cells.{appended}
+use Rattle.region_layout.specs.RecordCells.{cell_of_checkpoint}
 use Rattle.plan_records.specs.Appends.{MayAppend, MayStandAt}
 use Rattle.plan_records.specs.Conditions.{CanCheckpoint, AreSweptIn}
 use Rattle.history_laws.specs.Histories.{Entry, fold}

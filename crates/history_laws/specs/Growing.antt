@@ -10,7 +10,8 @@ use Rattle.log_laws.specs.Recovery.{HasDecidingRecord}
 use Rattle.bucket_log.specs.declared.append.Place.{Place}
 use Rattle.bucket_log.specs.Appends.{region_append}
 use Rattle.persist_model.specs.declared.kinds.Outcome.TheVariants.{Committed}
-use Rattle.plan_records.specs.Cells.{cell_of_end, appended}
+use Rattle.plan_records.specs.Cells.{appended}
+use Rattle.region_layout.specs.RecordCells.{cell_of_end}
 use Rattle.plan_records.specs.Appends.{MayAppend, MayStandAt, with_record}
 use Rattle.plan_records.specs.Conditions.{IsOfOpen, AreWritten}
 use Rattle.history_laws.specs.Histories.{Entry, fold}

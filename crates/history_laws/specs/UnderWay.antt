@@ -13,7 +13,8 @@ use Rattle.log_clearing.specs.Plans.{closing_plan}
 use Rattle.log_clearing.specs.Closed.{IsListed}
 use Rattle.log_clearing.specs.Removals.{region_removal}
 use Rattle.persist_model.specs.declared.kinds.Outcome.TheVariants.{Committed, RolledBack}
-use Rattle.plan_records.specs.Cells.{cell_of_update, cell_of_compensation, cell_of_rollback, cell_of_end, cell_of_deletion, appended}
+use Rattle.plan_records.specs.Cells.{cell_of_update, cell_of_deletion, appended}
+use Rattle.region_layout.specs.RecordCells.{cell_of_compensation, cell_of_rollback, cell_of_end}
 
 -- the record of a transaction that an append adds; a compensation has the update that it undoes, and a cell with that one's fields
 pub data Added : Type 0 where

@@ -91,12 +91,7 @@ fn point_behind(s: &Placed, point: u64) -> u64
     match s.cell.record_kind() {
         Some(RecordKind::Update) => s.cell.lsn,
         Some(RecordKind::Compensation) => s.cell.undo_next,
-        Some(
-            RecordKind::Rollback
-            | RecordKind::End
-            | RecordKind::Checkpoint
-            | RecordKind::Deletion,
-        )
+        Some(RecordKind::Rollback | RecordKind::End | RecordKind::Checkpoint | RecordKind::Deletion)
         | None => point,
     }
 }
@@ -110,12 +105,7 @@ fn count_behind(s: &Placed, count: u64) -> u64
     match s.cell.record_kind() {
         Some(RecordKind::Update) => count + 1,
         Some(RecordKind::Compensation) => count.saturating_sub(1),
-        Some(
-            RecordKind::Rollback
-            | RecordKind::End
-            | RecordKind::Checkpoint
-            | RecordKind::Deletion,
-        )
+        Some(RecordKind::Rollback | RecordKind::End | RecordKind::Checkpoint | RecordKind::Deletion)
         | None => count,
     }
 }

@@ -10,8 +10,7 @@ ghost use Rattle.log_tables.specs.Homes.{AreTransactions};
 
 use crate::summaries::Summaries;
 use bucket_log::{Placed, part_of};
-use persist_model::NoMemory;
-use persist_model::RecordKind;
+use persist_model::{NoMemory, RecordKind};
 use region_layout::Layout;
 use std::alloc::{AllocError, Global};
 

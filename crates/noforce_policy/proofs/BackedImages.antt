@@ -9,7 +9,8 @@ use Rattle.log_laws.specs.Moves.{MayName, IsChangeBy}
 use Rattle.log_laws.proofs.Deciding.{decide_equal, has_or_none, ended_or_running}
 use Rattle.bucket_log.specs.declared.append.Place.{Place}
 use Rattle.bucket_log.specs.Appends.{region_append}
-use Rattle.plan_records.specs.Cells.{cell_of_update, cell_of_checkpoint, appended}
+use Rattle.plan_records.specs.Cells.{cell_of_update, appended}
+use Rattle.region_layout.specs.RecordCells.{cell_of_checkpoint}
 use Rattle.plan_records.specs.Appends.{MayStandAt, AppendKeeps}
 use Rattle.plan_records.specs.Conditions.{IsUpdateOf, AreSweptIn}
 use Rattle.plan_records.specs.HeapUpdates.{OldsMeet}

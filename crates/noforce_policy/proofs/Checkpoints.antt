@@ -10,7 +10,8 @@ use Rattle.log_laws.proofs.Deciding.{has_or_none, decide_to_undo}
 use Rattle.log_laws.proofs.Growing.{has_on, has_back}
 use Rattle.log_clearing.specs.Closed.{IsListed}
 use Rattle.log_clearing.proofs.ClearingStates.{closings_keep}
-use Rattle.plan_records.specs.Cells.{cell_of_checkpoint, appended}
+use Rattle.plan_records.specs.Cells.{appended}
+use Rattle.region_layout.specs.RecordCells.{cell_of_checkpoint}
 use Rattle.plan_records.specs.Passing.{inserted}
 use Rattle.plan_records.proofs.Passing.{inserted_first}
 use Rattle.plan_records.proofs.Records.{checkpoints_keep}

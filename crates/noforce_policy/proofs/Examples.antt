@@ -4,7 +4,8 @@ use Rattle.persist_model.specs.declared.event.Event.TheVariants.{Store, PStore, 
 use Rattle.plan_records.specs.declared.parts.Update.{Update}
 use Rattle.plan_records.specs.declared.parts.Part.TheVariants.{Append, Word, Fence, Clear}
 use Rattle.persist_model.specs.declared.kinds.Outcome.TheVariants.{Committed, RolledBack}
-use Rattle.plan_records.specs.Cells.{cell_of_update, cell_of_compensation, cell_of_rollback, cell_of_end, cell_of_checkpoint}
+use Rattle.plan_records.specs.Cells.{cell_of_update}
+use Rattle.region_layout.specs.RecordCells.{cell_of_compensation, cell_of_rollback, cell_of_end, cell_of_checkpoint}
 use Rattle.noforce_policy.specs.Plans.{write_plan, commit_plan, abort_plan, checkpoint_plan, next_of_checkpoint}
 
 abbrev update : Update

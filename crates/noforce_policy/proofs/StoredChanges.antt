@@ -4,7 +4,8 @@ use Rattle.region_layout.specs.declared.cell.Cell.{Cell}
 use Rattle.region_layout.specs.declared.layout.Policy.TheVariants.{NoForce}
 use Rattle.plan_records.specs.declared.parts.Part.{Part}
 use Rattle.persist_model.specs.declared.kinds.Outcome.TheVariants.{Committed, RolledBack}
-use Rattle.plan_records.specs.Cells.{cell_of_update, cell_of_compensation, cell_of_rollback, cell_of_end, cell_of_deletion}
+use Rattle.plan_records.specs.Cells.{cell_of_update, cell_of_deletion}
+use Rattle.region_layout.specs.RecordCells.{cell_of_compensation, cell_of_rollback, cell_of_end}
 use Rattle.plan_records.specs.Sequences.{undo_parts}
 use Rattle.noforce_policy.specs.Backed.{StoresChanges, nothing, notes, changes}
 use Rattle.noforce_policy.specs.BackedLaws.{PlansStoreChanges}

@@ -21,7 +21,8 @@ use Rattle.plan_records.specs.declared.parts.Undoing.{Undoing}
 use Rattle.bucket_log.specs.Appends.{region_append}
 use Rattle.log_clearing.specs.Plans.{closing_plan}
 use Rattle.log_clearing.specs.Clearing.{IsClearing}
-use Rattle.plan_records.specs.Cells.{cell_of_update, cell_of_checkpoint, appended}
+use Rattle.plan_records.specs.Cells.{cell_of_update, appended}
+use Rattle.region_layout.specs.RecordCells.{cell_of_checkpoint}
 use Rattle.plan_records.specs.Passing.{inserted, Passes}
 use Rattle.plan_records.specs.Appends.{MayAppend, MayStandAt}
 use Rattle.plan_records.specs.Conditions.{CanUpdate, CanCheckpoint, IsUpdateOf, AreSweptIn}

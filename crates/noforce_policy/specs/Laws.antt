@@ -16,7 +16,8 @@ use Rattle.plan_records.specs.declared.parts.Undoing.{Undoing}
 use Rattle.log_clearing.specs.Plans.{closing_plan}
 use Rattle.log_clearing.specs.Closed.{AreGroups, IsListed}
 use Rattle.log_clearing.specs.Clearing.{IsClearing}
-use Rattle.plan_records.specs.Cells.{cell_of_checkpoint, appended}
+use Rattle.plan_records.specs.Cells.{appended}
+use Rattle.region_layout.specs.RecordCells.{cell_of_checkpoint}
 use Rattle.plan_records.specs.Passing.{inserted}
 use Rattle.plan_records.specs.Appends.{MayAppend, MayStandAt, AppendKeeps}
 use Rattle.plan_records.specs.Conditions.{CanCheckpoint, AreSweptIn}

@@ -4,11 +4,10 @@ ghost use Rattle.plan_records.specs.Sequences.{HasAddress};
 ghost use Rattle.noforce_policy.specs.Plans.{write_plan, give_plan, commit_plan, abort_plan};
 
 use persist_model::Outcome;
-use plan_records::{Closing, Giving, Part, Undoing, Update};
 use plan_records::{
-    deletion_cell, end_cell, rollback_cell, undo_part, update_cell, word_store,
+    Closing, Giving, Part, Undoing, Update, deletion_cell, undo_part, update_cell, word_store,
 };
-use region_layout::Policy;
+use region_layout::{Policy, end_cell, rollback_cell};
 
 /// Part i of the write of a word: its record, and then the store, which nothing asks to be kept.
 pub fn write_part(update: &Update, i: u64) -> Option<Part>

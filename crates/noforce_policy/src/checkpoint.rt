@@ -2,9 +2,9 @@
 ghost use Rattle.std.specs.Prelude.{◌≡◌, slice_get};
 ghost use Rattle.noforce_policy.specs.Plans.{checkpoint_plan, next_of_checkpoint};
 
-use plan_records::Part;
 use persist_model::{Event, List};
-use plan_records::{checkpoint_cell, owner_part, owner_part_count};
+use plan_records::{Part, owner_part, owner_part_count};
+use region_layout::checkpoint_cell;
 
 /// How far a checkpoint has come.
 #[derive(Drop)]

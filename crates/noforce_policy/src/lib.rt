@@ -7,6 +7,6 @@ pub mod laws;
 #[cfg(test)]
 mod tests;
 
-pub use plan_records::{Closing, Giving, Part, Undoing, Update};
 pub use calls::{abort_part, commit_part, give_part, write_part};
 pub use checkpoint::{Sweep, checkpoint_part};
+pub use plan_records::{Closing, Giving, Part, Undoing, Update};

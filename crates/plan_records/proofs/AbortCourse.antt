@@ -13,7 +13,8 @@ use Rattle.plan_records.specs.declared.parts.Part.{Part}
 use Rattle.plan_records.specs.declared.parts.Part.TheVariants.{Append, Word, Fence, Clear}
 use Rattle.bucket_log.specs.Plans.{place_address}
 use Rattle.persist_model.specs.declared.kinds.Outcome.TheVariants.{RolledBack}
-use Rattle.plan_records.specs.Cells.{cell_of_compensation, cell_of_rollback, cell_of_end, appended, IsCellOf}
+use Rattle.plan_records.specs.Cells.{appended, IsCellOf}
+use Rattle.region_layout.specs.RecordCells.{cell_of_compensation, cell_of_rollback, cell_of_end}
 use Rattle.plan_records.specs.Sequences.{store_of, undo_parts}
 use Rattle.plan_records.specs.Passing.{inserted}
 use Rattle.plan_records.specs.Courses.{own_records, IsAside, Course, begins, appends, makes, meanwhile, IsCoveredStore, MayBegin, IsGoing, AreCellsOf, CanAbort, undo_end, abort_parts, AbortsGoOn}

@@ -9,7 +9,8 @@ use Rattle.log_laws.specs.Closing.{IsSublog, empty, stays, goes}
 use Rattle.log_laws.specs.Moves.{IsDeletionBy}
 use Rattle.plan_records.specs.declared.parts.Part.TheVariants.{Fence as Wait}
 use Rattle.persist_model.specs.declared.kinds.Outcome.TheVariants.{Committed, RolledBack}
-use Rattle.plan_records.specs.Cells.{cell_of_end, appended}
+use Rattle.plan_records.specs.Cells.{appended}
+use Rattle.region_layout.specs.RecordCells.{cell_of_end}
 use Rattle.plan_records.specs.Sequences.{zero_parts, owner_parts}
 use Rattle.plan_records.specs.Passing.{inserted}
 use Rattle.plan_records.specs.Courses.{own_records}

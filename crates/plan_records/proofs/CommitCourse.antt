@@ -11,7 +11,8 @@ use Rattle.bucket_log.specs.declared.append.Place.{Place}
 use Rattle.plan_records.specs.declared.parts.Part.{Part}
 use Rattle.plan_records.specs.declared.parts.Part.TheVariants.{Append, Word, Fence, Clear}
 use Rattle.persist_model.specs.declared.kinds.Outcome.TheVariants.{Committed}
-use Rattle.plan_records.specs.Cells.{cell_of_end, appended}
+use Rattle.plan_records.specs.Cells.{appended}
+use Rattle.region_layout.specs.RecordCells.{cell_of_end}
 use Rattle.plan_records.specs.Sequences.{zero_parts, owner_parts}
 use Rattle.plan_records.specs.Passing.{inserted}
 use Rattle.plan_records.specs.Courses.{own_records, IsAside, Course, begins, appends, makes, meanwhile, MayBegin, IsGoing, AreGiven, CanCommit, commit_parts, CommitsGoOn}

@@ -11,7 +11,8 @@ use Rattle.plan_records.specs.declared.parts.Update.{Update}
 use Rattle.plan_records.specs.declared.parts.Part.{Part}
 use Rattle.plan_records.specs.declared.parts.Part.TheVariants.{Append, Word, Fence, Clear}
 use Rattle.persist_model.specs.declared.kinds.Outcome.TheVariants.{Committed, RolledBack}
-use Rattle.plan_records.specs.Cells.{cell_of_update, cell_of_compensation, cell_of_rollback, cell_of_end, cell_of_checkpoint, appended}
+use Rattle.plan_records.specs.Cells.{cell_of_update, appended}
+use Rattle.region_layout.specs.RecordCells.{cell_of_compensation, cell_of_rollback, cell_of_end, cell_of_checkpoint}
 use Rattle.plan_records.specs.Sequences.{undo_parts}
 use Rattle.plan_records.specs.Passing.{inserted, MayPass, Passes}
 use Rattle.plan_records.specs.Appends.{with_record, total_room}

@@ -16,7 +16,8 @@ use Rattle.plan_records.specs.declared.parts.Part.{Part}
 use Rattle.plan_records.specs.declared.parts.Part.TheVariants.{Append, Word, Fence as Wait, Clear}
 use Rattle.bucket_log.specs.Appends.{region_append}
 use Rattle.persist_model.specs.declared.kinds.Outcome.TheVariants.{Committed}
-use Rattle.plan_records.specs.Cells.{cell_of_end, appended}
+use Rattle.plan_records.specs.Cells.{appended}
+use Rattle.region_layout.specs.RecordCells.{cell_of_end}
 use Rattle.plan_records.specs.Sequences.{zero_parts, owner_parts}
 use Rattle.plan_records.specs.Courses.{own_records, commit_parts}
 use Rattle.plan_records.specs.HeapCourses.{newest, Goes, CommitsMeet}

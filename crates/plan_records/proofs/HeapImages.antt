@@ -10,7 +10,8 @@ use Rattle.plan_records.specs.declared.parts.Part.TheVariants.{Append, Clear}
 use Rattle.bucket_log.specs.Appends.{region_append}
 use Rattle.log_clearing.specs.Plans.{closing_plan}
 use Rattle.persist_model.specs.declared.kinds.Outcome.TheVariants.{Committed, RolledBack}
-use Rattle.plan_records.specs.Cells.{cell_of_update, cell_of_end, appended}
+use Rattle.plan_records.specs.Cells.{cell_of_update, appended}
+use Rattle.region_layout.specs.RecordCells.{cell_of_end}
 use Rattle.plan_records.specs.Appends.{MayStandAt, AppendKeeps, AppendCommits}
 use Rattle.plan_records.specs.Conditions.{IsUpdateOf, AreWritten, AreLast}
 use Rattle.plan_records.specs.Courses.{commit_parts, abort_parts}

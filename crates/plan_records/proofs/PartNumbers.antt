@@ -7,7 +7,7 @@ use Rattle.region_layout.specs.declared.cell.Cell.{Cell}
 use Rattle.region_layout.specs.declared.layout.Policy.{Policy}
 use Rattle.plan_records.specs.declared.parts.Part.{Part}
 use Rattle.plan_records.specs.declared.parts.Part.TheVariants.{Append, Word, Fence}
-use Rattle.plan_records.specs.Cells.{cell_of_compensation}
+use Rattle.region_layout.specs.RecordCells.{cell_of_compensation}
 use Rattle.plan_records.specs.Sequences.{store_of, undo_parts, zero_parts, owner_parts}
 
 even : (policy : Policy) (us : List Cell) (k : ℕ) (u : Cell) → slice_get us k ≡ Some u → slice_get (undo_parts policy us) (k + k) ≡ Some (Append (cell_of_compensation u))

@@ -18,7 +18,8 @@ use Rattle.log_clearing.specs.Removals.{more_room}
 use Rattle.log_clearing.proofs.ClearingStates.{sound_with_heap}
 use Rattle.log_clearing.proofs.RemovalStates.{removals_are_states, room_keeps}
 use Rattle.persist_model.specs.declared.kinds.Outcome.TheVariants.{Committed}
-use Rattle.plan_records.specs.Cells.{cell_of_update, cell_of_compensation, cell_of_rollback, cell_of_end, cell_of_checkpoint, cell_of_deletion, appended}
+use Rattle.plan_records.specs.Cells.{cell_of_update, cell_of_deletion, appended}
+use Rattle.region_layout.specs.RecordCells.{cell_of_compensation, cell_of_rollback, cell_of_end, cell_of_checkpoint}
 use Rattle.plan_records.specs.Conditions.{IsUpdateOf, AreSweptIn, AreWritten}
 use Rattle.plan_records.specs.Laws.{UpdatesKeep, DeletionsKeep, RollbacksKeep, CompensationsKeep, CheckpointsKeep, CommitEndsWrite, StoresKeep, DropsKeep}
 use Rattle.plan_records.proofs.RecordAppends.{takes, arrives, append_keeps, append_commits, running_raised, cells_raised, kept_raised, name_raised, update_raised}

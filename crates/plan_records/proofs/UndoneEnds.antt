@@ -20,7 +20,8 @@ use Rattle.log_laws.proofs.Standings.{AreNumbered, earliest_some, latest_some, s
 use Rattle.bucket_log.specs.States.{less_room}
 use Rattle.log_clearing.proofs.ClearingStates.{sound_with_heap}
 use Rattle.persist_model.specs.declared.kinds.Outcome.TheVariants.{RolledBack}
-use Rattle.plan_records.specs.Cells.{cell_of_end, appended}
+use Rattle.plan_records.specs.Cells.{appended}
+use Rattle.region_layout.specs.RecordCells.{cell_of_end}
 use Rattle.plan_records.specs.Conditions.{AreLast}
 use Rattle.plan_records.specs.Laws.{UndoneEndsKeep}
 use Rattle.plan_records.proofs.Changes.{decide_change}

@@ -25,7 +25,8 @@ use Rattle.log_clearing.specs.Plans.{closing_plan}
 use Rattle.log_clearing.specs.Closed.{AreGroups, IsListed}
 use Rattle.log_clearing.specs.Clearing.{IsClearing}
 use Rattle.persist_model.specs.declared.kinds.Outcome.TheVariants.{Committed, RolledBack}
-use Rattle.plan_records.specs.Cells.{cell_of_update, cell_of_rollback, cell_of_end, cell_of_deletion, appended, IsCellOf}
+use Rattle.plan_records.specs.Cells.{cell_of_update, cell_of_deletion, appended, IsCellOf}
+use Rattle.region_layout.specs.RecordCells.{cell_of_rollback, cell_of_end}
 use Rattle.plan_records.specs.Sequences.{store_of, undo_parts, owner_parts}
 use Rattle.plan_records.specs.Appends.{MayAppend, MayStandAt, with_record, AppendKeeps, AppendCommits}
 use Rattle.plan_records.specs.Conditions.{CanUpdate, CanDelete, IsUpdateOf, AreLast, AreWritten}

@@ -23,7 +23,8 @@ use Rattle.bucket_log.specs.Plans.{place_address}
 use Rattle.bucket_log.specs.Appends.{region_append}
 use Rattle.log_clearing.specs.Plans.{closing_plan}
 use Rattle.persist_model.specs.declared.kinds.Outcome.TheVariants.{Committed, RolledBack}
-use Rattle.plan_records.specs.Cells.{cell_of_end, appended}
+use Rattle.plan_records.specs.Cells.{appended}
+use Rattle.region_layout.specs.RecordCells.{cell_of_end}
 use Rattle.plan_records.specs.Appends.{MayAppend, with_record}
 use Rattle.plan_records.specs.Conditions.{AreWritten, AreLast}
 use Rattle.plan_records.specs.Courses.{own_records, IsAboveOwn, Course, MayCloseOwn, AreGiven, CanAbort, write_parts, give_parts, commit_parts, abort_parts}

@@ -17,7 +17,8 @@ use Rattle.bucket_log.specs.Appends.{region_append}
 use Rattle.log_clearing.specs.Plans.{closing_plan}
 use Rattle.log_clearing.specs.Clearing.{IsClearing}
 use Rattle.persist_model.specs.declared.kinds.Outcome.TheVariants.{Committed, RolledBack}
-use Rattle.plan_records.specs.Cells.{cell_of_update, cell_of_end, appended}
+use Rattle.plan_records.specs.Cells.{cell_of_update, appended}
+use Rattle.region_layout.specs.RecordCells.{cell_of_end}
 use Rattle.plan_records.specs.Appends.{MayAppend, MayStandAt, Keeps, Commits, with_record}
 use Rattle.plan_records.specs.Conditions.{CanUpdate}
 use Rattle.plan_records.specs.Courses.{MayCloseOwn, CanCommit, CanAbort, commit_parts, abort_parts}

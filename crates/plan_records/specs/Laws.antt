@@ -16,7 +16,8 @@ use Rattle.plan_records.specs.declared.parts.Update.{Update}
 use Rattle.plan_records.specs.declared.parts.Giving.{Giving}
 use Rattle.log_clearing.specs.Removals.{CanDrop, region_removal, more_room}
 use Rattle.persist_model.specs.declared.kinds.Outcome.TheVariants.{Committed, RolledBack}
-use Rattle.plan_records.specs.Cells.{cell_of_update, cell_of_compensation, cell_of_rollback, cell_of_end, cell_of_checkpoint, cell_of_deletion, appended, IsCellOf}
+use Rattle.plan_records.specs.Cells.{cell_of_update, cell_of_deletion, appended, IsCellOf}
+use Rattle.region_layout.specs.RecordCells.{cell_of_compensation, cell_of_rollback, cell_of_end, cell_of_checkpoint}
 use Rattle.plan_records.specs.Appends.{MayAppend, MayStandAt, Keeps, AppendKeeps, AppendCommits}
 use Rattle.plan_records.specs.Conditions.{CanUpdate, CanDelete, CanRollBack, CanCompensate, CanEndUndone, CanCheckpoint, IsOfOpen, IsUpdateOf, AreLast, AreSweptIn, AreWritten}
 

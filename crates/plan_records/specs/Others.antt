@@ -14,7 +14,8 @@ use Rattle.plan_records.specs.declared.parts.Part.{Part}
 use Rattle.plan_records.specs.declared.parts.Part.TheVariants.{Append, Word, Fence as Wait, Clear}
 use Rattle.log_clearing.specs.Closed.{IsListed}
 use Rattle.persist_model.specs.declared.kinds.Outcome.TheVariants.{Committed, RolledBack}
-use Rattle.plan_records.specs.Cells.{cell_of_end, appended}
+use Rattle.plan_records.specs.Cells.{appended}
+use Rattle.region_layout.specs.RecordCells.{cell_of_end}
 use Rattle.plan_records.specs.Sequences.{owner_parts}
 use Rattle.plan_records.specs.Passing.{inserted}
 use Rattle.plan_records.specs.Appends.{MayAppend}

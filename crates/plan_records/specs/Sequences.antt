@@ -7,7 +7,7 @@ use Rattle.region_layout.specs.declared.layout.Policy.{Policy}
 use Rattle.region_layout.specs.declared.layout.Policy.TheVariants.{Force, NoForce}
 use Rattle.plan_records.specs.declared.parts.Part.{Part}
 use Rattle.plan_records.specs.declared.parts.Part.TheVariants.{Append, Word, Fence}
-use Rattle.plan_records.specs.Cells.{cell_of_compensation}
+use Rattle.region_layout.specs.RecordCells.{cell_of_compensation}
 
 abbrev pub store_of : Policy → ℕ → ℕ → Event
 store_of Force word value = PStore word value

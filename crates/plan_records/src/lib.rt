@@ -6,9 +6,6 @@ pub mod laws;
 mod parts;
 mod sequences;
 
-pub use cells::{
-    checkpoint_cell, compensation_cell, deletion_cell, end_cell, numbered, rollback_cell,
-    update_cell,
-};
+pub use cells::{deletion_cell, update_cell};
 pub use parts::{Closing, Giving, Part, Undoing, Update};
 pub use sequences::{owner_part, owner_part_count, undo_part, word_store};

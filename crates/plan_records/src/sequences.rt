@@ -2,10 +2,9 @@
 ghost use Rattle.std.specs.Prelude.{◌≡◌, ◌<◌, ◌^◌, All, length, slice_get};
 ghost use Rattle.plan_records.specs.Sequences.{store_of, undo_parts, owner_parts, HasAddress};
 
-use crate::cells::compensation_cell;
 use crate::parts::Part;
 use persist_model::{Event, List};
-use region_layout::{Cell, Policy};
+use region_layout::{Cell, Policy, compensation_cell};
 
 /// The store of a value to a heap word, which is kept from the next fence on under force, and isn't asked to be kept under no-force.
 pub fn word_store(policy: Policy, word: u32, value: u64) -> Event

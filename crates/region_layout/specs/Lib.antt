@@ -2,6 +2,7 @@ pub mod Layout
 pub mod Apart
 pub mod Fresh
 pub mod Cell
+pub mod RecordCells
 pub mod Reading
 pub mod FiniteMap
 pub mod HeapBlocks

@@ -7,11 +7,11 @@ ghost use Rattle.region_layout.specs.Layout.{layout_shape, policy_number};
 ghost use Rattle.region_layout.specs.Reading.{HasSizes, IsWrongKind, IsWrongSize};
 
 use crate::layout::{Layout, Policy};
-use persist_model::{ImageRule, Look};
 use persist_model::format::{
     BLOCKS, BUCKETS, CELLS, FIRST_KIND, HEADER_WORDS, PARTITIONS, POLICY, SECOND_MAGIC, STRUCTURES,
     is_magic,
 };
+use persist_model::{ImageRule, Look};
 
 /// The first rule that words break, and the address that it names.
 #[derive(Clone, Copy, Debug, PartialEq, Eq)]

@@ -2,8 +2,8 @@
 ghost use Rattle.std.specs.Prelude.{◌≡◌, ◌<◌, ◌≤◌, ◌^◌, length};
 
 use crate::{Buckets, ImageFault, Kind, Layout, Policy, cell_word, format, read_cell, read_layout};
-use persist_model::{ImageRule, Look};
 use persist_model::format::FIRST_MAGIC;
+use persist_model::{ImageRule, Look};
 use std::alloc::Global;
 use std::test::Fail;
 
@@ -104,7 +104,10 @@ fn a_header_is_refused_by_its_first_wrong_word(rt: HostRuntime) -> Result<(), Fa
         let row = changed(rt.alloc(), address, value)?.ok_or("fits")?;
         assert_eq!(rt;
             read_layout(&row),
-            Err(ImageFault { rule, address: named }),
+            Err(ImageFault {
+                rule,
+                address: named
+            }),
             "at {address}"
         );
     }

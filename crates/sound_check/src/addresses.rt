@@ -9,10 +9,9 @@ ghost use Rattle.sound_check.specs.Rules.{AreLinks, IsWrongLink};
 
 use crate::walk::is_link;
 use log_partition::out_address;
-use persist_model::{ImageRule, Look};
 use persist_model::format::{HEAD, LAST_TAIL, TAIL, TO_APPEND, TO_REMOVE};
+use persist_model::{ImageRule, Look};
 use region_layout::{ImageFault, Layout};
-
 
 // Tries the words at these addresses, in order.
 fn try_links<W: Look>(words: &W, layout: Layout, p: u32, ats: &[u32]) -> Result<(), ImageFault>

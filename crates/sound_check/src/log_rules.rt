@@ -18,8 +18,8 @@ use crate::order::try_order;
 use bucket_log::{Placed, room};
 use log_partition::PartView;
 use log_tables::{Transactions, read_transactions};
-use persist_model::{ImageRule, Look};
 use persist_model::format::list_words;
+use persist_model::{ImageRule, Look};
 use region_layout::{ImageFault, Layout};
 use std::alloc::Global;
 

@@ -10,12 +10,11 @@ ghost use Rattle.region_layout.specs.Layout.{layout_shape};
 ghost use Rattle.sound_check.specs.Rules.{IsReadable, MayBeTried, ListHolds, ChangesHold, IsWrongChange};
 
 use crate::walk::{is_among, last_or};
-use persist_model::{ImageRule, Look};
 use persist_model::format::{
     BUCKET_HEADER_WORDS, CELL_WORDS, HEAD, LAST_TAIL, TAIL, TO_APPEND, TO_REMOVE, list_words,
 };
+use persist_model::{ImageRule, Look};
 use region_layout::{ImageFault, Layout};
-
 
 fn list_fault(address: u32) -> ImageFault
     ensures { (rule_number result.rule ≡ LIST_RULE) × (result.address ≡ address) }

@@ -5,7 +5,7 @@ use Rattle.region_layout.specs.declared.layout.Policy.TheVariants.{Force}
 use Rattle.plan_records.specs.declared.parts.Part.{Part}
 use Rattle.plan_records.specs.declared.parts.Part.TheVariants.{Append, Fence, Clear}
 use Rattle.persist_model.specs.declared.kinds.Outcome.TheVariants.{RolledBack}
-use Rattle.plan_records.specs.Cells.{cell_of_rollback, cell_of_end}
+use Rattle.region_layout.specs.RecordCells.{cell_of_rollback, cell_of_end}
 use Rattle.plan_records.proofs.PartNumbers.{behind_undo, undo_within}
 use Rattle.force_policy.proofs.ending.abort_part.Goals as goal
 
