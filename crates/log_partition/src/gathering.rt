@@ -14,7 +14,8 @@ use region_layout::Layout;
 use std::alloc::Global;
 
 /// The records of all partitions, ascending by number, then by address: read from the last they are the log, newest first.
-/// They are the same in all words that have the same log. Nothing changes where there is no memory.
+/// They are the same in all words that have the same log. Nothing is said of words that have no state, as where a bucket that is
+/// being taken out has open gates. Nothing changes where there is no memory.
 pub fn merge<W: Look>(alloc: Global, words: &W, layout: Layout) -> Result<List<Placed>, NoMemory>
     requires { AreLogsOf layout (length (W.words words.now)) (slice_index (W.words words.now)) }
     ensures { (w : Words) (s : State) → SameLog (slice_index (W.words words.now)) w → HasState (layout_shape layout) w s
