@@ -1,5 +1,5 @@
 -- Where a record goes that recovery appends, and what its append leaves of the recovery words and of the header.
-use Rattle.std.proofs.Common.{◌≡◌, ◌↔◌, ℕ, ◌+◌, ◌<◌, ◌≤◌, Bool, true, false, List, length, None, Option, sym, ap, ◌∙◌, subst, arith}
+use Rattle.std.proofs.Common.{◌≡◌, ◌↔◌, ℕ, ◌+◌, ◌<◌, ◌≤◌, Bool, true, false, List, length, None, Option, refl, sym, ap, ◌∙◌, subst, arith}
 use Rattle.std.specs.Prelude.{slice_index}
 use Rattle.std.proofs.lemmas.List.FromFn.{length-map-range_with_len}
 use Rattle.persist_model.specs.Region.{Words, Region, newest, newest_words}
@@ -133,6 +133,11 @@ module _ (layout : Layout) (first y : State) (region : Region) (h : HasReached (
     pub found_next : (place : Place) → ((v : Words) (q : ℕ) → SameLog (slice_index row) v → IsPartition shape q part → IsNextPlace shape q v (chain_of shape v) place) →
         IsNextPlace shape p (view p logged) (has.chains p) place
     found_next place tells = subst (λ chain. IsNextPlace shape p (view p logged) chain place) here_is (tells (view p logged) p seen is_part)
+
+    -- and it is next in the words that are read
+    pub found_here : (place : Place) → ((v : Words) (q : ℕ) → SameLog (slice_index row) v → IsPartition shape q part → IsNextPlace shape q v (chain_of shape v) place) →
+        IsNextPlace (layout_shape layout) p (view p (newest_at region)) (chains_in (layout_shape layout) (newest_at region) p) place
+    found_here place tells = tells (view p w) p (subst (λ (z : Words). SameLog z (view p w)) (sym (ap slice_index is ∙ viewed-is p (newest_words region))) (λ a below. refl)) is_part
 
     room_is : room_of shape (view p logged) p (chain_of shape (view p logged)) ≡ y.room p
     room_is = ap (room_of shape (view p logged) p) here_is ∙ view_room shape p logged (has.chains p) (chain_buckets p lt) ∙ sym (has.room p lt)

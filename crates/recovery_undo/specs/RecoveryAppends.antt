@@ -15,6 +15,7 @@ use Rattle.region_layout.specs.Layout.{layout_shape}
 use Rattle.region_layout.specs.Cell.{record_of}
 use Rattle.bucket_log.specs.declared.append.Place.{Place}
 use Rattle.bucket_log.specs.Appends.{CanAppend}
+use Rattle.bucket_log.specs.Places.{IsNextPlace}
 use Rattle.bucket_log.specs.Plans.{place_address}
 use Rattle.bucket_log.specs.States.{less_room}
 use Rattle.log_partition.specs.declared.used.UsedBuckets.{UsedBuckets}
@@ -61,6 +62,12 @@ StepsTo layout p cell y = (at : ℕ) → part_of (layout_shape layout) at ≡ p 
 pub record IsPlaceFor (shape : Shape) (p : ℕ) (w : Words) (place : Place) : Type 0 where
   pub chain : List ℕ
   pub takes : (r : Record) → r.at ≡ place_address place → r.lsn ≢ 0 → CanAppend shape p (view p (log_words shape w)) chain place r
+
+-- at is the address of the partition's next place in these words, as the log's reader finds it
+pub record IsNextAddress (shape : Shape) (p : ℕ) (w : Words) (at : ℕ) : Type 0 where
+  pub place : Place
+  pub is_next : IsNextPlace shape p (view p w) (chains_in shape w p) place
+  pub at_is : at ≡ place_address place
 
 -- the table has the chains that stand in the region's newest words
 abbrev pub KnowsRegion : Layout → UsedBuckets → Region → Type 0

@@ -1,6 +1,7 @@
 // The append of a record, as a part of recovery.
 ghost use Rattle.std.specs.Prelude.{◌≡◌, ◌≤◌, ◌<◌, ◌+◌, ℕ, List};
 ghost use Rattle.persist_model.specs.Records.{Record};
+ghost use Rattle.persist_model.specs.Chain.{view};
 ghost use Rattle.persist_model.specs.Shape.{part_of, IsBucketOf};
 ghost use Rattle.persist_model.specs.State.{State, IsSoundState};
 ghost use Rattle.log_laws.specs.MoveRoom.{TakesCell};
@@ -8,12 +9,13 @@ ghost use Rattle.log_laws.specs.Parts.{EachKeeps};
 ghost use Rattle.region_layout.specs.Layout.{layout_shape};
 ghost use Rattle.region_layout.specs.Cell.{record_of};
 ghost use Rattle.bucket_log.specs.Appends.{region_append};
+ghost use Rattle.bucket_log.specs.Places.{IsNextPlace};
 ghost use Rattle.bucket_log.specs.Plans.{place_address};
 ghost use Rattle.bucket_log.specs.States.{less_room};
-ghost use Rattle.log_partition.specs.Used.{FitsBuckets, KnowsChains};
+ghost use Rattle.log_partition.specs.Used.{FitsBuckets, KnowsChains, chains_in};
 ghost use Rattle.recovery_run.specs.Edges.{HasCounted, KeepsWords, IsPlainHeaderWord};
 ghost use Rattle.recovery_run.specs.Reached.{newest_at, HasReached, HasSettled, IsQuiet};
-ghost use Rattle.recovery_undo.specs.RecoveryAppends.{CanTake, IfAt, done_of, with_cell, MayTake, StepsTo, IsPlaceFor, KnowsRegion, chains_behind};
+ghost use Rattle.recovery_undo.specs.RecoveryAppends.{CanTake, IfAt, done_of, with_cell, MayTake, StepsTo, IsPlaceFor, IsNextAddress, KnowsRegion, chains_behind};
 
 use bucket_log::{Place, append_event, place_with};
 use lane_traits::{Device, Done};
@@ -63,6 +65,7 @@ fn next_place<D: Device>(device: &D, layout: Layout, p: u32, table: &mut UsedBuc
     requires can { (first y : State) × HasReached (layout_shape layout) first y (D.cells device.now) × (1 ≤ y.room p) }
     requires table { KnowsRegion layout table.old (D.cells device.now) }
     ensures takes { IsQuiet p (newest_at (D.cells device.now)) → IsPlaceFor (layout_shape layout) p (newest_at (D.cells device.now)) result }
+    ensures next { IsNextPlace (layout_shape layout) p (view p (newest_at (D.cells device.now))) (chains_in (layout_shape layout) (newest_at (D.cells device.now)) p) result }
     ensures bucket { result.bucket < 1187872 }
     ensures below { result.cell < layout.cells }
     ensures in_part { IsBucketOf (layout_shape layout) p result.bucket }
@@ -88,7 +91,7 @@ fn add_bucket(table: &mut UsedBuckets, layout: Layout, p: u32, place: Place)
     }
 }
 
-/// Appends a record to a partition: the cell's gate is its number. What was pending for the heap is settled behind it.
+/// Appends a record to a partition, at its next place: the cell's LSN is its number. What was pending for the heap is settled behind it.
 ///
 /// The partition's recovery words ask for no repair, before and behind it. A compensation or a rollback record may come
 /// whatever is pending for the heap, an end or a checkpoint record where nothing is. The table has the chains of
@@ -103,6 +106,7 @@ pub fn append_record<D: Device>(
     requires can { (first y : State) × CanTake layout p cell.now first y (D.cells device.old) }
     requires spare { layout.cells + 21 ≤ D.spare device.old }
     requires table { KnowsRegion layout table.old (D.cells device.old) }
+    ensures next { IfAt result (λ at. IsNextAddress (layout_shape layout) p (newest_at (D.cells device.old)) at) }
     ensures part { IfAt result (λ at. part_of (layout_shape layout) at ≡ p) }
     ensures takes_cell { IfAt result (λ at. (first y : State) → CanTake layout p cell.now first y (D.cells device.old)
         → TakesCell (layout_shape layout) y (record_of at cell.now) (less_room p y.room)) }

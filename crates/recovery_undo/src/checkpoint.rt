@@ -1,10 +1,11 @@
 // The checkpoint record of a recovery under no-force.
-ghost use Rattle.std.specs.Prelude.{◌≡◌, ◌≤◌, ◌+◌, ℕ};
+ghost use Rattle.std.specs.Prelude.{◌≡◌, ◌≤◌, ◌+◌, ◌++◌, ◌∷◌, [], ℕ};
 ghost use Rattle.persist_model.specs.State.{State};
 ghost use Rattle.log_laws.specs.Parts.{EachKeeps};
 ghost use Rattle.region_layout.specs.Layout.{layout_shape};
 ghost use Rattle.recovery_run.specs.Edges.{HasCounted, KeepsWords, IsPlainHeaderWord};
-ghost use Rattle.recovery_undo.specs.RecoveryAppends.{KnowsRegion};
+ghost use Rattle.recovery_run.specs.Reached.{newest_at};
+ghost use Rattle.recovery_undo.specs.RecoveryAppends.{IsNextAddress, KnowsRegion};
 ghost use Rattle.recovery_undo.specs.Checkpoint.{CanCheckpoint, IsCheckpointed};
 
 use crate::appending::{Appended, append_record};
@@ -14,7 +15,7 @@ use log_partition::UsedBuckets;
 use recovery_run::{Gates, put_gate};
 use region_layout::Layout;
 
-/// Appends a checkpoint record to the first partition, once nothing runs and each word has its standing value: from then on
+/// Appends a checkpoint record to the first partition, at its next place, once nothing runs and each word has its standing value: from then on
 /// nothing is to be redone. `next` is raised, and the gate is put into `gates`, in memory that is there. The table has the
 /// chains of all partitions, before and behind it. After a stop nothing is said of the table.
 pub fn append_checkpoint<D: Device>(
@@ -29,6 +30,8 @@ pub fn append_checkpoint<D: Device>(
     requires table { KnowsRegion layout table.old (D.cells device.old) }
     ensures made { result ≡ Done.Made → (first y : State) → CanCheckpoint layout next.old gates.old first y (D.cells device.old)
         → IsCheckpointed layout gates.old first y next.new gates.new (D.cells device.new) }
+    ensures next { result ≡ Done.Made → (at : ℕ) × (gates.new.checkpoints.items ≡ gates.old.checkpoints.items ++ at ∷ [])
+        × IsNextAddress (layout_shape layout) 0 (newest_at (D.cells device.old)) at }
     ensures stopped { result ≡ Done.Stopped → (first y : State) → CanCheckpoint layout next.old gates.old first y (D.cells device.old)
         → EachKeeps (layout_shape layout) first (D.cells device.new) }
     ensures counted { HasCounted (layout.cells + 21) result (D.counts device.old) (D.counts device.new) }

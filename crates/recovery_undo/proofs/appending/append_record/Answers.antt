@@ -14,6 +14,9 @@ append-requires-clause-within g c =
     let at = c.requires.can in
     within c.args.layout c.args.p c.args.cell.now at.0 at.1 (g.D.Device.cells c.args.device.now) at.2 c.next_place-next.result c.next_place-next.ensures.takes
 
+pub returns-in-Made-clause-next : goal.returns-in-Made-clause-next
+returns-in-Made-clause-next g c = record { place = c.next_place-next.result; is_next = c.next_place-next.ensures.next; at_is = refl }
+
 pub returns-in-Made-clause-part : goal.returns-in-Made-clause-part
 returns-in-Made-clause-part g c =
     let at = c.requires.can in

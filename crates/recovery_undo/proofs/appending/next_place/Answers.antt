@@ -6,7 +6,7 @@ use Rattle.bucket_log.specs.Places.{IsNextPlace}
 use Rattle.log_partition.specs.Used.{chains_in}
 use Rattle.log_partition.specs.Views.{viewed}
 use Rattle.recovery_run.specs.Reached.{newest_at}
-use Rattle.recovery_undo.proofs.Places.{logs_of, log_part, least_seen, found_some, found_next, takes, place_below, place_in_part, has}
+use Rattle.recovery_undo.proofs.Places.{logs_of, log_part, least_seen, found_some, found_next, found_here, takes, place_below, place_in_part, has}
 use Rattle.recovery_undo.proofs.appending.next_place.Goals as goal
 
 pub new-view-requires-clause-words : goal.new-view-requires-clause-words
@@ -65,3 +65,9 @@ returns-clause-in_part g c =
 
 pub returns-clause-table : goal.returns-clause-table
 returns-clause-table g c = c.least-least.ensures.knows (chains_in (layout_shape c.args.layout) (newest_at (g.D.Device.cells c.args.device.now))) c.requires.table
+
+pub returns-clause-next : goal.returns-clause-next
+returns-clause-next g c =
+    let at = c.requires.can in
+    found_here c.args.layout at.0 at.1 (g.D.Device.cells c.args.device.now) at.2 c.args.p c.requires.part _
+    (c.new-view.ensures ∙ ap (viewed c.args.p) (g.met.D.Device.reads c.args.device.now)) c.part.result c.part.ensures None c.in-Some.found c.in-Some.ensures.next

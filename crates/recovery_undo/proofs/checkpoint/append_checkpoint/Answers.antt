@@ -28,3 +28,6 @@ returns-in-At-clause-made g c = λ same first y h.
     (checkpoint_steps c.args.layout c.args.next.now c.args.gates.now first y (g.D.Device.cells c.args.device.now) h c.plain_cell-cell.result c.plain_cell-cell.ensures c.args.layout.partitions_within.0))
     (λ q lt. c.in-At.ensures.quiet q lt (h.quiet q lt))
     c.put_gate.ensures.items c.put_gate.ensures.len c.put_gate.ensures.capacity refl refl
+
+pub returns-in-At-clause-next : goal.returns-in-At-clause-next
+returns-in-At-clause-next g c = λ same. (c.in-At.at, c.put_gate.ensures.items, c.in-At.ensures.next)
