@@ -6,8 +6,8 @@ ghost use Rattle.atomic_list.specs.Repairing.{CanRepair};
 
 use crate::checks::{Change, has_list};
 use atomic_list::{
-    Insert, Remove, Repair, TO_APPEND, TO_REMOVE, next_bucket, insert_event, remove_event, repair_event,
-    repair_of,
+    Insert, Remove, Repair, TO_APPEND, TO_REMOVE, insert_event, next_bucket, remove_event,
+    repair_event, repair_of,
 };
 use lane_traits::{Device, Done};
 use persist_model::{Event, Look, Pick};

@@ -11,7 +11,7 @@ use bucket_log::{append_event, place};
 use lane_traits::{Device, Done};
 use log_clearing::ClearList;
 use persist_model::{Event, List, Look, NoMemory, Pick};
-use recovery_run::{Plan, append_then_store, close_all, run};
+use recovery_run::{Plan, run};
 use std::alloc::Global;
 use std::process::Abort;
 use std::test::Fail;
@@ -84,25 +84,7 @@ fn close<D: Device>(rt: &impl Abort, device: &mut D, list: &ClearList) -> Done {
     if !are_below(list.checkpoints.as_slice(), size) {
         panic!(rt; "outside the region");
     }
-    close_all(device, list)
-}
-
-fn append_and_store<D: Device>(
-    rt: &impl Abort,
-    device: &mut D,
-    plan: &Events,
-    a: u32,
-    value: u64,
-) -> Done {
-    assert!(rt; plan.events.len() < 1000);
-    let size = ready(rt, device, 1000);
-    if !are_inside(plan.events.as_slice(), size) {
-        panic!(rt; "outside the region");
-    }
-    if a >= size {
-        panic!(rt; "outside the region");
-    }
-    append_then_store(device, plan, a, value)
+    run(device, list)
 }
 
 fn add(list: &mut List<Event>, event: Event) -> Result<(), NoMemory> {
@@ -122,6 +104,19 @@ fn second_append(rt: &impl Abort, alloc: Global, region: &PlainCells) -> Result<
         }
     }
     Ok(Events { events })
+}
+
+// The same append, and behind it a store.
+fn append_and_store(
+    rt: &impl Abort,
+    alloc: Global,
+    region: &PlainCells,
+    word: u32,
+    value: u64,
+) -> Result<Events, Fail> {
+    let mut plan = second_append(rt, alloc, region)?;
+    add(&mut plan.events, Event::PStore(word, value))?;
+    Ok(plan)
 }
 
 /// A stop behind so many events, and what is closed then of the records at 40 and 56, for the oldest and the newest
@@ -291,13 +286,9 @@ fn a_word_is_stored_behind_its_record(rt: HostRuntime) -> Result<(), Fail> {
     ];
     for (events, pick, done, closed, value) in &cases {
         let region = with_records(&rt, alloc, 1, &[update(1)])?;
-        let plan = second_append(&rt, alloc, &region)?;
+        let plan = append_and_store(&rt, alloc, &region, 97, 7)?;
         let mut cut = Cut::new(region, *events);
-        assert_eq!(rt;
-            append_and_store(&rt, &mut cut, &plan, 97, 7),
-            *done,
-            "{events}"
-        );
+        assert_eq!(rt; run_events(&rt, &mut cut, &plan), *done, "{events}");
         let mut region = cut.into_inner();
         region.restart(*pick);
         assert_eq!(rt; word(&region, 97), *value, "{events}");
@@ -311,11 +302,8 @@ fn a_word_is_stored_behind_its_record(rt: HostRuntime) -> Result<(), Fail> {
         )?;
     }
     let mut region = with_records(&rt, alloc, 1, &[update(1)])?;
-    let plan = second_append(&rt, alloc, &region)?;
-    assert_eq!(rt;
-        append_and_store(&rt, &mut region, &plan, 97, 7),
-        Done::Made
-    );
+    let plan = append_and_store(&rt, alloc, &region, 97, 7)?;
+    assert_eq!(rt; run_events(&rt, &mut region, &plan), Done::Made);
     assert_eq!(rt; word(&region, 97), 7);
     Ok(())
 }

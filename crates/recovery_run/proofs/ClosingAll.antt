@@ -17,7 +17,6 @@ use Rattle.log_laws.specs.Recovering.{RECOVERY}
 use Rattle.log_laws.specs.Parts.{after_plan, HasCome, Leads, EachKeeps}
 use Rattle.log_clearing.specs.Plans.{closes as zeroes, group, closing_plan}
 use Rattle.log_clearing.specs.Closed.{IsListed}
-use Rattle.recovery_run.specs.ClosingParts.{CanClose, HasClosed}
 use Rattle.recovery_run.specs.ClosingAll.{CanCloseAll}
 use Rattle.recovery_run.specs.Edges.{StoreElsewhere, KeepsWords, IsPlainHeaderWord}
 use Rattle.recovery_run.specs.Reached.{newest_at, HasHeader, HasSettled}
@@ -25,7 +24,7 @@ use Rattle.log_clearing.proofs.ClosingWords.{closing_ends}
 use Rattle.recovery_run.proofs.Within.{AreWithin}
 use Rattle.recovery_run.proofs.Aside.{plan_keeps}
 use Rattle.recovery_run.proofs.Reaching.{settled_reached, settles, single_plan, reached_sound}
-use Rattle.recovery_run.proofs.ClosingPart.{closing_leads, closing_done}
+use Rattle.recovery_run.proofs.ClosingPart.{CanClose, closing_leads, closing_done}
 
 -- where a record of the log stands
 pub record IsPlaced (shape : Shape) (at : ℕ) : Type 0 where

@@ -7,7 +7,7 @@ use Rattle.persist_model.specs.declared.event.Event.TheVariants.{PStore, Fence}
 use Rattle.persist_model.specs.Region.{Words, Region}
 use Rattle.persist_model.specs.Progress.{Progress, Reaches, start, advance_all}
 use Rattle.persist_model.specs.Records.{Record, Log, IsAmong}
-use Rattle.log_laws.specs.Closing.{IsSublog, empty, stays, goes}
+use Rattle.log_laws.specs.Closing.{MayClear}
 use Rattle.persist_model.specs.Shape.{Shape, heap, words_of_shape, heap_words, log_words, part_of}
 use Rattle.persist_model.specs.State.{State, IsSoundState}
 use Rattle.log_laws.specs.Recovery.{Steps, start as begins, makes, closes}
@@ -17,11 +17,10 @@ use Rattle.log_laws.proofs.Parts.{part_image, part_image_settled}
 use Rattle.log_laws.proofs.Clearing.{closed_by}
 use Rattle.log_laws.proofs.Closings.{part_among}
 use Rattle.log_clearing.specs.Plans.{closes as zeroes, group, closing_plan}
-use Rattle.log_clearing.specs.Closed.{IsListed}
+use Rattle.log_clearing.specs.Closed.{AreGroups, IsListed}
 use Rattle.log_clearing.proofs.ClosingWords.{closed, closing_ends, latest_zero, latest_away}
 use Rattle.log_clearing.proofs.ClosingImages.{HasPart, closing_image}
 use Rattle.log_laws.specs.Parts.{after_plan, AreDurable, HasCome, Leads}
-use Rattle.recovery_run.specs.ClosingParts.{CanClose, HasClosed}
 use Rattle.recovery_run.proofs.Composing.{parts_go_on}
 use Rattle.recovery_run.proofs.Making.{take_whole}
 
@@ -65,12 +64,22 @@ same_heap shape w v same = λ i a. each a (nat_lt a (heap shape)) refl i
 at_rest : (shape : Shape) (d : Words) (y : State) → HasState shape d y → IsAtRest shape (start d) d y
 at_rest shape d y has = record { state = has; durable = λ a lt. refl; log = λ a lt v k. k; heap = λ a le v k. elim k [ ] }
 
-part_in : (P : Record → Type 0) (later log : Log) → IsSublog P later log → (r : Record) → IsAmong log r → (P r → ⊥) → IsAmong later r
-part_in P _ _ empty r m off = m
-part_in P _ _ (stays x {later = later} {log = log} part) r (inl e) off = inl e
-part_in P _ _ (stays x {later = later} {log = log} part) r (inr m) off = inr (part_in P later log part r m off)
-part_in P _ _ (goes x {later = later} {log = log} p part) r (inl e) off = absurd (off (subst P (sym e) p))
-part_in P _ _ (goes x {later = later} {log = log} p part) r (inr m) off = part_in P later log part r m off
+-- the records whose gates are listed may be cleared from the state
+pub record CanClose (shape : Shape) (s : State) (gates ends checkpoints : List ℕ) : Type 0 where
+  pub few : shape.partitions ≤ 3
+  pub sound : IsSoundState shape s
+  pub groups : AreGroups s.log gates ends checkpoints
+  pub may : MayClear shape.policy s.log s.words (IsListed gates ends checkpoints)
+  pub inside : (a : ℕ) → IsAmong gates a ⊎ IsAmong ends a ⊎ IsAmong checkpoints a → a < heap shape
+
+-- Recovery has come to settled words that have none of the listed records, and the heap words as before.
+pub record HasClosed (shape : Shape) (first s : State) (gates ends checkpoints : List ℕ) (region : Region) : Type 0 where
+  pub words : Words
+  pub state : State
+  pub come : HasCome shape first (start words) words state region
+  pub heap : state.words ≡ s.words
+  pub fewer : (r : Record) → IsAmong state.log r → IsAmong s.log r
+  pub none : (r : Record) → IsAmong state.log r → IsListed gates ends checkpoints r → ⊥
 
 module _ (shape : Shape) (w : Words) (s : State) (gates ends checkpoints : List ℕ) (has : HasState shape w s) (can : CanClose shape s gates ends checkpoints) where
   abbrev plan : List Event
@@ -128,5 +137,4 @@ module _ (shape : Shape) (w : Words) (s : State) (gates ends checkpoints : List 
         heap = refl;
         fewer = λ x m. part_among _ part.later s.log part.part.part x m;
         none = λ x m listed. part.gates_open x m (log_zero x.at (end_is_zero x.at listed));
-        others = λ x m off. part_in _ part.later s.log part.part.part x m (λ gone. off gone.0);
       }

@@ -20,15 +20,24 @@ use Rattle.persist_model.proofs.Images.{get_or-newest_words, settled_is}
 use Rattle.log_laws.specs.Recovery.{HasDecidingRecord, Step, Steps, start as begins, makes, stores, KeepsStanding}
 use Rattle.log_laws.specs.Recovering.{RECOVERY, IsAtRest, with_heap}
 use Rattle.log_laws.specs.Parts.{after_plan, AreDurable, HasCome, Leads, EachKeeps}
-use Rattle.log_laws.proofs.Recovering.{same_log, state_with_heap, heap_step, rest_image}
+use Rattle.log_laws.proofs.Recovering.{same_log, state_with_heap, heap_step, rest_image, rest_store}
 use Rattle.log_laws.proofs.Keeping.{runs_keep}
 use Rattle.recovery_run.specs.Edges.{HasOnlyValue, KeepsWords, IsPlainHeaderWord}
 use Rattle.recovery_run.specs.Reached.{newest_at, with_value, HasHeader, AreSingle, HasReached, HasSettled}
 use Rattle.recovery_run.proofs.Composing.{parts_keep, parts_go_on, recovery_begins}
-use Rattle.recovery_run.proofs.AppendPart.{come_store}
 use Rattle.recovery_run.proofs.Aside.{plan_keeps}
 use Rattle.recovery_run.proofs.Making.{same_size}
 use Rattle.recovery_run.proofs.ClosingPart.{same_heap}
+
+-- a store to a covered heap word
+pub come_store : (shape : Shape) (first : State) (p : Progress) (w : Words) (s : State) (region : Region) (a x : ℕ) → heap shape ≤ a → HasDecidingRecord shape.policy s.log a →
+    HasCome shape first p w s region → HasCome shape first (advance p (PStore a x)) w s (after region RECOVERY (PStore a x))
+come_store shape first p w s region a x le covered h = record {
+  size = h.size;
+  tracks = Tracks-event (λ b. b < words_of_shape shape) RECOVERY p region (PStore a x) tt h.tracks;
+  rest = rest_store shape p w s a x le covered h.rest;
+  steps = h.steps;
+}
 
 -- ---- the newest value of a word
 

@@ -1,6 +1,4 @@
-pub mod ClosingParts
 pub mod ClosingAll
-pub mod AppendParts
 pub mod Edges
 pub mod Groups
 pub mod Reached

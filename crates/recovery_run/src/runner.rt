@@ -8,6 +8,9 @@ ghost use Rattle.recovery_run.specs.Edges.{HasCounted, StoreElsewhere, KeepsWord
 use lane_traits::{Device, Done};
 use persist_model::Event;
 
+/// The lane whose events recovery makes: the contracts' RECOVERY.
+pub const RECOVERY_LANE: u32 = 16;
+
 /// A plan of events by their numbers.
 pub trait Plan {
     /// The events, in order.
@@ -33,7 +36,7 @@ pub fn run<D: Device, P: Plan>(device: &mut D, plan: &P) -> Done
 {
     let mut i = 0;
     while let Some(event) = plan.event(i) {
-        match device.event(16, event) {
+        match device.event(RECOVERY_LANE, event) {
             Done::Stopped => return Done::Stopped,
             Done::Made => {}
         }

@@ -8,6 +8,7 @@ ghost use Rattle.log_laws.specs.Parts.{EachKeeps};
 ghost use Rattle.recovery_run.specs.Edges.{HasCounted, KeepsWords};
 ghost use Rattle.recovery_run.specs.Reached.{with_value, HasReached, HasSettled};
 
+use crate::runner::RECOVERY_LANE;
 use lane_traits::{Device, Done};
 use persist_model::Event;
 
@@ -25,7 +26,7 @@ pub fn store<D: Device>(device: &mut D, a: u32, value: u64) -> Done
     ensures spare_left { D.spare device.old ≤ D.spare device.new + 1 }
     ensures aside { KeepsWords (λ b. b ≡ a → ⊥) (D.cells device.old) (D.cells device.new) }
 {
-    device.event(16, Event::PStore(a, value))
+    device.event(RECOVERY_LANE, Event::PStore(a, value))
 }
 
 /// Fences as recovery's lane: nothing is pending behind it.
@@ -38,5 +39,5 @@ pub fn fence<D: Device>(device: &mut D) -> Done
     ensures spare_left { D.spare device.old ≤ D.spare device.new }
     ensures aside { KeepsWords (λ b. Unit {0}) (D.cells device.old) (D.cells device.new) }
 {
-    device.event(16, Event::Fence)
+    device.event(RECOVERY_LANE, Event::Fence)
 }

@@ -11,7 +11,7 @@ use Rattle.recovery_run.proofs.Aside.{plan_keeps}
 use Rattle.recovery_run.proofs.Composing.{parts_keep}
 use Rattle.recovery_run.proofs.Within.{all_within}
 use Rattle.recovery_run.proofs.ClosingAll.{plan_low, plan_within, close_all_leads, close_all_done}
-use Rattle.recovery_run.proofs.closing_all.close_everything.Goals as goal
+use Rattle.recovery_run.proofs.closing.close_everything.Goals as goal
 
 pub run-requires-clause-within : goal.run-requires-clause-within
 run-requires-clause-within g c =
