@@ -321,33 +321,33 @@ passed_records merged log undo is each up = own_lengths merged log undo is each 
 
 -- ---- the loop over the needs
 
-abbrev need_at : Log → Transaction → ℕ
-need_at log t = need_of log t.number
+abbrev need_there : Log → Transaction → ℕ
+need_there log t = need_of log t.number
 
 one_need : (log : Log) (all : List Transaction) (i : ℕ) (t : Transaction) (need : ℕ) → AreSmall log all → i < length all → get_or all i t ≡ t →
-    ((l : Log) → IsTransactionOf l t → need ≡ need_of l t.number) → need ≡ need_at log (get_or all i t)
-one_need log all i t need h lt is says = says log (h.each t (subst (IsAmong all) is (among_at all i t lt))) ∙ ap (need_at log) (sym is)
+    ((l : Log) → IsTransactionOf l t → need ≡ need_of l t.number) → need ≡ need_there log (get_or all i t)
+one_need log all i t need h lt is says = says log (h.each t (subst (IsAmong all) is (among_at all i t lt))) ∙ ap (need_there log) (sym is)
 
 pub needs_more : (log : Log) (all : List Transaction) (i : ℕ) (t : Transaction) (total need : ℕ) → AreSmall log all → i < length all → get_or all i t ≡ t →
-    total ≡ sum_by (need_at log) (take i all) → ((l : Log) → IsTransactionOf l t → need ≡ need_of l t.number) → total + need ≡ sum_by (need_at log) (take (i + 1) all)
+    total ≡ sum_by (need_there log) (take i all) → ((l : Log) → IsTransactionOf l t → need ≡ need_of l t.number) → total + need ≡ sum_by (need_there log) (take (i + 1) all)
 needs_more log all i t total need h lt is so_far says =
-    ap (λ k. k + need) so_far ∙ ap (λ k. sum_by (need_at log) (take i all) + k) (one_need log all i t need h lt is says) ∙ sym (sum_by_more (need_at log) all i t lt)
+    ap (λ k. k + need) so_far ∙ ap (λ k. sum_by (need_there log) (take i all) + k) (one_need log all i t need h lt is says) ∙ sym (sum_by_more (need_there log) all i t lt)
 
 pub needs_fit : (log : Log) (all : List Transaction) (i : ℕ) (t : Transaction) (total need : ℕ) → AreSmall log all → i < length all → get_or all i t ≡ t →
-    total ≡ sum_by (need_at log) (take i all) → ((l : Log) → IsTransactionOf l t → need ≡ need_of l t.number) → total + need < 2 ^ 64
+    total ≡ sum_by (need_there log) (take i all) → ((l : Log) → IsTransactionOf l t → need ≡ need_of l t.number) → total + need < 2 ^ 64
 needs_fit log all i t total need h lt is so_far says =
-    let le = sum_by_more_le (need_at log) all i t lt in
+    let le = sum_by_more_le (need_there log) all i t lt in
     let one = one_need log all i t need h lt is says in
     let small = h.small in
     omega (arith, le, one, so_far, small)
 
-pub needs_whole : (log : Log) (all : List Transaction) (i total : ℕ) → length all ≤ i → total ≡ sum_by (need_at log) (take i all) → total ≡ sum_by (need_at log) all
-needs_whole log all i total le h = h ∙ ap (sum_by (need_at log)) (take_whole i all le)
+pub needs_whole : (log : Log) (all : List Transaction) (i total : ℕ) → length all ≤ i → total ≡ sum_by (need_there log) (take i all) → total ≡ sum_by (need_there log) all
+needs_whole log all i total le h = h ∙ ap (sum_by (need_there log)) (take_whole i all le)
 
-pub needs_less : (log : Log) (all : List Transaction) → sum_by (λ (t : Transaction). need_of log t.number - 1) all ≤ sum_by (need_at log) all
+pub needs_less : (log : Log) (all : List Transaction) → sum_by (λ (t : Transaction). need_of log t.number - 1) all ≤ sum_by (need_there log) all
 needs_less log [] = omega arith
 needs_less log (t ∷ all) =
     let a = sum_by-cons (λ (u : Transaction). need_of log u.number - 1) t all in
-    let b = sum_by-cons (need_at log) t all in
+    let b = sum_by-cons (need_there log) t all in
     let rest = needs_less log all in
     omega (arith, a, b, rest)

@@ -21,14 +21,14 @@ pub(crate) fn has_kind(records: &[Placed], kind: u64) -> bool
 
 // Whether there is the end of a commit.
 fn has_commit(records: &[Placed]) -> bool
-    ensures { result ≡ list_any (λ x. (x.cell.kind == 4) && (x.cell.outcome == 1)) records.now }
+    ensures { result ≡ list_any (λ x. (x.cell.kind == END) && (x.cell.outcome == COMMITTED)) records.now }
 {
     records.iter().any(|placed| placed.cell.kind == END && placed.cell.outcome == COMMITTED)
 }
 
 // Whether there is an end with a number below this one.
 fn has_end_below(records: &[Placed], number: u64) -> bool
-    ensures { result ≡ list_any (λ x. (x.cell.kind == 4) && nat_lt x.cell.lsn number) records.now }
+    ensures { result ≡ list_any (λ x. (x.cell.kind == END) && nat_lt x.cell.lsn number) records.now }
 {
     records.iter().any(|placed| placed.cell.kind == END && placed.cell.lsn < number)
 }
@@ -58,7 +58,7 @@ pub fn is_skipped(transaction: &Transaction, checkpoint: u64) -> bool
 
 // The newest checkpoint record's number with one record more.
 fn later_checkpoint(newest: u64, cell: Cell) -> u64
-    ensures { (e : ℕ) → (e < result) ↔ ((e < newest) ⊎ ((cell.kind ≡ 5) × (e < cell.lsn))) }
+    ensures { (e : ℕ) → (e < result) ↔ ((e < newest) ⊎ ((cell.kind ≡ CHECKPOINT) × (e < cell.lsn))) }
 {
     if cell.kind == CHECKPOINT && newest < cell.lsn {
         cell.lsn
@@ -81,7 +81,7 @@ pub fn newest_checkpoint(merged: &[Placed]) -> u64
 // How many updates wait to be undone with one record more: a compensation closes the newest.
 fn waiting_with(waiting: usize, kind: u64) -> usize
     requires { waiting + 1 < 2 ^ 64 }
-    ensures { result ≡ (if kind == 1 then waiting + 1 else (if kind == 2 then waiting - 1 else waiting)) }
+    ensures { result ≡ (if kind == UPDATE then waiting + 1 else (if kind == COMPENSATION then waiting - 1 else waiting)) }
 {
     match kind {
         UPDATE => waiting + 1,

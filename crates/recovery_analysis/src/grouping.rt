@@ -19,7 +19,7 @@ pub struct Transaction {
 
 // Copies of all records but those of checkpoints, which are of no transaction.
 fn without_checkpoints(alloc: Global, merged: &[Placed]) -> Result<Vec<Placed>, NoMemory>
-    ensures { IfOk result (λ kept. kept.items ≡ filter (λ x. not (x.cell.kind == 5)) merged.now) }
+    ensures { IfOk result (λ kept. kept.items ≡ filter (λ x. not (x.cell.kind == CHECKPOINT)) merged.now) }
 {
     let kept: Vec<Placed> = merged
         .iter()

@@ -7,12 +7,15 @@ use crate::changing::redo_of;
 use crate::picking::{losers_of, unskipped_of, winners_of};
 use crate::working::gates_of;
 use crate::{
-    Change, analyse, is_committed, is_running, is_skipped, need, newest_checkpoint, transactions,
-    work_of,
+    Change, Work, analyse, is_committed, is_running, is_skipped, need, newest_checkpoint,
+    transactions, work_of,
 };
 use bucket_log::Placed;
+use log_partition::merge;
 use persist_model::Look;
-use persist_model::format::{CHECKPOINT, COMPENSATION, DELETION, END, UPDATE};
+use persist_model::format::{
+    CHECKPOINT, COMMITTED, COMPENSATION, DELETION, END, NO_OUTCOME, UPDATE,
+};
 use region_layout::laws::layouts_are_allowed;
 use region_layout::{Cell, Kind, Layout, Policy, format};
 use std::alloc::Global;
@@ -33,7 +36,7 @@ fn record(lsn: u32, transaction: u64, kind: u64, address: u32) -> Placed
             before: 0,
             after: u64::from(lsn) * 10,
             undo_next: 0,
-            outcome: if kind == END { 1 } else { 0 },
+            outcome: if kind == END { COMMITTED } else { NO_OUTCOME },
         },
     }
 }
@@ -190,6 +193,15 @@ fn empty(alloc: Global, layout: Layout) -> Result<Row, Fail>
     })
 }
 
+/// What is to be done to recover a sound image.
+fn work_of_image(alloc: Global, row: &Row, layout: Layout) -> Result<Work, Fail>
+    requires { IsSoundImage layout (length row.now.words.items) (slice_index row.now.words.items) }
+{
+    let merged = merge(alloc, row, layout)?;
+    let work = work_of(alloc, merged.as_slice(), layout)?;
+    Ok(work)
+}
+
 #[test]
 fn nothing_is_to_be_done_without_records(rt: HostRuntime) -> Result<(), Fail> {
     let alloc = rt.alloc();
@@ -197,7 +209,7 @@ fn nothing_is_to_be_done_without_records(rt: HostRuntime) -> Result<(), Fail> {
     let row = empty(alloc, layout)?;
     let analysis = analyse(alloc, &row, layout)?;
     assert!(rt; analysis.winners.is_empty() && analysis.losers.is_empty());
-    let work = work_of(alloc, &row, layout)?;
+    let work = work_of_image(alloc, &row, layout)?;
     assert!(rt; work.redo.is_empty() && work.undo.is_empty());
     assert!(rt; !work.checkpoint);
     assert_eq!(rt; work.next, 1);

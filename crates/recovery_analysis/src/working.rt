@@ -3,15 +3,14 @@ ghost use Rattle.std.specs.Prelude.{◌≡◌, ◌↔◌, ℕ, ◌+◌, ◌*◌,
 ghost use Rattle.std.specs.List.{filter, list_any};
 ghost use Rattle.std.specs.Vec.{vec_len, vec_capacity};
 ghost use Rattle.persist_model.specs.Records.{Log, IsAmong};
-ghost use Rattle.persist_model.specs.State.{State, HasOpen};
+ghost use Rattle.persist_model.specs.State.{HasOpen};
 ghost use Rattle.persist_model.specs.Need.{need_of};
-ghost use Rattle.persist_model.specs.Sound.{HasState};
 ghost use Rattle.region_layout.specs.Layout.{layout_shape, policy_number};
 ghost use Rattle.bucket_log.specs.Scans.{record_of_placed};
 ghost use Rattle.recovery_run.specs.Groups.{ListsAll};
 ghost use Rattle.recovery_analysis.specs.Grouping.{AreTransactionsOf};
 ghost use Rattle.recovery_analysis.specs.Fates.{IsNewestCheckpoint};
-ghost use Rattle.recovery_analysis.specs.Conditions.{IsSoundImage, IsSoundMerge};
+ghost use Rattle.recovery_analysis.specs.Conditions.{IsSoundMerge};
 ghost use Rattle.recovery_analysis.specs.Needs.{AreSmall};
 ghost use Rattle.recovery_analysis.specs.Works.{IsWorkOf, HasSpare, next_lsn};
 
@@ -20,9 +19,8 @@ use crate::fates::{has_kind, is_skipped, need, newest_checkpoint};
 use crate::grouping::{Transaction, transactions};
 use crate::picking::{losers_of, unskipped_of, winners_of};
 use bucket_log::Placed;
-use log_partition::merge;
 use persist_model::format::{CHECKPOINT, END};
-use persist_model::{List, Look, NoMemory};
+use persist_model::{List, NoMemory};
 use recovery_run::{Gates, put_gate};
 use region_layout::{Layout, Policy};
 use std::alloc::Global;
@@ -73,7 +71,7 @@ fn next_number(merged: &[Placed]) -> u64
 
 // The transactions that have no end.
 fn running_of(all: List<Transaction>) -> List<Transaction>
-    ensures { result ≡ filter (λ t. not (list_any (λ x. x.cell.kind == 4) t.records)) all }
+    ensures { result ≡ filter (λ t. not (list_any (λ x. x.cell.kind == END) t.records)) all }
 {
     let mut kept = all.into_vec();
     kept.retain(|transaction| !has_kind(transaction.records.as_slice(), END));
@@ -93,11 +91,11 @@ fn total_need(undo: &[Transaction]) -> usize
 }
 
 // Puts the gate of a record into its group.
-fn put_gate(gates: &mut Gates, placed: Placed)
+fn put_gate_of(gates: &mut Gates, placed: Placed)
     requires { HasSpare gates.old 1 1 1 }
-    ensures gates { gates.new.gates.items ≡ gates.old.gates.items ++ (if (placed.cell.kind == 4) || (placed.cell.kind == 5) then [] else placed.at ∷ []) }
-    ensures ends { gates.new.ends.items ≡ gates.old.ends.items ++ (if placed.cell.kind == 4 then placed.at ∷ [] else []) }
-    ensures checkpoints { gates.new.checkpoints.items ≡ gates.old.checkpoints.items ++ (if placed.cell.kind == 5 then placed.at ∷ [] else []) }
+    ensures gates { gates.new.gates.items ≡ gates.old.gates.items ++ (if (placed.cell.kind == END) || (placed.cell.kind == CHECKPOINT) then [] else placed.at ∷ []) }
+    ensures ends { gates.new.ends.items ≡ gates.old.ends.items ++ (if placed.cell.kind == END then placed.at ∷ [] else []) }
+    ensures checkpoints { gates.new.checkpoints.items ≡ gates.old.checkpoints.items ++ (if placed.cell.kind == CHECKPOINT then placed.at ∷ [] else []) }
     ensures spare { (more ends checkpoints : ℕ) → HasSpare gates.old (more + 1) (ends + 1) (checkpoints + 1) → HasSpare gates.new more ends checkpoints }
 {
     match placed.cell.kind {
@@ -123,7 +121,7 @@ pub(crate) fn gates_of(
     let count = merged.len();
     let mut made = Gates::with_memory(alloc, count + more, count + ends, count + 1)?;
     for placed in merged {
-        put_gate(&mut made, *placed);
+        put_gate_of(&mut made, *placed);
     }
     Ok(made)
 }
@@ -156,8 +154,9 @@ fn appends_with(needed: usize, checkpoint: bool) -> usize
     if checkpoint { needed + 1 } else { needed }
 }
 
-// What is to be done, by the records of all partitions.
-fn plan_work(alloc: Global, merged: &[Placed], layout: Layout) -> Result<Work, NoMemory>
+/// What is to be done to recover an image with these records, ascending, with all the memory for it. Nothing changes where there
+/// is no memory.
+pub fn work_of(alloc: Global, merged: &[Placed], layout: Layout) -> Result<Work, NoMemory>
     requires { IsSoundMerge layout merged.now }
     ensures { IfOk result (IsWorkOf (layout_shape layout) (reverse (map record_of_placed merged.now))) }
 {
@@ -188,14 +187,4 @@ fn plan_work(alloc: Global, merged: &[Placed], layout: Layout) -> Result<Work, N
         next: next_number(merged),
         most: most_events(merged.len(), appends, layout),
     })
-}
-
-/// What is to be done to recover a sound image, with all the memory for it. Nothing changes where there is no memory.
-pub fn work_of<W: Look>(alloc: Global, words: &W, layout: Layout) -> Result<Work, NoMemory>
-    requires { IsSoundImage layout (length (W.words words.now)) (slice_index (W.words words.now)) }
-    ensures { (s : State) → HasState (layout_shape layout) (slice_index (W.words words.now)) s → IfOk result (IsWorkOf (layout_shape layout) s.log) }
-{
-    let merged = merge(alloc, words, layout)?;
-    let work = plan_work(alloc, merged.as_slice(), layout)?;
-    Ok(work)
 }

@@ -9,7 +9,7 @@ use Rattle.persist_model.specs.Shape.{part_of}
 use Rattle.persist_model.specs.State.{State, total_need}
 use Rattle.region_layout.specs.declared.layout.Layout.{Layout}
 use Rattle.region_layout.specs.Layout.{layout_shape}
-use Rattle.recovery_run.specs.declared.gates.Gates.{Gates}
+use Rattle.recovery_undo.specs.declared.held.Held.{Held}
 use Rattle.recovery_analysis.specs.declared.changing.Change.{Change}
 use Rattle.recovery_analysis.specs.declared.grouping.Transaction.{Transaction}
 use Rattle.recovery_analysis.specs.Grouping.{number_of}
@@ -56,21 +56,23 @@ all_events : (K redo records undone log need more buckets : ℕ) → redo + reco
     15 + (redo + 1) + ((K + 21) * need + records + undone) + (more * (K + 22) + (log + need + 3) + 7 * buckets) + 1 ≤ 20 + 2 * log + (23 + K) * (need + more) + 7 * buckets
 all_events K redo records undone log need more buckets few less = grind (arith, few, less)
 
-module _ (layout : Layout) (first : State) (redo : List Change) (running : List Transaction) (checkpoint : Bool) (next : ℕ) (gates : Gates) (most : ℕ) (region : Region)
-    (h : IsPlanned layout first redo running checkpoint next gates most region) where
+module _ (layout : Layout) (first : State) (redo : List Change) (running : List Transaction) (checkpoint : Bool) (held : Held) (most : ℕ) (region : Region)
+    (h : IsPlanned layout first redo running checkpoint held most region) where
   -- how many gates there will be, but for that of a checkpoint record
   abbrev pub planned_total : ℕ
-  planned_total = gates_len gates + sum_by (need_in_log first.log) running
+  planned_total = gates_len held.gates + sum_by (need_in_log first.log) running
 
-  pub plan_begins : Begins layout first planned_total redo running next gates region
+  pub plan_begins : Begins layout first planned_total redo running held region
   plan_begins = record {
     settled = h.settled;
+    sound = h.sound;
     redone = h.work.redo;
     words = h.work.redo_words;
     losers = h.work.undo;
     each = h.work.undo_records;
     next_is = h.work.next ∙ same_next first.log;
     lists = h.work.gates;
+    fits = h.fits;
     spare = h.work.spare;
     count = refl;
   }
@@ -102,16 +104,16 @@ module _ (layout : Layout) (first : State) (redo : List Change) (running : List 
           omega (arith, undone, all, same, is, count)
 
 -- behind the undo there are as many gates as were planned
-pub total_is : (layout : Layout) (first : State) (total next : ℕ) (gates : Gates) (region : Region) → Undoes layout first total [] next gates region → gates_len gates ≡ total
-total_is layout first total next gates region h = let count = h.count in omega (arith, count)
+pub total_is : (layout : Layout) (first : State) (total : ℕ) (held : Held) (region : Region) → Undoes layout first total [] held region → gates_len held.gates ≡ total
+total_is layout first total held region h = let count = h.count in omega (arith, count)
 
 no_numbers : (ts : List Transaction) → ((n : ℕ) → IsAmong (map number_of ts) n → ⊥) → ts ≡ []
 no_numbers [] none = refl
 no_numbers (t ∷ ts) none = absurd (none t.number (inl refl))
 
 -- where there is no record there is nothing to do
-module _ (layout : Layout) (first : State) (redo : List Change) (running : List Transaction) (checkpoint : Bool) (next : ℕ) (gates : Gates) (most : ℕ) (region : Region)
-    (h : IsPlanned layout first redo running checkpoint next gates most region) (empty : first.log ≡ []) where
+module _ (layout : Layout) (first : State) (redo : List Change) (running : List Transaction) (checkpoint : Bool) (held : Held) (most : ℕ) (region : Region)
+    (h : IsPlanned layout first redo running checkpoint held most region) (empty : first.log ≡ []) where
   pub none_redone : redo ≡ []
   none_redone = h.work.redo_none empty
 
@@ -125,12 +127,12 @@ module _ (layout : Layout) (first : State) (redo : List Change) (running : List 
       by_value true none = absurd (none refl)
       by_value false none = refl
 
-  pub no_gates : vec_len gates.gates ≡ length gates.gates.items → vec_len gates.ends ≡ length gates.ends.items → vec_len gates.checkpoints ≡ length gates.checkpoints.items → HasNoGates gates
+  pub no_gates : vec_len held.gates.gates ≡ length held.gates.gates.items → vec_len held.gates.ends ≡ length held.gates.ends.items → vec_len held.gates.checkpoints ≡ length held.gates.checkpoints.items → HasNoGates held.gates
   no_gates a b c =
       let count = h.work.count in
       let none : length first.log ≡ 0 = ap length empty in
       record {
-        gates = no_items gates.gates.items (omega (arith, a, count, none));
-        ends = no_items gates.ends.items (omega (arith, b, count, none));
-        checkpoints = no_items gates.checkpoints.items (omega (arith, c, count, none));
+        gates = no_items held.gates.gates.items (omega (arith, a, count, none));
+        ends = no_items held.gates.ends.items (omega (arith, b, count, none));
+        checkpoints = no_items held.gates.checkpoints.items (omega (arith, c, count, none));
       }

@@ -9,6 +9,7 @@ use Rattle.region_layout.specs.Layout.{layout_shape, policy_number}
 use Rattle.log_laws.proofs.Keeping.{loser_open}
 use Rattle.recovery_run.specs.declared.gates.Gates.{Gates}
 use Rattle.recovery_run.proofs.Reaching.{settled_reached, reached_sound}
+use Rattle.recovery_undo.specs.declared.held.Held.{Held}
 use Rattle.recovery_undo.specs.Checkpoint.{CanCheckpoint, IsCheckpointed}
 use Rattle.recovery_passes.specs.LoserPass.{Undoes, IsReady}
 
@@ -45,12 +46,12 @@ skipped_before news log t first plain k =
       ]
     ]
 
-module _ (layout : Layout) (first : State) (total next : ℕ) (gates : Gates) (region : Region) (h : Undoes layout first total [] next gates region) (sound : IsSoundState (layout_shape layout) first) where
+module _ (layout : Layout) (first : State) (total : ℕ) (held : Held) (region : Region) (h : Undoes layout first total [] held region) where
   over : (t : ℕ) → IsLoser h.state.log t → ⊥
   over t loser = h.losers t loser
 
   newest_first : IsNewestFirst (h.news ++ first.log)
-  newest_first = subst IsNewestFirst h.log (reached_sound (layout_shape layout) first h.state region (settled_reached (layout_shape layout) first h.state region h.settled) sound).0.newest_first
+  newest_first = subst IsNewestFirst h.log (reached_sound (layout_shape layout) first h.state region (settled_reached (layout_shape layout) first h.state region h.settled) h.sound).0.newest_first
 
   opened : HasOpen first.log → HasOpen h.state.log
   opened k = subst HasOpen (sym h.log) (k.0, among_behind h.news first.log k.0 k.1, (k.2.0, (λ skipped. k.2.1 (skipped_before h.news first.log k.0.transaction newest_first (λ r m. (h.of_losers r m).1) skipped))))
@@ -66,32 +67,34 @@ module _ (layout : Layout) (first : State) (total next : ℕ) (gates : Gates) (r
       not_five (inl one) five = absurd (omega (arith, one, five))
       not_five (inr two) five = absurd (omega (arith, two, five))
 
-  pub ready_plain : (((policy_number layout.policy) ≡ 2) × HasOpen first.log → ⊥) → IsReady layout first gates region
+  pub ready_plain : (((policy_number layout.policy) ≡ 2) × HasOpen first.log → ⊥) → IsReady layout first held.gates region
   ready_plain none = record {
     state = h.state;
     settled = h.settled;
+    sound = h.sound;
     quiet = h.quiet;
-    close = record { lists = h.lists; over = over; applied = h.applied; redone = λ a r m k. none (k.0, would_open a r m k) };
+    close = record { lists = h.holds.gates; over = over; applied = h.applied; redone = λ a r m k. none (k.0, would_open a r m k) };
   }
 
-  pub can_checkpoint : (policy_number layout.policy) ≡ 2 → HasOpen first.log → CanCheckpoint layout next gates first h.state region
+  pub can_checkpoint : (policy_number layout.policy) ≡ 2 → HasOpen first.log → CanCheckpoint layout held first h.state region
   can_checkpoint two is_open = record {
     settled = h.settled;
-    sound = sound;
+    sound = h.sound;
     quiet = h.quiet;
     no_force = two;
     opened = opened is_open;
     over = over;
     applied = h.applied;
-    next_is = h.next_is;
-    lists = h.lists;
+    holds = h.holds;
     fits = h.spare.of_checkpoints;
   }
 
-pub ready_checkpointed : (layout : Layout) (first y : State) (before gates : Gates) (next : ℕ) (region : Region) → IsCheckpointed layout before first y next gates region → IsReady layout first gates region
-ready_checkpointed layout first y before gates next region k = record {
+pub ready_checkpointed : (layout : Layout) (first y : State) (before : Gates) (held : Held) (region : Region) → IsSoundState (layout_shape layout) first →
+    IsCheckpointed layout before first y held region → IsReady layout first held.gates region
+ready_checkpointed layout first y before held region sound k = record {
   state = record { log = k.checkpoint ∷ y.log; words = y.words; room = k.room };
   settled = k.settled;
+  sound = sound;
   quiet = k.quiet;
-  close = record { lists = k.lists; over = k.over; applied = k.applied; redone = k.redone };
+  close = record { lists = k.holds.gates; over = k.over; applied = k.applied; redone = k.redone };
 }

@@ -1,5 +1,5 @@
 -- What recovery's clauses say, from what its stages did.
-use Rattle.std.proofs.Common.{◌≡◌, ℕ, ◌+◌, ◌-◌, ◌*◌, ◌≤◌, Bool, true, false, if◌then◌else◌, List, [], ◌∷◌, length, refl, sym, ap, ◌∙◌, subst, arith}
+use Rattle.std.proofs.Common.{◌≡◌, ℕ, ◌+◌, ◌-◌, ◌*◌, ◌≤◌, Bool, true, false, if◌then◌else◌, List, [], length, map, reverse, refl, sym, ap, ◌∙◌, subst, arith}
 use Rattle.std.specs.Prelude.{slice_index, IsTrue, ◌↔◌, Result, Err}
 use Rattle.persist_model.specs.ImageRules.{rule_number}
 use Rattle.persist_model.specs.Region.{Words, Region, AreSettled, newest_words}
@@ -15,7 +15,11 @@ use Rattle.log_laws.specs.Parts.{EachKeeps}
 use Rattle.log_laws.proofs.Soundness.{same_log}
 use Rattle.region_layout.specs.declared.layout.Layout.{Layout}
 use Rattle.region_layout.specs.Layout.{layout_shape}
-use Rattle.recovery_run.specs.declared.gates.Gates.{Gates}
+use Rattle.log_partition.specs.declared.used.UsedBuckets.{UsedBuckets}
+use Rattle.log_partition.specs.Used.{FitsBuckets}
+use Rattle.bucket_log.specs.declared.scanning.Placed.{Placed}
+use Rattle.bucket_log.specs.Scans.{record_of_placed}
+use Rattle.recovery_undo.specs.declared.held.Held.{Held}
 use Rattle.recovery_run.specs.Edges.{HasCounted, KeepsWords, IsPlainHeaderWord}
 use Rattle.recovery_run.specs.Reached.{newest_at, HasSettled}
 use Rattle.recovery_run.proofs.Reaching.{settled_begins}
@@ -31,6 +35,7 @@ use Rattle.recovery_passes.specs.declared.recovering.RecoverFault.{RecoverFault}
 use Rattle.recovery_passes.specs.declared.recovering.RecoverFault.TheVariants.{Unsound, Stopped as Halted}
 use Rattle.recovery_passes.specs.declared.recovering.Unfinished.{Unfinished}
 use Rattle.recovery_passes.specs.declared.recovering.Unfinished.TheVariants as unfinished
+use Rattle.recovery_passes.specs.Reading.{IsLogRead}
 use Rattle.recovery_passes.specs.Refusals.{unfinished_fault, IfRefused}
 use Rattle.recovery_passes.specs.Recovered.{IsFinished, Restores, EachStands, Lists, AreFates, HasNeed, with_checkpoint, forced, settled as no_checkpoint, most_events, AreFew}
 use Rattle.recovery_passes.specs.Stages.{AreQuiet, AreShort, IsIdle}
@@ -71,14 +76,17 @@ start_of layout old settled sound shape = record {
   shape_is = shape;
 }
 
--- the words that were read have the state
-pub read_state : (layout : Layout) (words : List ℕ) (old : Region) (s0 : State) → words ≡ newest_words old → IsStart layout old s0 → HasState (layout_shape layout) (slice_index words) s0
-read_state layout words old s0 is h =
-    subst (λ (xs : List ℕ). HasState (layout_shape layout) (slice_index xs) s0) (sym is) (subst (λ (s : Shape). HasState s (newest_at old) s0) (sym h.shape_is) h.begun.has)
-
+-- the records that were read of the words are those of the region
+pub records_read : (layout : Layout) (records : List Placed) (words : List ℕ) (old : Region) → words ≡ newest_words old → IsLogRead layout records (slice_index words) →
+    IsLogRead layout records (newest_at old)
+records_read layout records words old is h = subst (λ (xs : List ℕ). IsLogRead layout records (slice_index xs)) is h
 
 lists_of : (P : ℕ → Type 0) (ns : List ℕ) → AreThose P ns → Lists P ns
 lists_of P ns h = record { ascending = h.ascending; each = h.each }
+
+-- what is held of the log before the first event
+abbrev pub held_of : Work → UsedBuckets → Held
+held_of work table = record { next = work.next; gates = work.gates; table = table }
 
 module _ (layout : Layout) (old : Region) (s0 : State) (h : IsStart layout old s0) where
   abbrev w : Words
@@ -90,11 +98,12 @@ module _ (layout : Layout) (old : Region) (s0 : State) (h : IsStart layout old s
   pub sound_start : IsSoundState (layout_shape layout) s0
   sound_start = subst (λ (s : Shape). IsSoundState s s0) (sym h.shape_is) h.begun.sound
 
-  pub plan_of : (now : Region) (work : Work) (redo : List Change) (running : List Transaction) → now ≡ old → IsWorkOf (layout_shape layout) s0.log work → redo ≡ work.redo → running ≡ work.undo →
-      IsPlanned layout s0 redo running work.checkpoint work.next work.gates work.most now
-  plan_of now work redo running same is redo_is running_is = record {
+  pub plan_of : (now : Region) (work : Work) (redo : List Change) (running : List Transaction) (table : UsedBuckets) → now ≡ old → IsWorkOf (layout_shape layout) s0.log work → redo ≡ work.redo → running ≡ work.undo →
+      FitsBuckets (layout_shape layout) table → IsPlanned layout s0 redo running work.checkpoint (held_of work table) work.most now
+  plan_of now work redo running table same is redo_is running_is fits = record {
     settled = subst (λ (r : Region). HasSettled (layout_shape layout) s0 s0 r) (sym same) settled_start;
     sound = sound_start;
+    fits = fits;
     winners = work.winners;
     losers = work.losers;
     work = subst
@@ -178,9 +187,9 @@ module _ (layout : Layout) (old : Region) (s0 : State) (h : IsStart layout old s
     pub finished_short : AreShort (layout_shape layout) old
     finished_short = subst (λ (s : Shape). AreShort s old) (sym h.shape_is) done.few
 
-    pub idle_there : {redo : List Change} {running : List Transaction} {checkpoint : Bool} {next : ℕ} {gates : Gates} {most : ℕ} {now later : Region} {made : Done} {before after : Counts} →
-        IsPlanned layout s0 redo running checkpoint next gates most now → now ≡ old →
-        ((first : State) (m : ℕ) → IsPlanned layout first redo running checkpoint next gates m now → first.log ≡ [] → AreQuiet (layout_shape layout) now → AreShort (layout_shape layout) now → IsIdle made now later before after) →
+    pub idle_there : {redo : List Change} {running : List Transaction} {checkpoint : Bool} {held : Held} {most : ℕ} {now later : Region} {made : Done} {before after : Counts} →
+        IsPlanned layout s0 redo running checkpoint held most now → now ≡ old →
+        ((first : State) (m : ℕ) → IsPlanned layout first redo running checkpoint held m now → first.log ≡ [] → AreQuiet (layout_shape layout) now → AreShort (layout_shape layout) now → IsIdle made now later before after) →
         IsIdle made now later before after
     idle_there {most = most} planned same idle = idle s0 most planned finished_empty
         (subst (λ (r : Region). AreQuiet (layout_shape layout) r) (sym same) finished_quiet) (subst (λ (r : Region). AreShort (layout_shape layout) r) (sym same) finished_short)
@@ -210,26 +219,28 @@ stopped_few most n before later h is = let cause = h.cause refl in let few = h.f
 -- ---- before the first event
 
 -- what recovery begins with, its work, and its plan for the device that has made room
-pub record IsReady (layout : Layout) (old now : Region) (s0 : State) (work : Work) (redo : List Change) (running : List Transaction) : Type 0 where
+pub record IsReady (layout : Layout) (old now : Region) (s0 : State) (work : Work) (redo : List Change) (running : List Transaction) (table : UsedBuckets) : Type 0 where
   pub start : IsStart layout old s0
   pub work_is : IsWorkOf (layout_shape layout) s0.log work
-  pub plan : IsPlanned layout s0 redo running work.checkpoint work.next work.gates work.most now
+  pub plan : IsPlanned layout s0 redo running work.checkpoint (held_of work table) work.most now
 
-pub ready_of : (layout : Layout) (words : List ℕ) (old now : Region) (s0 : State) (work : Work) (redo : List Change) (running : List Transaction) → words ≡ newest_words old → IsStart layout old s0 →
-    ((s : State) → HasState (layout_shape layout) (slice_index words) s → IsWorkOf (layout_shape layout) s.log work) → now ≡ old → redo ≡ work.redo → running ≡ work.undo → IsReady layout old now s0 work redo running
-ready_of layout words old now s0 work redo running is start reads same redo_is running_is =
-    let work_is = reads s0 (read_state layout words old s0 is start) in
-    record { start = start; work_is = work_is; plan = plan_of layout old s0 start now work redo running same work_is redo_is running_is }
+pub ready_of : (layout : Layout) (records : List Placed) (old now : Region) (s0 : State) (work : Work) (redo : List Change) (running : List Transaction) (table : UsedBuckets) → IsStart layout old s0 →
+    IsLogRead layout records (newest_at old) → IsWorkOf (layout_shape layout) (reverse (map record_of_placed records)) work → now ≡ old → redo ≡ work.redo → running ≡ work.undo →
+    FitsBuckets (layout_shape layout) table → IsReady layout old now s0 work redo running table
+ready_of layout records old now s0 work redo running table start are reads same redo_is running_is fits =
+    let has : HasState (layout_shape layout) (newest_at old) s0 = subst (λ (s : Shape). HasState s (newest_at old) s0) (sym start.shape_is) start.begun.has in
+    let work_is = subst (λ (log : Log). IsWorkOf (layout_shape layout) log work) (are s0 has) reads in
+    record { start = start; work_is = work_is; plan = plan_of layout old s0 start now work redo running table same work_is redo_is running_is fits }
 
 -- a plan has an event to spare
-pub counted_there : {layout : Layout} {s0 : State} {redo : List Change} {running : List Transaction} {checkpoint : Bool} {next : ℕ} {gates : Gates} {most spare : ℕ} {now : Region} {done : Done} {before taken later : Counts} →
-    IsPlanned layout s0 redo running checkpoint next gates most now → most ≤ spare → taken ≡ before →
-    ((first : State) (m : ℕ) → IsPlanned layout first redo running checkpoint next gates (m + 1) now → m + 1 ≤ spare → HasCounted m done taken later) → HasCounted (most - 1) done before later
-counted_there {layout = layout} {s0 = s0} {redo = redo} {running = running} {checkpoint = checkpoint} {next = next} {gates = gates} {most = most} {now = now} {done = done} {later = later} h enough same counted =
+pub counted_there : {layout : Layout} {s0 : State} {redo : List Change} {running : List Transaction} {checkpoint : Bool} {held : Held} {most spare : ℕ} {now : Region} {done : Done} {before taken later : Counts} →
+    IsPlanned layout s0 redo running checkpoint held most now → most ≤ spare → taken ≡ before →
+    ((first : State) (m : ℕ) → IsPlanned layout first redo running checkpoint held (m + 1) now → m + 1 ≤ spare → HasCounted m done taken later) → HasCounted (most - 1) done before later
+counted_there {layout = layout} {s0 = s0} {redo = redo} {running = running} {checkpoint = checkpoint} {held = held} {most = most} {now = now} {done = done} {later = later} h enough same counted =
     let is = h.work.most in
     let more : most ≡ (most - 1) + 1 = omega (arith, is) in
     subst (λ (n : Counts). HasCounted (most - 1) done n later) same
-    (counted s0 (most - 1) (subst (λ n. IsPlanned layout s0 redo running checkpoint next gates n now) more h) (omega (arith, more, enough)))
+    (counted s0 (most - 1) (subst (λ n. IsPlanned layout s0 redo running checkpoint held n now) more h) (omega (arith, more, enough)))
 
 -- ---- a refusal
 

@@ -6,7 +6,9 @@ use Rattle.persist_model.specs.State.{State}
 use Rattle.log_laws.specs.Recovering.{with_heap}
 use Rattle.region_layout.specs.declared.layout.Layout.{Layout}
 use Rattle.region_layout.specs.Layout.{layout_shape}
-use Rattle.recovery_run.specs.declared.gates.Gates.{Gates}
+use Rattle.log_partition.specs.declared.used.UsedBuckets.{UsedBuckets}
+use Rattle.recovery_undo.specs.declared.held.Held.{Held}
+use Rattle.recovery_undo.specs.RecoveryAppends.{KnowsRegion}
 use Rattle.recovery_run.specs.Edges.{KeepsWords}
 use Rattle.recovery_run.specs.Reached.{HasSettled}
 use Rattle.recovery_analysis.specs.declared.changing.Change.{Change}
@@ -19,8 +21,8 @@ use Rattle.recovery_passes.proofs.Closed.{quiet_kept}
 use Rattle.recovery_passes.specs.LoserPass.{Begins, Undoes}
 use Rattle.recovery_passes.specs.Stages.{AreQuiet, MayStore}
 
-module _ (layout : Layout) (first : State) (total : ℕ) (redo : List Change) (running : List Transaction) (next : ℕ) (gates : Gates) (region : Region)
-    (h : Begins layout first total redo running next gates region) where
+module _ (layout : Layout) (first : State) (total : ℕ) (redo : List Change) (running : List Transaction) (held : Held) (region : Region)
+    (h : Begins layout first total redo running held region) where
   -- the values may be stored
   pub may_store : MayStore (layout_shape layout) first redo
   may_store = record {
@@ -34,15 +36,15 @@ module _ (layout : Layout) (first : State) (total : ℕ) (redo : List Change) (r
   stores_above a lt c m e = let le = (h.words c m).0 in absurd (omega (arith, lt, le, e))
 
   -- what is to be undone, once all is stored again
-  pub undo_begins : (later : Region) → HasSettled (layout_shape layout) first (with_heap first (stored redo first.words)) later → AreQuiet (layout_shape layout) later →
-      Undoes layout first total running next gates later
-  undo_begins later settled quiet = record {
+  pub undo_begins : (table : UsedBuckets) (later : Region) → HasSettled (layout_shape layout) first (with_heap first (stored redo first.words)) later → AreQuiet (layout_shape layout) later →
+      KnowsRegion layout table later → Undoes layout first total running (record held { table = table }) later
+  undo_begins table later settled quiet knows = record {
     state = with_heap first (stored redo first.words);
     settled = settled;
+    sound = h.sound;
     quiet = quiet;
     applied = h.redone.applied first.words;
-    next_is = h.next_is;
-    lists = h.lists;
+    holds = record { next = h.next_is; gates = h.lists; table = knows };
     news = [];
     log = refl;
     of_losers = λ r m. absurd m;
@@ -55,10 +57,10 @@ module _ (layout : Layout) (first : State) (total : ℕ) (redo : List Change) (r
     count = h.count;
   }
 
-  pub undoes_at : (middle later : Region) → layout.partitions ≤ 3 → HasSettled (layout_shape layout) first first middle → AreQuiet (layout_shape layout) middle →
+  pub undoes_at : (table : UsedBuckets) (middle later : Region) → layout.partitions ≤ 3 → HasSettled (layout_shape layout) first first middle → AreQuiet (layout_shape layout) middle →
       HasSettled (layout_shape layout) first (with_heap first (stored redo first.words)) later → KeepsWords (λ a. (c : Change) → IsAmong redo c → a ≡ c.word → ⊥) middle later →
-      Undoes layout first total running next gates later
-  undoes_at middle later few settled quiet there keeps =
-      undo_begins later there
+      KnowsRegion layout table later → Undoes layout first total running (record held { table = table }) later
+  undoes_at table middle later few settled quiet there keeps knows =
+      undo_begins table later there
       (quiet_kept (λ a. (c : Change) → IsAmong redo c → a ≡ c.word → ⊥) (layout_shape layout) first first (with_heap first (stored redo first.words)) middle later
-      (settled_reached (layout_shape layout) first first middle settled) there keeps (λ a lt. stores_above a lt) few quiet)
+      (settled_reached (layout_shape layout) first first middle settled) there keeps (λ a lt. stores_above a lt) few quiet) knows

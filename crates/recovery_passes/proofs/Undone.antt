@@ -5,14 +5,13 @@ use Rattle.std.proofs.lemmas.List.Sums.{sum_by-cons}
 use Rattle.persist_model.specs.Region.{Region}
 use Rattle.persist_model.specs.Records.{Record, Log, IsAmong, IsLoser}
 use Rattle.persist_model.specs.Need.{need_of}
-use Rattle.persist_model.specs.State.{State, IsSoundState}
+use Rattle.persist_model.specs.State.{State}
 use Rattle.lane_traits.specs.declared.device.Done.{Done}
 use Rattle.lane_traits.specs.declared.device.Done.TheVariants.{Made, Stopped}
 use Rattle.lane_traits.specs.Device.{Counts}
 use Rattle.region_layout.specs.declared.layout.Layout.{Layout}
-use Rattle.region_layout.specs.Layout.{layout_shape}
 use Rattle.bucket_log.specs.declared.scanning.Placed.{Placed}
-use Rattle.recovery_run.specs.declared.gates.Gates.{Gates}
+use Rattle.recovery_undo.specs.declared.held.Held.{Held}
 use Rattle.recovery_analysis.specs.declared.grouping.Transaction.{Transaction}
 use Rattle.recovery_analysis.specs.Grouping.{number_of}
 use Rattle.recovery_analysis.specs.Works.{need_in_log}
@@ -38,10 +37,10 @@ among_map (x ∷ ts) t (inl e) = inl (ap number_of e)
 among_map (x ∷ ts) t (inr m) = inr (among_map ts t m)
 
 -- t runs, and may be undone
-pub can_undo : (layout : Layout) (first : State) (total : ℕ) (t : Transaction) (left : List Transaction) (next : ℕ) (gates : Gates) (region : Region) (spare : ℕ) →
-    (h : Undoes layout first total (t ∷ left) next gates region) → IsSoundState (layout_shape layout) first → undo_events layout t.number t.records first.log ≤ spare →
-    CanUndo layout t.number t.records next gates first h.state region spare
-can_undo layout first total t left next gates region spare h sound enough =
+pub can_undo : (layout : Layout) (first : State) (total : ℕ) (t : Transaction) (left : List Transaction) (held : Held) (region : Region) (spare : ℕ) →
+    (h : Undoes layout first total (t ∷ left) held region) → undo_events layout t.number t.records first.log ≤ spare →
+    CanUndo layout t.number t.records held first h.state region spare
+can_undo layout first total t left held region spare h enough =
     let mine = h.each t (inl refl) in
     let need : need_of h.state.log t.number ≡ need_of first.log t.number = mine.need in
     let some = need_some h.state.log t.number mine.loser.1 in
@@ -50,23 +49,22 @@ can_undo layout first total t left next gates region spare h sound enough =
     let sum = sum_by-cons (λ (x : Transaction). need_in_log first.log x - 1) t left in
     record {
       settled = h.settled;
-      sound = sound;
+      sound = h.sound;
       quiet = h.quiet;
       loser = mine.loser;
       records_are = mine.records;
-      next_is = h.next_is;
       applied = h.applied;
-      lists = h.lists;
+      holds = h.holds;
       gates_fit = omega (arith, of_gates, sum, need, some);
       ends_fit = omega (arith, of_ends);
       spare_fits = subst (λ n. (layout.cells + 21) * n + length t.records + 1 ≤ spare) (sym need) enough;
     }
 
 -- behind its undo the others are left
-pub undoes_next : (layout : Layout) (first : State) (total : ℕ) (t : Transaction) (left : List Transaction) (next later_next : ℕ) (gates later_gates : Gates) (region later : Region) →
-    (h : Undoes layout first total (t ∷ left) next gates region) → IsUndone layout t.number gates first h.state later_next later_gates later →
-    Undoes layout first total left later_next later_gates later
-undoes_next layout first total t left next later_next gates later_gates region later h k =
+pub undoes_next : (layout : Layout) (first : State) (total : ℕ) (t : Transaction) (left : List Transaction) (held more : Held) (region later : Region) →
+    (h : Undoes layout first total (t ∷ left) held region) → IsUndone layout t.number held.gates first h.state more later →
+    Undoes layout first total left more later
+undoes_next layout first total t left held more region later h k =
     let mine = h.each t (inl refl) in
     let need : need_of h.state.log t.number ≡ need_of first.log t.number = mine.need in
     let notes = k.notes_are in
@@ -75,8 +73,8 @@ undoes_next layout first total t left next later_next gates later_gates region l
     let g1 = grown.gates_memory in
     let e0 = grown.ends in
     let e1 = grown.ends_memory in
-    let c0 : vec_len later_gates.checkpoints ≡ vec_len gates.checkpoints = ap vec_len grown.checkpoints in
-    let c1 : vec_capacity later_gates.checkpoints ≡ vec_capacity gates.checkpoints = ap vec_capacity grown.checkpoints in
+    let c0 : vec_len more.gates.checkpoints ≡ vec_len held.gates.checkpoints = ap vec_len grown.checkpoints in
+    let c1 : vec_capacity more.gates.checkpoints ≡ vec_capacity held.gates.checkpoints = ap vec_capacity grown.checkpoints in
     let sum = sum_by-cons (λ (x : Transaction). need_in_log first.log x - 1) t left in
     let total_sum = sum_by-cons (need_in_log first.log) t left in
     let of_gates = h.spare.of_gates in
@@ -87,10 +85,10 @@ undoes_next layout first total t left next later_next gates later_gates region l
     record {
       state = k.state;
       settled = k.settled;
+      sound = h.sound;
       quiet = k.quiet;
       applied = k.applied;
-      next_is = k.next_is;
-      lists = k.lists;
+      holds = k.holds;
       news = k.news ++ h.news;
       log = k.log ∙ ap (λ l. k.news ++ l) h.log ∙ sym (assoc k.news h.news first.log);
       of_losers = λ r m. elim (among_append k.news h.news r m) [
@@ -141,22 +139,22 @@ events_split layout log ts i d lt = ap (undo_all_events layout log) (drop_at ts 
 
 -- ---- how far the undo of all has come
 
-module _ (layout : Layout) (first : State) (total : ℕ) (all left : List Transaction) (t : Transaction) (rest : List Transaction) (next : ℕ) (gates : Gates) (region : Region) (counts now_counts : Counts) (spare now : ℕ)
-    (records : List Placed) (same : records ≡ t.records) (h : HasGoneOn layout first total all left next gates region counts now_counts spare now) (is : left ≡ t ∷ rest) (sound : IsSoundState (layout_shape layout) first)
+module _ (layout : Layout) (first : State) (total : ℕ) (all left : List Transaction) (t : Transaction) (rest : List Transaction) (held : Held) (region : Region) (counts now_counts : Counts) (spare now : ℕ)
+    (records : List Placed) (same : records ≡ t.records) (h : HasGoneOn layout first total all left held region counts now_counts spare now) (is : left ≡ t ∷ rest)
     (enough : undo_all_events layout first.log all ≤ spare) where
-  pub here : Undoes layout first total (t ∷ rest) next gates region
-  here = subst (λ ts. Undoes layout first total ts next gates region) is h.undoes
+  pub here : Undoes layout first total (t ∷ rest) held region
+  here = subst (λ ts. Undoes layout first total ts held region) is h.undoes
 
   split : undo_all_events layout first.log left ≡ undo_events layout t.number t.records first.log + undo_all_events layout first.log rest
   split = ap (undo_all_events layout first.log) is ∙ sum_by-cons (λ (x : Transaction). undo_events layout x.number x.records first.log) t rest
 
-  pub gone_can : CanUndo layout t.number records next gates first here.state region now
+  pub gone_can : CanUndo layout t.number records held first here.state region now
   gone_can =
       let s = split in
       let whole = h.left_is in
       let left_over = h.spare_left in
-      subst (λ rs. CanUndo layout t.number rs next gates first here.state region now) (sym same)
-      (can_undo layout first total t rest next gates region now here sound (omega (arith, s, whole, left_over, enough)))
+      subst (λ rs. CanUndo layout t.number rs held first here.state region now) (sym same)
+      (can_undo layout first total t rest held region now here (omega (arith, s, whole, left_over, enough)))
 
   events_same : undo_events layout t.number records here.state.log ≡ undo_events layout t.number t.records first.log
   events_same = ap (λ rs. undo_events layout t.number rs here.state.log) same ∙ ap (λ n. (layout.cells + 21) * n + length t.records + 1) (here.each t (inl refl)).need
@@ -181,16 +179,16 @@ module _ (layout : Layout) (first : State) (total : ℕ) (all left : List Transa
       let e = events_same in
       omega (arith, s, whole, left_over, e, k)
 
-  pub gone_next : (later_next : ℕ) (later_gates : Gates) (later : Region) (later_counts : Counts) (later_spare : ℕ) →
-      IsUndone layout t.number gates first here.state later_next later_gates later → HasCounted (undo_events layout t.number records here.state.log) Made now_counts later_counts →
-      now ≤ later_spare + undo_events layout t.number records here.state.log → HasGoneOn layout first total all rest later_next later_gates later counts later_counts spare later_spare
-  gone_next later_next later_gates later later_counts later_spare undone counted spare_now =
+  pub gone_next : (more : Held) (later : Region) (later_counts : Counts) (later_spare : ℕ) →
+      IsUndone layout t.number held.gates first here.state more later → HasCounted (undo_events layout t.number records here.state.log) Made now_counts later_counts →
+      now ≤ later_spare + undo_events layout t.number records here.state.log → HasGoneOn layout first total all rest more later counts later_counts spare later_spare
+  gone_next more later later_counts later_spare undone counted spare_now =
       let s = split in
       let whole = h.left_is in
       let left_over = h.spare_left in
       let e = events_same in
       record {
-        undoes = undoes_next layout first total t rest next later_next gates later_gates region later here undone;
+        undoes = undoes_next layout first total t rest held more region later here undone;
         used = h.used + undo_events layout t.number t.records first.log;
         counted = gone_counted Made later_counts counted;
         left_is = omega (arith, s, whole);

@@ -1,4 +1,5 @@
 pub mod Recovered
+pub mod Reading
 pub mod Stages
 pub mod LoserPass
 pub mod Going

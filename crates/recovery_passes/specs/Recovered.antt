@@ -1,5 +1,5 @@
 -- What a recovery owes: what it makes of a sound image, what a stop in it leaves, and what it reports.
-use Rattle.std.specs.Prelude.{◌≡◌, ◌≢◌, ◌↔◌, ℕ, ◌+◌, ◌*◌, ◌<◌, ◌≤◌, List, [], ◌∷◌, length, slice_index}
+use Rattle.std.specs.Prelude.{◌≡◌, ◌≢◌, ◌↔◌, ℕ, ◌+◌, ◌*◌, ◌<◌, ◌≤◌, List, [], length, slice_index}
 use Rattle.persist_model.specs.Region.{Words, Region, IsImage}
 use Rattle.persist_model.specs.Records.{IsAmong, IsCommitted, IsLoser}
 use Rattle.persist_model.specs.Shape.{Shape, shape_of, part_of, IsHeapWord}

@@ -1,11 +1,9 @@
 // The first stages of a recovery: the lists are repaired, what ended transactions wrote is stored again, and running ones are undone.
 ghost use Rattle.std.specs.Prelude.{◌≡◌, ◌≤◌, ◌+◌, [], ℕ};
-ghost use Rattle.persist_model.specs.State.{State, IsSoundState};
+ghost use Rattle.persist_model.specs.State.{State};
 ghost use Rattle.log_laws.specs.Parts.{EachKeeps};
 ghost use Rattle.region_layout.specs.Layout.{layout_shape};
 ghost use Rattle.recovery_run.specs.Edges.{HasCounted, KeepsWords, IsPlainHeaderWord};
-ghost use Rattle.log_partition.specs.Used.{FitsBuckets};
-ghost use Rattle.recovery_undo.specs.RecoveryAppends.{KnowsRegion};
 ghost use Rattle.recovery_passes.specs.LoserPass.{Begins, Undoes, begin_events};
 ghost use Rattle.recovery_passes.specs.Stages.{AreQuiet, IsIdle};
 
@@ -13,9 +11,8 @@ use crate::list_stages::repair_all;
 use crate::redo::redo_all;
 use crate::undo_stage::undo_all;
 use lane_traits::{Device, Done};
-use log_partition::UsedBuckets;
 use recovery_analysis::{Change, Transaction};
-use recovery_run::Gates;
+use recovery_undo::Held;
 use region_layout::Layout;
 
 /// Repairs the lists, stores these values again and undoes these transactions. The table is read once the lists are repaired.
@@ -24,30 +21,26 @@ pub fn bring_back<D: Device>(
     layout: Layout,
     redo: &[Change],
     running: &[Transaction],
-    next: &mut u64,
-    gates: &mut Gates,
-    table: &mut UsedBuckets,
+    held: &mut Held,
 ) -> Done
-    requires can { (first : State) × (total : ℕ) × Begins layout first total redo.now running.now next.old gates.old (D.cells device.old)
-        × IsSoundState (layout_shape layout) first × (begin_events layout first.log redo.now running.now ≤ D.spare device.old) }
-    requires table { FitsBuckets (layout_shape layout) table.old }
-    ensures made { result ≡ Done.Made → (first : State) (total : ℕ) → Begins layout first total redo.now running.now next.old gates.old (D.cells device.old)
-        → IsSoundState (layout_shape layout) first → begin_events layout first.log redo.now running.now ≤ D.spare device.old
-        → Undoes layout first total [] next.new gates.new (D.cells device.new) }
-    ensures stopped { result ≡ Done.Stopped → (first : State) (total : ℕ) → Begins layout first total redo.now running.now next.old gates.old (D.cells device.old)
-        → IsSoundState (layout_shape layout) first → begin_events layout first.log redo.now running.now ≤ D.spare device.old
+    requires { (first : State) × (total : ℕ) × Begins layout first total redo.now running.now held.old (D.cells device.old)
+        × (begin_events layout first.log redo.now running.now ≤ D.spare device.old) }
+    ensures made { result ≡ Done.Made → (first : State) (total : ℕ) → Begins layout first total redo.now running.now held.old (D.cells device.old)
+        → begin_events layout first.log redo.now running.now ≤ D.spare device.old
+        → Undoes layout first total [] held.new (D.cells device.new) }
+    ensures stopped { result ≡ Done.Stopped → (first : State) (total : ℕ) → Begins layout first total redo.now running.now held.old (D.cells device.old)
+        → begin_events layout first.log redo.now running.now ≤ D.spare device.old
         → EachKeeps (layout_shape layout) first (D.cells device.new) }
-    ensures counted { (first : State) (total : ℕ) → Begins layout first total redo.now running.now next.old gates.old (D.cells device.old)
-        → IsSoundState (layout_shape layout) first → begin_events layout first.log redo.now running.now ≤ D.spare device.old
+    ensures counted { (first : State) (total : ℕ) → Begins layout first total redo.now running.now held.old (D.cells device.old)
+        → begin_events layout first.log redo.now running.now ≤ D.spare device.old
         → HasCounted (begin_events layout first.log redo.now running.now) result (D.counts device.old) (D.counts device.new) }
-    ensures spare_left { (first : State) (total : ℕ) → Begins layout first total redo.now running.now next.old gates.old (D.cells device.old)
-        → IsSoundState (layout_shape layout) first → begin_events layout first.log redo.now running.now ≤ D.spare device.old
+    ensures spare_left { (first : State) (total : ℕ) → Begins layout first total redo.now running.now held.old (D.cells device.old)
+        → begin_events layout first.log redo.now running.now ≤ D.spare device.old
         → D.spare device.old ≤ D.spare device.new + begin_events layout first.log redo.now running.now }
     ensures header { KeepsWords (IsPlainHeaderWord (layout_shape layout)) (D.cells device.old) (D.cells device.new) }
     ensures idle { AreQuiet (layout_shape layout) (D.cells device.old) → redo.now ≡ [] → running.now ≡ []
         → IsIdle result (D.cells device.old) (D.cells device.new) (D.counts device.old) (D.counts device.new) }
-    ensures idle_gates { running.now ≡ [] → gates.new ≡ gates.old }
-    ensures table { result ≡ Done.Made → KnowsRegion layout table.new (D.cells device.new) }
+    ensures idle_gates { running.now ≡ [] → held.new.gates ≡ held.old.gates }
 {
     match repair_all(device, layout) {
         Done::Stopped => return Done::Stopped,
@@ -57,6 +50,6 @@ pub fn bring_back<D: Device>(
         Done::Stopped => return Done::Stopped,
         Done::Made => {}
     }
-    table.read(device, layout);
-    undo_all(device, layout, running, next, gates, table)
+    held.table.read(device, layout);
+    undo_all(device, layout, running, held)
 }

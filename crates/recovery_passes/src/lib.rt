@@ -1,6 +1,6 @@
 //! Recovery: what the log of a sound image asks for is made on a device that may stop at any event.
 //!
-//! `check` and `analyse`, with which it begins, are exported here too: they read words and make no event.
+//! `check`, `read_sound` and `analyse` are exported here too: they read words and make no event.
 #![tactic(auto)]
 
 mod beginning;
@@ -11,6 +11,6 @@ mod recovering;
 mod redo;
 mod undo_stage;
 
-pub use recovering::{RecoverFault, Recovered, Unfinished, recover, recover_sound};
+pub use recovering::{RecoverFault, Recovered, Unfinished, recover, recover_read, recover_sound};
 pub use recovery_analysis::{Analysis, analyse};
-pub use sound_check::{CheckFault, check};
+pub use sound_check::{CheckFault, SoundLog, check, read_sound};

@@ -4,7 +4,6 @@ ghost use Rattle.persist_model.specs.State.{State};
 ghost use Rattle.log_laws.specs.Parts.{EachKeeps};
 ghost use Rattle.region_layout.specs.Layout.{layout_shape};
 ghost use Rattle.recovery_run.specs.Edges.{HasCounted, KeepsWords, IsPlainHeaderWord};
-ghost use Rattle.log_partition.specs.Used.{FitsBuckets};
 ghost use Rattle.recovery_passes.specs.LoserPass.{IsCleared};
 ghost use Rattle.recovery_passes.specs.Plans.{IsPlanned};
 ghost use Rattle.recovery_passes.specs.Stages.{AreQuiet, AreShort, IsIdle};
@@ -12,50 +11,36 @@ ghost use Rattle.recovery_passes.specs.Stages.{AreQuiet, AreShort, IsIdle};
 use crate::beginning::bring_back;
 use crate::clearing::clear;
 use lane_traits::{Device, Done};
-use log_partition::UsedBuckets;
 use recovery_analysis::{Change, Transaction};
-use recovery_run::Gates;
+use recovery_undo::Held;
 use region_layout::Layout;
 
 /// Makes all events of a recovery, by what was read before: the values to be stored again, the transactions to be undone,
-/// whether a checkpoint record is wanted, the next number, the gates of all records, and memory for the table of used buckets.
+/// whether a checkpoint record is wanted, and what is held of the log, with memory for the table of used buckets.
 pub fn make_events<D: Device>(
     device: &mut D,
     layout: Layout,
     redo: &[Change],
     running: &[Transaction],
     checkpoint: bool,
-    next: u64,
-    gates: Gates,
-    table: UsedBuckets,
+    held: Held,
 ) -> Done
-    requires can { (first : State) × (most : ℕ) × IsPlanned layout first redo.now running.now checkpoint next gates most (D.cells device.old) × (most ≤ D.spare device.old) × (most < 2 ^ 64) }
-    requires table { FitsBuckets (layout_shape layout) table }
-    ensures made { result ≡ Done.Made → (first : State) (most : ℕ) → IsPlanned layout first redo.now running.now checkpoint next gates most (D.cells device.old) → most ≤ D.spare device.old
+    requires { (first : State) × (most : ℕ) × IsPlanned layout first redo.now running.now checkpoint held most (D.cells device.old) × (most ≤ D.spare device.old) × (most < 2 ^ 64) }
+    ensures made { result ≡ Done.Made → (first : State) (most : ℕ) → IsPlanned layout first redo.now running.now checkpoint held most (D.cells device.old) → most ≤ D.spare device.old
         → IsCleared layout first (D.cells device.new) }
-    ensures stopped { result ≡ Done.Stopped → (first : State) (most : ℕ) → IsPlanned layout first redo.now running.now checkpoint next gates most (D.cells device.old) → most ≤ D.spare device.old
+    ensures stopped { result ≡ Done.Stopped → (first : State) (most : ℕ) → IsPlanned layout first redo.now running.now checkpoint held most (D.cells device.old) → most ≤ D.spare device.old
         → EachKeeps (layout_shape layout) first (D.cells device.new) }
-    ensures counted { (first : State) (most : ℕ) → IsPlanned layout first redo.now running.now checkpoint next gates (most + 1) (D.cells device.old) → most + 1 ≤ D.spare device.old
+    ensures counted { (first : State) (most : ℕ) → IsPlanned layout first redo.now running.now checkpoint held (most + 1) (D.cells device.old) → most + 1 ≤ D.spare device.old
         → HasCounted most result (D.counts device.old) (D.counts device.new) }
     ensures header { KeepsWords (IsPlainHeaderWord (layout_shape layout)) (D.cells device.old) (D.cells device.new) }
-    ensures idle { (first : State) (most : ℕ) → IsPlanned layout first redo.now running.now checkpoint next gates most (D.cells device.old) → first.log ≡ []
+    ensures idle { (first : State) (most : ℕ) → IsPlanned layout first redo.now running.now checkpoint held most (D.cells device.old) → first.log ≡ []
         → AreQuiet (layout_shape layout) (D.cells device.old) → AreShort (layout_shape layout) (D.cells device.old)
         → IsIdle result (D.cells device.old) (D.cells device.new) (D.counts device.old) (D.counts device.new) }
 {
-    let mut number = next;
-    let mut all = gates;
-    let mut known = table;
-    match bring_back(
-        device,
-        layout,
-        redo,
-        running,
-        &mut number,
-        &mut all,
-        &mut known,
-    ) {
+    let mut grown = held;
+    match bring_back(device, layout, redo, running, &mut grown) {
         Done::Stopped => return Done::Stopped,
         Done::Made => {}
     }
-    clear(device, layout, checkpoint, number, all, &mut known)
+    clear(device, layout, checkpoint, grown)
 }

@@ -1,48 +1,41 @@
 // The stage of a recovery that takes back what running transactions wrote.
 ghost use Rattle.std.specs.Prelude.{◌≡◌, ◌≤◌, ◌+◌, [], ℕ};
-ghost use Rattle.persist_model.specs.State.{State, IsSoundState};
+ghost use Rattle.persist_model.specs.State.{State};
 ghost use Rattle.log_laws.specs.Parts.{EachKeeps};
 ghost use Rattle.region_layout.specs.Layout.{layout_shape};
 ghost use Rattle.recovery_run.specs.Edges.{HasCounted, KeepsWords, IsPlainHeaderWord};
-ghost use Rattle.recovery_undo.specs.RecoveryAppends.{KnowsRegion};
 ghost use Rattle.recovery_passes.specs.LoserPass.{Undoes, undo_all_events};
 ghost use Rattle.recovery_passes.specs.Stages.{IsIdle};
 
 use lane_traits::{Device, Done};
-use log_partition::UsedBuckets;
 use recovery_analysis::Transaction;
-use recovery_run::Gates;
-use recovery_undo::undo;
+use recovery_undo::{Held, undo};
 use region_layout::Layout;
 
-/// Undoes each transaction, in order. The table has the chains, before and behind it.
+/// Undoes each transaction, in order.
 pub fn undo_all<D: Device>(
     device: &mut D,
     layout: Layout,
     running: &[Transaction],
-    next: &mut u64,
-    gates: &mut Gates,
-    table: &mut UsedBuckets,
+    held: &mut Held,
 ) -> Done
-    requires can { (first : State) × (total : ℕ) × Undoes layout first total running.now next.old gates.old (D.cells device.old)
-        × IsSoundState (layout_shape layout) first × (undo_all_events layout first.log running.now ≤ D.spare device.old) }
-    requires table { KnowsRegion layout table.old (D.cells device.old) }
-    ensures made { result ≡ Done.Made → (first : State) (total : ℕ) → Undoes layout first total running.now next.old gates.old (D.cells device.old)
-        → IsSoundState (layout_shape layout) first → undo_all_events layout first.log running.now ≤ D.spare device.old
-        → Undoes layout first total [] next.new gates.new (D.cells device.new) }
-    ensures stopped { result ≡ Done.Stopped → (first : State) (total : ℕ) → Undoes layout first total running.now next.old gates.old (D.cells device.old)
-        → IsSoundState (layout_shape layout) first → undo_all_events layout first.log running.now ≤ D.spare device.old
+    requires { (first : State) × (total : ℕ) × Undoes layout first total running.now held.old (D.cells device.old)
+        × (undo_all_events layout first.log running.now ≤ D.spare device.old) }
+    ensures made { result ≡ Done.Made → (first : State) (total : ℕ) → Undoes layout first total running.now held.old (D.cells device.old)
+        → undo_all_events layout first.log running.now ≤ D.spare device.old
+        → Undoes layout first total [] held.new (D.cells device.new) }
+    ensures stopped { result ≡ Done.Stopped → (first : State) (total : ℕ) → Undoes layout first total running.now held.old (D.cells device.old)
+        → undo_all_events layout first.log running.now ≤ D.spare device.old
         → EachKeeps (layout_shape layout) first (D.cells device.new) }
-    ensures counted { (first : State) (total : ℕ) → Undoes layout first total running.now next.old gates.old (D.cells device.old)
-        → IsSoundState (layout_shape layout) first → undo_all_events layout first.log running.now ≤ D.spare device.old
+    ensures counted { (first : State) (total : ℕ) → Undoes layout first total running.now held.old (D.cells device.old)
+        → undo_all_events layout first.log running.now ≤ D.spare device.old
         → HasCounted (undo_all_events layout first.log running.now) result (D.counts device.old) (D.counts device.new) }
-    ensures spare_left { (first : State) (total : ℕ) → Undoes layout first total running.now next.old gates.old (D.cells device.old)
-        → IsSoundState (layout_shape layout) first → undo_all_events layout first.log running.now ≤ D.spare device.old
+    ensures spare_left { (first : State) (total : ℕ) → Undoes layout first total running.now held.old (D.cells device.old)
+        → undo_all_events layout first.log running.now ≤ D.spare device.old
         → D.spare device.old ≤ D.spare device.new + undo_all_events layout first.log running.now }
     ensures header { KeepsWords (IsPlainHeaderWord (layout_shape layout)) (D.cells device.old) (D.cells device.new) }
     ensures idle { running.now ≡ [] → IsIdle result (D.cells device.old) (D.cells device.new) (D.counts device.old) (D.counts device.new) }
-    ensures idle_gates { running.now ≡ [] → gates.new ≡ gates.old }
-    ensures table { result ≡ Done.Made → KnowsRegion layout table.new (D.cells device.new) }
+    ensures idle_gates { running.now ≡ [] → held.new.gates ≡ held.old.gates }
 {
     for transaction in running {
         match undo(
@@ -50,9 +43,7 @@ pub fn undo_all<D: Device>(
             layout,
             transaction.number,
             transaction.records.as_slice(),
-            next,
-            gates,
-            table,
+            held,
         ) {
             Done::Stopped => return Done::Stopped,
             Done::Made => {}

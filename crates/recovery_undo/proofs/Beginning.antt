@@ -21,6 +21,7 @@ use Rattle.bucket_log.proofs.Scans.{among_map, map_among, reverse_among, among_r
 use Rattle.recovery_run.specs.declared.gates.Gates.{Gates}
 use Rattle.recovery_run.specs.Groups.{records_of}
 use Rattle.recovery_run.proofs.Reaching.{settled_reached, reached_sound}
+use Rattle.recovery_undo.specs.declared.held.Held.{Held}
 use Rattle.recovery_undo.specs.declared.target.Target.{Target}
 use Rattle.recovery_undo.specs.RecoveryAppends.{with_cell}
 use Rattle.recovery_undo.specs.Numbers.{next_lsn}
@@ -88,7 +89,7 @@ none_rolled records t log is any r m k =
 length_is : (records : List Placed) → length records ≡ length (reverse (map record_of_placed records))
 length_is records = sym (length-map records record_of_placed) ∙ sym (length-reverse (map record_of_placed records))
 
-module _ (target : Target) (start : Start) (records : List Placed) (next : ℕ) (gates : Gates) (now : Seen) (h : Begins target start records next gates now) where
+module _ (target : Target) (start : Start) (records : List Placed) (held : Held) (now : Seen) (h : Begins target start records held now) where
   abbrev shape : Shape
   shape = layout_shape target.layout
 
@@ -99,25 +100,25 @@ module _ (target : Target) (start : Start) (records : List Placed) (next : ℕ) 
   y = start.state
 
   few : 1 ≤ shape.partitions
-  few = few_partitions target start y (length records) next gates now h.gone
+  few = few_partitions target start y (length records) held now h.gone
 
-  passes_from : (z : State) (raised : ℕ) (more : Gates) (later : Seen) → HasGone target start z (length records) raised more later →
-      IsUndoing shape t target.partition y z → Has (λ x. IsOf t x × IsRollback x) z.log → z.words ≡ y.words → to_undo t z.log ≡ to_undo t y.log → Passes target start (reverse (map record_of_placed records)) 0 raised more later
-  passes_from z raised more later gone undoing rolled words stack = record {
+  passes_from : (z : State) (more : Held) (later : Seen) → HasGone target start z (length records) more later →
+      IsUndoing shape t target.partition y z → Has (λ x. IsOf t x × IsRollback x) z.log → z.words ≡ y.words → to_undo t z.log ≡ to_undo t y.log → Passes target start (reverse (map record_of_placed records)) 0 more later
+  passes_from z more later gone undoing rolled words stack = record {
     state = z;
-    gone = subst (λ n. HasGone target start z n raised more later) (length_is records) gone;
+    gone = subst (λ n. HasGone target start z n more later) (length_is records) gone;
     passing = subst (λ l. IsPassing shape t target.partition y z l 0) (sym h.records_are) (pass_begins shape t target.partition y z undoing rolled words stack);
   }
 
-  pub rolled_passes : list_any is_rollback records ≡ true → Passes target start (reverse (map record_of_placed records)) 0 next gates now
-  rolled_passes any = passes_from y next gates now h.gone h.undoing (rolled_of records t y.log h.records_are any) refl refl
+  pub rolled_passes : list_any is_rollback records ≡ true → Passes target start (reverse (map record_of_placed records)) 0 held now
+  rolled_passes any = passes_from y held now h.gone h.undoing (rolled_of records t y.log h.records_are any) refl refl
 
-  module _ (any : list_any is_rollback records ≡ false) (cell : Cell) (cell_is : (at : ℕ) → record_of at cell ≡ plain_record at next target.transaction 3 0) where
+  module _ (any : list_any is_rollback records ≡ false) (cell : Cell) (cell_is : (at : ℕ) → record_of at cell ≡ plain_record at held.next target.transaction 3 0) where
     first : HasNo (λ x. IsOf t x × IsRollback x) y.log
     first = none_rolled records t y.log h.records_are any
 
     record_is : (at : ℕ) → record_of at cell ≡ plain_record at (next_lsn y.log) t 3 0
-    record_is at = cell_is at ∙ ap (λ n. plain_record at n t 3 0) h.gone.next_is
+    record_is at = cell_is at ∙ ap (λ n. plain_record at n t 3 0) h.gone.holds.next
 
     pub can_roll : CanNote target start.state start.state cell
     can_roll = record {
@@ -129,12 +130,12 @@ module _ (target : Target) (start : Start) (records : List Placed) (next : ℕ) 
       less = λ at. subst (λ (r : Record). need_of (r ∷ y.log) t + 1 ≡ need_of y.log t) (sym (record_is at)) (rollback_less shape t target.partition y y few h.undoing at first);
     }
 
-    pub roll_goes : (at raised : ℕ) (more : Gates) (later : Seen) → part_of (layout_shape target.layout) at ≡ target.partition →
-        HasGone target start (with_cell start.state target.partition cell at) (length records) raised more later → Passes target start (reverse (map record_of_placed records)) 0 raised more later
-    roll_goes at raised more later here gone =
+    pub roll_goes : (at : ℕ) (more : Held) (later : Seen) → part_of (layout_shape target.layout) at ≡ target.partition →
+        HasGone target start (with_cell start.state target.partition cell at) (length records) more later → Passes target start (reverse (map record_of_placed records)) 0 more later
+    roll_goes at more later here gone =
         let r = plain_record at (next_lsn y.log) t 3 0 in
-        passes_from (grown y r (less_room target.partition y.room)) raised more later
-        (subst (λ (x : Record). HasGone target start (grown y x (less_room target.partition y.room)) (length records) raised more later) (record_is at) gone)
+        passes_from (grown y r (less_room target.partition y.room)) more later
+        (subst (λ (x : Record). HasGone target start (grown y x (less_room target.partition y.room)) (length records) more later) (record_is at) gone)
         (rolled_back shape t target.partition y y few h.undoing at here first)
         (r, inl refl, ((refl, (λ five. absurd (omega (arith, five)))), refl)) refl (rolled_stack t at (next_lsn y.log) y.log)
 
@@ -150,7 +151,7 @@ nothing_spent shape now = record {
 abbrev pub start_of : Layout → ℕ → List Placed → Gates → State → State → Seen → Start
 start_of layout t records gates first y now = record { now = now; gates = gates; first = first; state = y; most = undo_events layout t records y.log }
 
-module _ (layout : Layout) (t next : ℕ) (records : List Placed) (gates : Gates) (first y : State) (now : Seen) (h : CanUndo layout t records next gates first y now.region now.spare) where
+module _ (layout : Layout) (t : ℕ) (records : List Placed) (held : Held) (first y : State) (now : Seen) (h : CanUndo layout t records held first y now.region now.spare) where
   -- there is a record
   pub some_record : 0 < length records
   some_record =
@@ -169,7 +170,7 @@ module _ (layout : Layout) (t next : ℕ) (records : List Placed) (gates : Gates
   first_among (x ∷ xs) d lt = inl refl
 
   pub begins : (p : ℕ) (inside : p < layout.partitions) (d : Placed) → p ≡ part_of (layout_shape layout) (get_or records 0 d).at →
-      Begins (record { layout = layout; transaction = t; partition = p; inside = inside }) (start_of layout t records gates first y now) records next gates now
+      Begins (record { layout = layout; transaction = t; partition = p; inside = inside }) (start_of layout t records held.gates first y now) records held now
   begins p inside d part =
       let x = get_or records 0 d in
       let m = among_records records t y.log h.records_are x (first_among records d some_record) in
@@ -179,8 +180,7 @@ module _ (layout : Layout) (t next : ℕ) (records : List Placed) (gates : Gates
           origin = sound;
           reached = settled_reached (layout_shape layout) first y now.region h.settled;
           quiet = h.quiet;
-          next_is = h.next_is;
-          lists = h.lists;
+          holds = h.holds;
           gates_len = refl;
           gates_memory = omega arith;
           gates_fit = h.gates_fit;

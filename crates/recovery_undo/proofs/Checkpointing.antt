@@ -15,19 +15,19 @@ use Rattle.region_layout.specs.declared.layout.Layout.{Layout}
 use Rattle.region_layout.specs.Cell.{record_of}
 use Rattle.region_layout.specs.Layout.{layout_shape}
 use Rattle.bucket_log.specs.States.{less_room}
-use Rattle.recovery_run.specs.declared.gates.Gates.{Gates}
 use Rattle.recovery_run.specs.Groups.{ListsAll}
 use Rattle.recovery_run.specs.Reached.{HasSettled}
 use Rattle.recovery_run.proofs.Reaching.{settled_reached, reached_sound}
-use Rattle.recovery_undo.specs.RecoveryAppends.{AreQuiet, CanTake, StepsTo, with_cell}
+use Rattle.recovery_undo.specs.declared.held.Held.{Held}
+use Rattle.recovery_undo.specs.RecoveryAppends.{AreQuiet, CanTake, KnowsRegion, StepsTo, with_cell}
 use Rattle.recovery_undo.specs.Checkpoint.{CanCheckpoint, IsCheckpointed}
 use Rattle.recovery_undo.specs.Numbers.{next_lsn}
 use Rattle.recovery_undo.specs.Records.{plain_record}
 use Rattle.recovery_undo.proofs.Noting.{above_all, appends_here}
 use Rattle.recovery_undo.proofs.Going.{next_fits, next_is_some, lists_checkpoint}
 
-module _ (layout : Layout) (next : ℕ) (gates : Gates) (first y : State) (region : Region) (h : CanCheckpoint layout next gates first y region)
-    (cell : Cell) (cell_is : (at : ℕ) → record_of at cell ≡ plain_record at next 0 5 0) (some : 0 < layout.partitions) where
+module _ (layout : Layout) (held : Held) (first y : State) (region : Region) (h : CanCheckpoint layout held first y region)
+    (cell : Cell) (cell_is : (at : ℕ) → record_of at cell ≡ plain_record at held.next 0 5 0) (some : 0 < layout.partitions) where
   abbrev shape : Shape
   shape = layout_shape layout
 
@@ -35,7 +35,7 @@ module _ (layout : Layout) (next : ℕ) (gates : Gates) (first y : State) (regio
   sound = (reached_sound shape first y region (settled_reached shape first y region h.settled) h.sound).0
 
   record_is : (at : ℕ) → record_of at cell ≡ plain_record at (next_lsn y.log) 0 5 0
-  record_is at = cell_is at ∙ ap (λ n. plain_record at n 0 5 0) h.next_is
+  record_is at = cell_is at ∙ ap (λ n. plain_record at n 0 5 0) h.holds.next
 
   gate_is : cell.lsn ≡ next_lsn y.log
   gate_is = ap (λ (r : Record). r.lsn) (record_is 0)
@@ -53,8 +53,8 @@ module _ (layout : Layout) (next : ℕ) (gates : Gates) (first y : State) (regio
     above = λ r m. (let lt = above_all y.log (good_of shape y sound).falls r m in let g = gate_is in omega (arith, lt, g));
   }
 
-  pub checkpoint_next : next + 1 < 2 ^ 64
-  checkpoint_next = let n = next_fits shape y sound h.opened.0 h.opened.1 in let e = h.next_is in omega (arith, n, e)
+  pub checkpoint_next : held.next + 1 < 2 ^ 64
+  checkpoint_next = let n = next_fits shape y sound h.opened.0 h.opened.1 in let e = h.holds.next in omega (arith, n, e)
 
   formed : (at : ℕ) → IsWellFormed shape (plain_record at (next_lsn y.log) 0 5 0)
   formed at = record {
@@ -74,15 +74,18 @@ module _ (layout : Layout) (next : ℕ) (gates : Gates) (first y : State) (regio
   pub checkpoint_steps : StepsTo layout 0 cell y
   checkpoint_steps at here = subst (λ (r : Record). Step shape y (grown y r (less_room 0 y.room))) (sym (record_is at)) (step at here)
 
-  pub checkpointed : (at : ℕ) → part_of (layout_shape layout) at ≡ 0 → (more : Gates) (later : Region) → HasSettled (layout_shape layout) first (with_cell y 0 cell at) later → AreQuiet (layout_shape layout) later →
-      more.checkpoints.items ≡ gates.checkpoints.items ++ at ∷ [] → vec_len more.checkpoints ≡ vec_len gates.checkpoints + 1 → vec_capacity gates.checkpoints ≤ vec_capacity more.checkpoints →
-      more.gates ≡ gates.gates → more.ends ≡ gates.ends → IsCheckpointed layout gates first y (next + 1) more later
-  checkpointed at here more later settled quiet items len memory same_gates same_ends =
+  pub checkpointed : (at : ℕ) → part_of (layout_shape layout) at ≡ 0 → (more : Held) (later : Region) → HasSettled (layout_shape layout) first (with_cell y 0 cell at) later → AreQuiet (layout_shape layout) later →
+      KnowsRegion layout more.table later → more.next ≡ held.next + 1 →
+      more.gates.checkpoints.items ≡ held.gates.checkpoints.items ++ at ∷ [] → vec_len more.gates.checkpoints ≡ vec_len held.gates.checkpoints + 1 →
+      vec_capacity held.gates.checkpoints ≤ vec_capacity more.gates.checkpoints → more.gates.gates ≡ held.gates.gates → more.gates.ends ≡ held.gates.ends →
+      IsCheckpointed layout held.gates first y more later
+  checkpointed at here more later settled quiet knows raised items len memory same_gates same_ends =
       let c = record_of at cell in
       let five : IsCheckpoint c = ap (λ (r : Record). r.kind) (record_is at) in
       let taken = checkpoint_take in
       let after = (recovery_keeps shape y (grown y c (less_room 0 y.room)) sound (checkpoint_steps at here)).0 in
-      let lists : ListsAll (c ∷ y.log) gates.gates.items gates.ends.items (gates.checkpoints.items ++ at ∷ []) = lists_checkpoint y.log c gates.gates.items gates.ends.items gates.checkpoints.items five h.lists in
+      let lists : ListsAll (c ∷ y.log) held.gates.gates.items held.gates.ends.items (held.gates.checkpoints.items ++ at ∷ []) =
+      lists_checkpoint y.log c held.gates.gates.items held.gates.ends.items held.gates.checkpoints.items five h.holds.gates in
       record {
         checkpoint = c;
         is = five;
@@ -93,10 +96,13 @@ module _ (layout : Layout) (next : ℕ) (gates : Gates) (first y : State) (regio
         over = λ t l. h.over t (has_back (IsOf t) c y.log (λ k. k.1 five) l.0, λ e m end. l.1 e (inr m) end);
         applied = applied_checkpointed shape.policy y.log y.words c five taken.above (numbered (part_of shape) (c ∷ y.log) (c ∷ y.log) after.order) h.applied;
         redone = λ a r m k. (let e = has_back _ c y.log (λ q. (let four = q.0 in absurd (omega (arith, five, four)))) k.3 in k.4 (e.0, inr e.1, (e.2, (c, inl refl, (five, taken.above e.0 e.1)))));
-        next_is = (let n = h.next_is in let g = gate_is in let both : next ≡ cell.lsn = n ∙ sym g in ap (λ m. m + 1) both);
-        lists = subst (λ l. ListsAll (c ∷ y.log) more.gates.items more.ends.items l) (sym items)
-            (subst (λ v. ListsAll (c ∷ y.log) v.items more.ends.items (gates.checkpoints.items ++ at ∷ [])) (sym same_gates)
-            (subst (λ v. ListsAll (c ∷ y.log) gates.gates.items v.items (gates.checkpoints.items ++ at ∷ [])) (sym same_ends) lists));
+        holds = record {
+          next = (let n = h.holds.next in let g = gate_is in let both : held.next ≡ cell.lsn = n ∙ sym g in raised ∙ ap (λ m. m + 1) both);
+          gates = subst (λ l. ListsAll (c ∷ y.log) more.gates.gates.items more.gates.ends.items l) (sym items)
+              (subst (λ v. ListsAll (c ∷ y.log) v.items more.gates.ends.items (held.gates.checkpoints.items ++ at ∷ [])) (sym same_gates)
+              (subst (λ v. ListsAll (c ∷ y.log) held.gates.gates.items v.items (held.gates.checkpoints.items ++ at ∷ [])) (sym same_ends) lists));
+          table = knows;
+        };
         same_gates = same_gates;
         same_ends = same_ends;
         len = len;

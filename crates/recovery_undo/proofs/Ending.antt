@@ -15,13 +15,13 @@ use Rattle.region_layout.specs.Cell.{record_of}
 use Rattle.region_layout.specs.Layout.{layout_shape}
 use Rattle.bucket_log.specs.States.{less_room}
 use Rattle.bucket_log.proofs.Scans.{among_append, among_right}
-use Rattle.recovery_run.specs.declared.gates.Gates.{Gates}
 use Rattle.recovery_run.specs.Edges.{HasCounted, KeepsWords}
 use Rattle.recovery_run.specs.Groups.{records_of, ListsAll}
 use Rattle.recovery_run.specs.Reached.{HasSettled}
 use Rattle.recovery_run.proofs.Reaching.{settled_reached}
+use Rattle.recovery_undo.specs.declared.held.Held.{Held}
 use Rattle.recovery_undo.specs.declared.target.Target.{Target}
-use Rattle.recovery_undo.specs.RecoveryAppends.{AreQuiet, CanTake, StepsTo, with_cell}
+use Rattle.recovery_undo.specs.RecoveryAppends.{AreQuiet, CanTake, KnowsRegion, StepsTo, with_cell}
 use Rattle.recovery_undo.specs.Numbers.{next_lsn}
 use Rattle.recovery_undo.specs.Records.{plain_record}
 use Rattle.recovery_undo.specs.UndoProgress.{Seen, HasSpent, Start, Passes, Finishes, Halts}
@@ -30,7 +30,7 @@ use Rattle.recovery_undo.proofs.UndoPass.{pass_stack, pass_stored}
 use Rattle.recovery_undo.proofs.RecordsOf.{need_of-records_of, others_stay}
 use Rattle.recovery_undo.proofs.Going.{spent_more, spent_within, few_partitions, next_fits, next_is_some, quiet_kept, at_most_three, halts, lists_end}
 
-module _ (target : Target) (start : Start) (counter next : ℕ) (gates : Gates) (now : Seen) (h : Passes target start [] counter next gates now) where
+module _ (target : Target) (start : Start) (counter : ℕ) (held : Held) (now : Seen) (h : Passes target start [] counter held now) where
   abbrev shape : Shape
   shape = layout_shape target.layout
 
@@ -47,7 +47,7 @@ module _ (target : Target) (start : Start) (counter next : ℕ) (gates : Gates) 
   K = target.layout.cells
 
   few : 1 ≤ shape.partitions
-  few = few_partitions target start z 0 next gates now h.gone
+  few = few_partitions target start z 0 held now h.gone
 
   nothing : to_undo t z.log ≡ []
   nothing = pass_stack shape t part start.state z counter h.passing
@@ -65,22 +65,22 @@ module _ (target : Target) (start : Start) (counter next : ℕ) (gates : Gates) 
   fits = let f : h.gone.used + (K + 21) * 1 + 0 + 1 ≤ start.most = subst (λ n. h.gone.used + (K + 21) * n + 0 + 1 ≤ start.most) need_is h.gone.fits in omega (arith, f)
 
   pub fence_halts : (later : Seen) → EachKeeps (layout_shape target.layout) start.first later.region → HasSpent (layout_shape target.layout) 1 Stopped now later → Halts target start later
-  fence_halts later keeps spent = halts target start z 0 next gates now h.gone 1 later (let f = fits in omega (arith, f)) keeps spent
+  fence_halts later keeps spent = halts target start z 0 held now h.gone 1 later (let f = fits in omega (arith, f)) keeps spent
 
   -- ---- behind the fence
 
   module _ (kept : Seen) (settled : HasSettled (layout_shape target.layout) start.first h.state kept.region) (counted : HasCounted 1 Made now.counts kept.counts) (spare : now.spare ≤ kept.spare)
       (keeps : KeepsWords (λ a. Unit {0}) now.region kept.region) (full : (a : ℕ) → 0 < length (kept.region.at a))
-      (cell : Cell) (cell_is : (at : ℕ) → record_of at cell ≡ plain_record at next target.transaction 4 2) where
+      (cell : Cell) (cell_is : (at : ℕ) → record_of at cell ≡ plain_record at held.next target.transaction 4 2) where
     fenced : HasSpent shape 1 Made now kept
     fenced = record { counted = counted; spare = omega (arith, spare); header = λ a v is one. keeps a v tt one }
 
     pub fenced_quiet : AreQuiet (layout_shape target.layout) kept.region
-    fenced_quiet = quiet_kept shape start.first z now.region kept.region (λ a. Unit {0}) (at_most_three target start z 0 next gates now h.gone) h.gone.reached (λ a lt. tt) keeps
+    fenced_quiet = quiet_kept shape start.first z now.region kept.region (λ a. Unit {0}) (at_most_three target start z 0 held now h.gone) h.gone.reached (λ a lt. tt) keeps
         (settled.come.size ∙ sym h.gone.reached.come.size) full h.gone.quiet
 
     record_is : (at : ℕ) → record_of at cell ≡ plain_record at (next_lsn z.log) t 4 2
-    record_is at = cell_is at ∙ ap (λ n. plain_record at n t 4 2) h.gone.next_is
+    record_is at = cell_is at ∙ ap (λ n. plain_record at n t 4 2) h.gone.holds.next
 
     gate_is : cell.lsn ≡ next_lsn z.log
     gate_is = ap (λ (r : Record). r.lsn) (record_is 0)
@@ -106,11 +106,11 @@ module _ (target : Target) (start : Start) (counter next : ℕ) (gates : Gates) 
         let e = h.gone.enough in
         omega (arith, f, s, e, spare)
 
-    pub end_next : next + 1 < 2 ^ 64
-    end_next = let n = next_fits shape z h.passing.undoing.sound h.passing.undoing.some.0 h.passing.undoing.some.1 in let e = h.gone.next_is in omega (arith, n, e)
+    pub end_next : held.next + 1 < 2 ^ 64
+    end_next = let n = next_fits shape z h.passing.undoing.sound h.passing.undoing.some.0 h.passing.undoing.some.1 in let e = h.gone.holds.next in omega (arith, n, e)
 
-    pub end_fits : vec_len gates.ends < vec_capacity gates.ends
-    end_fits = let f = h.gone.ends_fit in let e : gates.ends ≡ start.gates.ends = h.gone.ends in subst (λ v. vec_len v < vec_capacity v) (sym e) (omega (arith, f))
+    pub end_fits : vec_len held.gates.ends < vec_capacity held.gates.ends
+    end_fits = let f = h.gone.ends_fit in let e : held.gates.ends ≡ start.gates.ends = h.gone.ends in subst (λ v. vec_len v < vec_capacity v) (sym e) (omega (arith, f))
 
     used_all : (done : Done) (later : Seen) → HasSpent shape (K + 21) done kept later → HasSpent shape start.most done start.now later
     used_all done later spent = spent_within shape (h.gone.used + 1 + (K + 21)) start.most done start.now later (let f = fits in omega (arith, f))
@@ -173,18 +173,19 @@ module _ (target : Target) (start : Start) (counter next : ℕ) (gates : Gates) 
         λ r k end. elim (among_append news y.log r (subst (λ l. IsAmong l r) log_is k)) [ inl new ↦ ne (sym end.1 ∙ (mine r new).0) | inr old ↦ lose.1 r old end ],
       )
 
-      pub finishes : (more : Gates) (later : Seen) → HasSettled (layout_shape target.layout) start.first (with_cell h.state target.partition cell at) later.region →
+      pub finishes : (more : Held) (later : Seen) → HasSettled (layout_shape target.layout) start.first (with_cell h.state target.partition cell at) later.region →
           AreQuiet (layout_shape target.layout) later.region → HasSpent (layout_shape target.layout) (target.layout.cells + 21) Made kept later →
-          more.ends.items ≡ gates.ends.items ++ at ∷ [] → vec_len more.ends ≡ vec_len gates.ends + 1 → vec_capacity gates.ends ≤ vec_capacity more.ends →
-          more.gates ≡ gates.gates → more.checkpoints ≡ gates.checkpoints → Finishes target start (next + 1) more later
-      finishes more later settled_later quiet_later spent items len memory same_gates checkpoints =
-          let lists : ListsAll (e ∷ z.log) gates.gates.items (gates.ends.items ++ at ∷ []) gates.checkpoints.items =
-          lists_end z.log e gates.gates.items gates.ends.items gates.checkpoints.items end_kind h.gone.lists in
-          let ends_same : gates.ends ≡ start.gates.ends = h.gone.ends in
-          let ends_len : vec_len gates.ends ≡ vec_len start.gates.ends = ap (λ v. vec_len v) ends_same in
-          let ends_memory : vec_capacity gates.ends ≡ vec_capacity start.gates.ends = ap (λ v. vec_capacity v) ends_same in
-          let gates_len : vec_len more.gates ≡ vec_len gates.gates = ap (λ v. vec_len v) same_gates in
-          let gates_memory : vec_capacity more.gates ≡ vec_capacity gates.gates = ap (λ v. vec_capacity v) same_gates in
+          KnowsRegion target.layout more.table later.region → more.next ≡ held.next + 1 →
+          more.gates.ends.items ≡ held.gates.ends.items ++ at ∷ [] → vec_len more.gates.ends ≡ vec_len held.gates.ends + 1 → vec_capacity held.gates.ends ≤ vec_capacity more.gates.ends →
+          more.gates.gates ≡ held.gates.gates → more.gates.checkpoints ≡ held.gates.checkpoints → Finishes target start more later
+      finishes more later settled_later quiet_later spent knows raised items len memory same_gates checkpoints =
+          let lists : ListsAll (e ∷ z.log) held.gates.gates.items (held.gates.ends.items ++ at ∷ []) held.gates.checkpoints.items =
+          lists_end z.log e held.gates.gates.items held.gates.ends.items held.gates.checkpoints.items end_kind h.gone.holds.gates in
+          let ends_same : held.gates.ends ≡ start.gates.ends = h.gone.ends in
+          let ends_len : vec_len held.gates.ends ≡ vec_len start.gates.ends = ap (λ v. vec_len v) ends_same in
+          let ends_memory : vec_capacity held.gates.ends ≡ vec_capacity start.gates.ends = ap (λ v. vec_capacity v) ends_same in
+          let gates_len : vec_len more.gates.gates ≡ vec_len held.gates.gates = ap (λ v. vec_len v) same_gates in
+          let gates_memory : vec_capacity more.gates.gates ≡ vec_capacity held.gates.gates = ap (λ v. vec_capacity v) same_gates in
           record {
             undone = record {
               state = with_cell z part cell at;
@@ -201,10 +202,13 @@ module _ (target : Target) (start : Start) (counter next : ℕ) (gates : Gates) 
               still_losers = still_losers;
               applied = subst (λ (r : Record). AreApplied shape.policy (r ∷ z.log) z.words) (sym (record_is at))
                   (ended_applied shape t part start.state z few h.passing.undoing at here h.passing.rolled nothing stored);
-              next_is = (let n = h.gone.next_is in let g = gate_is in let both : next ≡ cell.lsn = n ∙ sym g in ap (λ m. m + 1) both);
-              lists = subst (λ l. ListsAll (e ∷ z.log) more.gates.items l more.checkpoints.items) (sym items)
-                  (subst (λ v. ListsAll (e ∷ z.log) v.items (gates.ends.items ++ at ∷ []) more.checkpoints.items) (sym same_gates)
-                  (subst (λ v. ListsAll (e ∷ z.log) gates.gates.items (gates.ends.items ++ at ∷ []) v.items) (sym checkpoints) lists));
+              holds = record {
+                next = (let n = h.gone.holds.next in let g = gate_is in let both : held.next ≡ cell.lsn = n ∙ sym g in raised ∙ ap (λ m. m + 1) both);
+                gates = subst (λ l. ListsAll (e ∷ z.log) more.gates.gates.items l more.gates.checkpoints.items) (sym items)
+                    (subst (λ v. ListsAll (e ∷ z.log) v.items (held.gates.ends.items ++ at ∷ []) more.gates.checkpoints.items) (sym same_gates)
+                    (subst (λ v. ListsAll (e ∷ z.log) held.gates.gates.items (held.gates.ends.items ++ at ∷ []) v.items) (sym checkpoints) lists));
+                table = knows;
+              };
               notes = length h.passing.undoing.news;
               notes_are = notes_are;
               grown = record {
@@ -219,7 +223,7 @@ module _ (target : Target) (start : Start) (counter next : ℕ) (gates : Gates) 
           }
 
 -- however it ends, so much is spent at most
-pub all_spent : (target : Target) (start : Start) (done : Done) (next : ℕ) (gates : Gates) (later : Seen) → (done ≡ Made → Finishes target start next gates later) → (done ≡ Stopped → Halts target start later) →
+pub all_spent : (target : Target) (start : Start) (done : Done) (held : Held) (later : Seen) → (done ≡ Made → Finishes target start held later) → (done ≡ Stopped → Halts target start later) →
     HasSpent (layout_shape target.layout) start.most done start.now later
-all_spent target start Made next gates later made stopped = (made refl).spent
-all_spent target start Stopped next gates later made stopped = (stopped refl).spent
+all_spent target start Made held later made stopped = (made refl).spent
+all_spent target start Stopped held later made stopped = (stopped refl).spent

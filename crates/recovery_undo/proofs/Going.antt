@@ -16,13 +16,13 @@ use Rattle.region_layout.specs.declared.cell.Cell.{Cell}
 use Rattle.region_layout.specs.Cell.{record_of}
 use Rattle.region_layout.specs.Layout.{layout_shape}
 use Rattle.bucket_log.proofs.AppendImages.{IsAmong-push, IsAmong-last, IsAmong-cases}
-use Rattle.recovery_run.specs.declared.gates.Gates.{Gates}
 use Rattle.recovery_run.specs.Edges.{counts_with, HasCounted, HasOnlyValue, KeepsWords}
 use Rattle.recovery_run.specs.Groups.{ListsAll}
 use Rattle.recovery_run.specs.Reached.{newest_at, HasReached, HasSettled}
 use Rattle.recovery_run.proofs.Reaching.{log_word_one, settled_reached}
+use Rattle.recovery_undo.specs.declared.held.Held.{Held}
 use Rattle.recovery_undo.specs.declared.target.Target.{Target}
-use Rattle.recovery_undo.specs.RecoveryAppends.{AreQuiet, CanTake, with_cell}
+use Rattle.recovery_undo.specs.RecoveryAppends.{AreQuiet, CanTake, KnowsRegion, with_cell}
 use Rattle.recovery_undo.specs.Numbers.{next_lsn}
 use Rattle.recovery_undo.specs.UndoProgress.{IsUndoing, Seen, HasSpent, Start, HasGone, CanNote, Halts}
 use Rattle.recovery_undo.proofs.Noting.{above_all, has_room}
@@ -148,7 +148,7 @@ next_is_some (x ∷ log) e = omega (arith, e)
 
 -- ---- a note
 
-module _ (target : Target) (start : Start) (z : State) (left next : ℕ) (gates : Gates) (now : Seen) (h : HasGone target start z left next gates now) where
+module _ (target : Target) (start : Start) (z : State) (left : ℕ) (held : Held) (now : Seen) (h : HasGone target start z left held now) where
   abbrev shape : Shape
   shape = layout_shape target.layout
 
@@ -217,7 +217,7 @@ module _ (target : Target) (start : Start) (z : State) (left next : ℕ) (gates 
       | inr j ↦ k.undoing.running e j end
     ]
 
-    pub note_fits : vec_len gates.gates < vec_capacity gates.gates
+    pub note_fits : vec_len held.gates.gates < vec_capacity held.gates.gates
     note_fits =
         let some = need_some (record_of 0 cell ∷ z.log) t (running_on 0) in
         let more = need_is in
@@ -232,33 +232,37 @@ module _ (target : Target) (start : Start) (z : State) (left next : ℕ) (gates 
     pub note_spare : target.layout.cells + 21 ≤ now.spare
     note_spare = spare_left (need_of (record_of 0 cell ∷ z.log) t) need_is
 
-    pub note_next : next + 1 < 2 ^ 64
-    note_next = let n = next_fits shape z k.undoing.sound k.undoing.some.0 k.undoing.some.1 in let e = h.next_is in omega (arith, n, e)
+    pub note_next : held.next + 1 < 2 ^ 64
+    note_next = let n = next_fits shape z k.undoing.sound k.undoing.some.0 k.undoing.some.1 in let e = h.holds.next in omega (arith, n, e)
 
     pub note_halts : (later : Seen) → EachKeeps (layout_shape target.layout) start.first later.region → HasSpent (layout_shape target.layout) (target.layout.cells + 21) Stopped now later → Halts target start later
     note_halts later keeps spent = append_halts (need_of (record_of 0 cell ∷ z.log) t) later need_is keeps spent
 
-    pub note_goes : (at : ℕ) (more : Gates) (later : Seen) → HasSettled (layout_shape target.layout) start.first (with_cell z target.partition cell at) later.region →
+    pub note_goes : (at : ℕ) (more : Held) (later : Seen) → HasSettled (layout_shape target.layout) start.first (with_cell z target.partition cell at) later.region →
         AreQuiet (layout_shape target.layout) later.region → HasSpent (layout_shape target.layout) (target.layout.cells + 21) Made now later →
-        more.gates.items ≡ gates.gates.items ++ at ∷ [] → vec_len more.gates ≡ vec_len gates.gates + 1 → vec_capacity gates.gates ≤ vec_capacity more.gates →
-        more.ends ≡ gates.ends → more.checkpoints ≡ gates.checkpoints → HasGone target start (with_cell z target.partition cell at) left (next + 1) more later
-    note_goes at more later settled quiet spent items len memory ends checkpoints =
+        KnowsRegion target.layout more.table later.region → more.next ≡ held.next + 1 →
+        more.gates.gates.items ≡ held.gates.gates.items ++ at ∷ [] → vec_len more.gates.gates ≡ vec_len held.gates.gates + 1 → vec_capacity held.gates.gates ≤ vec_capacity more.gates.gates →
+        more.gates.ends ≡ held.gates.ends → more.gates.checkpoints ≡ held.gates.checkpoints → HasGone target start (with_cell z target.partition cell at) left more later
+    note_goes at more later settled quiet spent knows raised items len memory ends checkpoints =
         let r = record_of at cell in
         let less = k.less at in
         let fits : h.used + (K + 21) * (need_of (r ∷ z.log) t + 1) + left + 1 ≤ start.most = subst (λ n. h.used + (K + 21) * n + left + 1 ≤ start.most) (sym less) h.fits in
-        let lists : ListsAll (r ∷ z.log) (gates.gates.items ++ at ∷ []) gates.ends.items gates.checkpoints.items =
-        lists_gate z.log r gates.gates.items gates.ends.items gates.checkpoints.items
+        let lists : ListsAll (r ∷ z.log) (held.gates.gates.items ++ at ∷ []) held.gates.ends.items held.gates.checkpoints.items =
+        lists_gate z.log r held.gates.gates.items held.gates.ends.items held.gates.checkpoints.items
         (λ four. elim (k.note at).1 [ inl two ↦ absurd (omega (arith, four, two)) | inr three ↦ absurd (omega (arith, four, three)) ])
-        (λ five. elim (k.note at).1 [ inl two ↦ absurd (omega (arith, five, two)) | inr three ↦ absurd (omega (arith, five, three)) ]) h.lists in
+        (λ five. elim (k.note at).1 [ inl two ↦ absurd (omega (arith, five, two)) | inr three ↦ absurd (omega (arith, five, three)) ]) h.holds.gates in
         record {
           sound = h.sound;
           origin = h.origin;
           reached = settled_reached shape start.first (with_cell z target.partition cell at) later.region settled;
           quiet = quiet;
-          next_is = (let e = h.next_is in let f = k.gate in let both : next ≡ cell.lsn = e ∙ sym f in ap (λ n. n + 1) both);
-          lists = subst (λ l. ListsAll (r ∷ z.log) l more.ends.items more.checkpoints.items) (sym items)
-              (subst (λ v. ListsAll (r ∷ z.log) (gates.gates.items ++ at ∷ []) v.items more.checkpoints.items) (sym ends)
-              (subst (λ v. ListsAll (r ∷ z.log) (gates.gates.items ++ at ∷ []) gates.ends.items v.items) (sym checkpoints) lists));
+          holds = record {
+            next = (let e = h.holds.next in let f = k.gate in let both : held.next ≡ cell.lsn = e ∙ sym f in raised ∙ ap (λ n. n + 1) both);
+            gates = subst (λ l. ListsAll (r ∷ z.log) l more.gates.ends.items more.gates.checkpoints.items) (sym items)
+                (subst (λ v. ListsAll (r ∷ z.log) (held.gates.gates.items ++ at ∷ []) v.items more.gates.checkpoints.items) (sym ends)
+                (subst (λ v. ListsAll (r ∷ z.log) (held.gates.gates.items ++ at ∷ []) held.gates.ends.items v.items) (sym checkpoints) lists));
+            table = knows;
+          };
           gates_len = (let was = h.gates_len in omega (arith, was, less, len));
           gates_memory = (let was = h.gates_memory in omega (arith, was, memory));
           gates_fit = h.gates_fit;

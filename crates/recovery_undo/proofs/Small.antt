@@ -28,7 +28,8 @@ use Rattle.recovery_run.specs.Groups.{ListsAll}
 use Rattle.recovery_run.specs.Reached.{newest_at, HasSettled, IsQuiet}
 use Rattle.recovery_run.proofs.ClosingPart.{same_heap}
 use Rattle.recovery_run.proofs.Reaching.{read_newest, settled_begins, settled_reached}
-use Rattle.recovery_undo.specs.RecoveryAppends.{AreQuiet}
+use Rattle.recovery_undo.specs.declared.held.Held.{Held}
+use Rattle.recovery_undo.specs.RecoveryAppends.{AreQuiet, KnowsRegion}
 use Rattle.recovery_undo.specs.Checkpoint.{CanCheckpoint}
 use Rattle.recovery_undo.specs.UndoRegions.{small, narrow, Pair, word_in, words_in, running, running_narrow, running_log, record_with, HasRunningGates, IsTested}
 use Rattle.recovery_undo.specs.Undoing.{CanUndo, IsUndone}
@@ -315,26 +316,29 @@ pub four_records : (first second third fourth : Placed) → record_of_placed fir
 four_records first second third fourth e1 e2 e3 e4 = λ i. e4 i ∷ e3 i ∷ e2 i ∷ e1 i ∷ []
 
 -- of a device with these words
-pub can_undo : (layout : Layout) (cells : Region) (spare next : ℕ) (records : List Placed) (gates : Gates) → (h : HasRunning (layout_shape layout) cells) → 153 ≤ spare → next ≡ 5 →
-    length records ≡ 4 → reverse (map record_of_placed records) ≡ running_log → HasRunningGates gates →
-    CanUndo layout 1 records next gates (running_state h.words h.room) (running_state h.words h.room) cells spare
-can_undo layout cells spare next records gates h room five four records_are g =
+pub can_undo : (layout : Layout) (cells : Region) (spare : ℕ) (records : List Placed) (held : Held) → (h : HasRunning (layout_shape layout) cells) → 153 ≤ spare → held.next ≡ 5 →
+    length records ≡ 4 → reverse (map record_of_placed records) ≡ running_log → HasRunningGates held.gates → KnowsRegion layout held.table cells →
+    CanUndo layout 1 records held (running_state h.words h.room) (running_state h.words h.room) cells spare
+can_undo layout cells spare records held h room five four records_are g knows =
     let few : layout.cells ≤ 16 = h.few in
     let gates_len = ap length g.gates_are in
     let ends_len = ap length g.ends_are in
     let gates_memory = g.gates_memory in
     let ends_memory = g.ends_memory in
-    let gates_ok = gates.gates.ok.0 in
-    let ends_ok = gates.ends.ok.0 in
+    let gates_ok = held.gates.gates.ok.0 in
+    let ends_ok = held.gates.ends.ok.0 in
     record {
       settled = h.settled;
       sound = h.sound;
       quiet = h.quiet;
       loser = small_loser;
       records_are = records_are;
-      next_is = five;
       applied = small_applied (policy_number layout.policy) h.words;
-      lists = lists_of gates.gates.items gates.ends.items gates.checkpoints.items g.gates_are g.ends_are g.checkpoints_are;
+      holds = record {
+        next = five;
+        gates = lists_of held.gates.gates.items held.gates.ends.items held.gates.checkpoints.items g.gates_are g.ends_are g.checkpoints_are;
+        table = knows;
+      };
       gates_fit = omega (arith, gates_len, gates_memory, gates_ok);
       ends_fit = omega (arith, ends_len, ends_memory, ends_ok);
       spare_fits = omega (arith, few, four, room);
@@ -352,8 +356,8 @@ among_left [] ys r m = elim m [ ]
 among_left (x ∷ xs) ys r (inl e) = inl e
 among_left (x ∷ xs) ys r (inr m) = inr (among_left xs ys r m)
 
-module _ (layout : Layout) (before gates : Gates) (next : ℕ) (first cells : Region) (runs : HasRunning (layout_shape layout) first) (g : HasRunningGates before)
-    (h : IsUndone layout 1 before (running_state runs.words runs.room) (running_state runs.words runs.room) next gates cells) where
+module _ (layout : Layout) (before : Gates) (held : Held) (first cells : Region) (runs : HasRunning (layout_shape layout) first) (g : HasRunningGates before)
+    (h : IsUndone layout 1 before (running_state runs.words runs.room) (running_state runs.words runs.room) held cells) where
   of_one : (r : Record) → IsAmong h.state.log r → IsOf 1 r
   of_one r m = elim (among_either h.news running_log r (subst (λ (l : Log). IsAmong l r) h.log m)) [ inl new ↦ h.mine r new | inr old ↦ (each_of_one r old).0 ]
 
@@ -368,7 +372,7 @@ module _ (layout : Layout) (before gates : Gates) (next : ℕ) (first cells : Re
   over : (t : ℕ) → IsLoser h.state.log t → ⊥
   over t k = let was = h.losers t k in let some = was.0.0 in was.1 (sym some.2.0 ∙ ((each_of_one some.0 some.1).0).0)
 
-  pub can_checkpoint : CanCheckpoint layout next gates (running_state runs.words runs.room) h.state cells
+  pub can_checkpoint : CanCheckpoint layout held (running_state runs.words runs.room) h.state cells
   can_checkpoint =
       let same = ap (λ v. vec_len v) h.grown.checkpoints in
       let memory = ap (λ v. vec_capacity v) h.grown.checkpoints in
@@ -383,7 +387,6 @@ module _ (layout : Layout) (before gates : Gates) (next : ℕ) (first cells : Re
         opened = opened;
         over = over;
         applied = h.applied;
-        next_is = h.next_is;
-        lists = h.lists;
+        holds = h.holds;
         fits = omega (arith, same, memory, none, ok, room);
       }

@@ -17,27 +17,27 @@ use Rattle.region_layout.specs.Layout.{layout_shape}
 use Rattle.bucket_log.specs.declared.scanning.Placed.{Placed}
 use Rattle.bucket_log.specs.Scans.{record_of_placed}
 use Rattle.bucket_log.specs.States.{less_room}
-use Rattle.recovery_run.specs.declared.gates.Gates.{Gates}
 use Rattle.recovery_run.specs.Reached.{with_value, HasReached}
+use Rattle.recovery_undo.specs.declared.held.Held.{Held}
 use Rattle.recovery_undo.specs.declared.target.Target.{Target}
-use Rattle.recovery_undo.specs.RecoveryAppends.{AreQuiet, with_cell}
+use Rattle.recovery_undo.specs.RecoveryAppends.{AreQuiet, KeepsLogWords, with_cell}
 use Rattle.recovery_undo.specs.Numbers.{next_lsn}
 use Rattle.recovery_undo.specs.Records.{compensation_of}
 use Rattle.recovery_undo.specs.UndoProgress.{IsPassing, Seen, HasSpent, Start, HasGone, CanNote, Passes, Halts}
+use Rattle.recovery_undo.proofs.Chains.{knows_kept}
 use Rattle.recovery_undo.proofs.Noting.{compensation_comes, compensation_less, covers}
 use Rattle.recovery_undo.proofs.UndoPass.{passed_among, pass_other, pass_compensation, pass_update, top_is, pass_compensates}
 use Rattle.recovery_undo.proofs.Going.{spent_more, few_partitions, halts, store_spare}
 
 -- ---- a record less to pass, and a store
 
-pub gone_less : (target : Target) (start : Start) (z : State) (left next : ℕ) (gates : Gates) (now : Seen) → HasGone target start z (suc left) next gates now → HasGone target start z left next gates now
-gone_less target start z left next gates now h = record {
+pub gone_less : (target : Target) (start : Start) (z : State) (left : ℕ) (held : Held) (now : Seen) → HasGone target start z (suc left) held now → HasGone target start z left held now
+gone_less target start z left held now h = record {
   sound = h.sound;
   origin = h.origin;
   reached = h.reached;
   quiet = h.quiet;
-  next_is = h.next_is;
-  lists = h.lists;
+  holds = h.holds;
   gates_len = h.gates_len;
   gates_memory = h.gates_memory;
   gates_fit = h.gates_fit;
@@ -50,16 +50,15 @@ gone_less target start z left next gates now h = record {
   enough = h.enough;
 }
 
-pub store_goes : (target : Target) (start : Start) (z : State) (left next : ℕ) (gates : Gates) (now later : Seen) (w : _) → HasGone target start z (suc left) next gates now →
+pub store_goes : (target : Target) (start : Start) (z : State) (left : ℕ) (held : Held) (now later : Seen) (w : _) → HasGone target start z (suc left) held now →
     HasReached (layout_shape target.layout) start.first (with_heap z w) later.region → AreQuiet (layout_shape target.layout) later.region → HasSpent (layout_shape target.layout) 1 Made now later →
-    HasGone target start (with_heap z w) left next gates later
-store_goes target start z left next gates now later w h reached quiet spent = record {
+    KeepsLogWords (layout_shape target.layout) now.region later.region → HasGone target start (with_heap z w) left held later
+store_goes target start z left held now later w h reached quiet spent same = record {
   sound = h.sound;
   origin = h.origin;
   reached = reached;
   quiet = quiet;
-  next_is = h.next_is;
-  lists = h.lists;
+  holds = record { next = h.holds.next; gates = h.holds.gates; table = knows_kept target.layout start.first z now.region h.reached held.table later.region same h.holds.table };
   gates_len = h.gates_len;
   gates_memory = h.gates_memory;
   gates_fit = h.gates_fit;
@@ -74,7 +73,7 @@ store_goes target start z left next gates now later w h reached quiet spent = re
 
 -- ---- the turns
 
-module _ (target : Target) (start : Start) (u : Record) (left : Log) (next : ℕ) (gates : Gates) (now : Seen) where
+module _ (target : Target) (start : Start) (u : Record) (left : Log) (held : Held) (now : Seen) where
   abbrev shape : Shape
   shape = layout_shape target.layout
 
@@ -82,15 +81,15 @@ module _ (target : Target) (start : Start) (u : Record) (left : Log) (next : ℕ
   t = target.transaction
 
   -- the compensation of an update that has none may come
-  module _ (h : Passes target start (u ∷ left) 0 next gates now) (is : IsUpdate u) (cell : Cell) (cell_is : (at : ℕ) → record_of at cell ≡ compensation_of target.transaction u at next) where
+  module _ (h : Passes target start (u ∷ left) 0 held now) (is : IsUpdate u) (cell : Cell) (cell_is : (at : ℕ) → record_of at cell ≡ compensation_of target.transaction u at held.next) where
     abbrev z : State
     z = h.state
 
     few : 1 ≤ shape.partitions
-    few = few_partitions target start z (length (u ∷ left)) next gates now h.gone
+    few = few_partitions target start z (length (u ∷ left)) held now h.gone
 
     record_is : (at : ℕ) → record_of at cell ≡ compensation_of t u at (next_lsn z.log)
-    record_is at = cell_is at ∙ ap (compensation_of t u at) h.gone.next_is
+    record_is at = cell_is at ∙ ap (compensation_of t u at) h.gone.holds.next
 
     among : IsAmong z.log u
     among = passed_among shape t target.partition start.state z u left 0 h.passing
@@ -109,9 +108,9 @@ module _ (target : Target) (start : Start) (u : Record) (left : Log) (next : ℕ
           (compensation_less shape t target.partition start.state z few h.passing.undoing u (to_undo t left) at top);
     }
 
-    pub compensate_goes : (at raised : ℕ) (more : Gates) (later : Seen) → part_of (layout_shape target.layout) at ≡ target.partition →
-        HasGone target start (with_cell h.state target.partition cell at) (length (u ∷ left)) raised more later → Passes target start (u ∷ left) 1 raised more later
-    compensate_goes at raised more later here gone = record {
+    pub compensate_goes : (at : ℕ) (more : Held) (later : Seen) → part_of (layout_shape target.layout) at ≡ target.partition →
+        HasGone target start (with_cell h.state target.partition cell at) (length (u ∷ left)) more later → Passes target start (u ∷ left) 1 more later
+    compensate_goes at more later here gone = record {
       state = with_cell z target.partition cell at;
       gone = gone;
       passing = subst (λ (r : Record). IsPassing shape t target.partition start.state (grown z r (less_room target.partition z.room)) (u ∷ left) 1) (sym (record_is at))
@@ -119,7 +118,7 @@ module _ (target : Target) (start : Start) (u : Record) (left : Log) (next : ℕ
     }
 
   -- an update that is compensated
-  module _ (counter : ℕ) (h : Passes target start (u ∷ left) (counter + 1) next gates now) (is : IsUpdate u) where
+  module _ (counter : ℕ) (h : Passes target start (u ∷ left) (counter + 1) held now) (is : IsUpdate u) where
     abbrev y : State
     y = h.state
 
@@ -133,40 +132,41 @@ module _ (target : Target) (start : Start) (u : Record) (left : Log) (next : ℕ
     word_inside = let below = heap_word.1 in let size : now.region.size ≡ words_of_shape shape = h.gone.reached.come.size in omega (arith, below, size)
 
     pub covered : HasDecidingRecord (layout_shape target.layout).policy h.state.log u.word
-    covered = covers shape t target.partition start.state y (few_partitions target start y (length (u ∷ left)) next gates now h.gone) h.passing.undoing u in_log is (h.passing.among u (inl refl)).1.0
+    covered = covers shape t target.partition start.state y (few_partitions target start y (length (u ∷ left)) held now h.gone) h.passing.undoing u in_log is (h.passing.among u (inl refl)).1.0
 
     pub spare_one : 1 ≤ now.spare
-    spare_one = store_spare target start y (length (u ∷ left)) next gates now h.gone
+    spare_one = store_spare target start y (length (u ∷ left)) held now h.gone
 
     pub old_goes : (later : Seen) → HasReached (layout_shape target.layout) start.first (with_heap h.state (with_value h.state.words u.word u.before)) later.region →
-        AreQuiet (layout_shape target.layout) later.region → HasSpent (layout_shape target.layout) 1 Made now later → Passes target start left counter next gates later
-    old_goes later reached quiet spent = record {
+        AreQuiet (layout_shape target.layout) later.region → HasSpent (layout_shape target.layout) 1 Made now later →
+        KeepsLogWords (layout_shape target.layout) now.region later.region → Passes target start left counter held later
+    old_goes later reached quiet spent same = record {
       state = with_heap y (with_value y.words u.word u.before);
-      gone = store_goes target start y (length left) next gates now later (with_value y.words u.word u.before) h.gone reached quiet spent;
-      passing = pass_update shape t target.partition start.state y u left (few_partitions target start y (length (u ∷ left)) next gates now h.gone) counter h.passing is;
+      gone = store_goes target start y (length left) held now later (with_value y.words u.word u.before) h.gone reached quiet spent same;
+      passing = pass_update shape t target.partition start.state y u left (few_partitions target start y (length (u ∷ left)) held now h.gone) counter h.passing is;
     }
 
     pub old_halts : (later : Seen) → EachKeeps (layout_shape target.layout) start.first later.region → HasSpent (layout_shape target.layout) 1 Stopped now later → Halts target start later
-    old_halts later keeps spent = halts target start y (length (u ∷ left)) next gates now h.gone 1 later (let fits = h.gone.fits in omega (arith, fits)) keeps spent
+    old_halts later keeps spent = halts target start y (length (u ∷ left)) held now h.gone 1 later (let fits = h.gone.fits in omega (arith, fits)) keeps spent
 
   -- a compensation, or a record that is passed over
-  pub compensation_goes : (counter : ℕ) → Passes target start (u ∷ left) counter next gates now → IsCompensation u → Passes target start left (counter + 1) next gates now
+  pub compensation_goes : (counter : ℕ) → Passes target start (u ∷ left) counter held now → IsCompensation u → Passes target start left (counter + 1) held now
   compensation_goes counter h is = record {
     state = h.state;
-    gone = gone_less target start h.state (length left) next gates now h.gone;
+    gone = gone_less target start h.state (length left) held now h.gone;
     passing = pass_compensation shape t target.partition start.state h.state u left counter h.passing is;
   }
 
-  pub other_goes : (counter : ℕ) → Passes target start (u ∷ left) counter next gates now → u.kind ≢ 1 → u.kind ≢ 2 → Passes target start left counter next gates now
+  pub other_goes : (counter : ℕ) → Passes target start (u ∷ left) counter held now → u.kind ≢ 1 → u.kind ≢ 2 → Passes target start left counter held now
   other_goes counter h not_one not_two = record {
     state = h.state;
-    gone = gone_less target start h.state (length left) next gates now h.gone;
+    gone = gone_less target start h.state (length left) held now h.gone;
     passing = pass_other shape t target.partition start.state h.state u left counter h.passing not_one not_two;
   }
 
 -- the same count
-pub passes_at : (target : Target) (start : Start) (left : Log) (n m next : ℕ) (gates : Gates) (now : Seen) → n ≡ m → Passes target start left n next gates now → Passes target start left m next gates now
-passes_at target start left n m next gates now e h = subst (λ k. Passes target start left k next gates now) e h
+pub passes_at : (target : Target) (start : Start) (left : Log) (n m : ℕ) (held : Held) (now : Seen) → n ≡ m → Passes target start left n held now → Passes target start left m held now
+passes_at target start left n m held now e h = subst (λ k. Passes target start left k held now) e h
 
 abbrev pub no_placed : Placed
 no_placed = record { at = 0; cell = record { lsn = 0; transaction = 0; kind = 0; word = 0; before = 0; after = 0; undo_next = 0; outcome = 0 } }
@@ -179,5 +179,5 @@ newest_of xs i n d lt is =
     ∙ ap reverse (map-append record_of_placed (take i xs) (get_or xs i d ∷ []))
     ∙ reverse-append (map record_of_placed (take i xs)) (record_of_placed (get_or xs i d) ∷ [])
 
-pub passes_on : (target : Target) (start : Start) (left rest : Log) (n next : ℕ) (gates : Gates) (now : Seen) → left ≡ rest → Passes target start left n next gates now → Passes target start rest n next gates now
-passes_on target start left rest n next gates now e h = subst (λ l. Passes target start l n next gates now) e h
+pub passes_on : (target : Target) (start : Start) (left rest : Log) (n : ℕ) (held : Held) (now : Seen) → left ≡ rest → Passes target start left n held now → Passes target start rest n held now
+passes_on target start left rest n held now e h = subst (λ l. Passes target start l n held now) e h

@@ -11,11 +11,11 @@ use Rattle.region_layout.specs.Layout.{layout_shape, policy_number}
 use Rattle.recovery_run.specs.declared.gates.Gates.{Gates}
 use Rattle.recovery_run.specs.Reached.{HasSettled}
 use Rattle.recovery_undo.specs.RecoveryAppends.{AreQuiet}
-use Rattle.recovery_undo.specs.Numbers.{next_lsn}
-use Rattle.recovery_undo.specs.Undoing.{AreGatesOf}
+use Rattle.recovery_undo.specs.declared.held.Held.{Held}
+use Rattle.recovery_undo.specs.Holding.{IsHeld}
 
 -- Recovery began at first and has come to y under no-force: nothing runs, each word has its standing value, and some transaction isn't skipped.
-pub record CanCheckpoint (layout : Layout) (next : ℕ) (gates : Gates) (first y : State) (region : Region) : Type 0 where
+pub record CanCheckpoint (layout : Layout) (held : Held) (first y : State) (region : Region) : Type 0 where
   pub settled : HasSettled (layout_shape layout) first y region
   pub sound : IsSoundState (layout_shape layout) first
   pub quiet : AreQuiet (layout_shape layout) region
@@ -23,12 +23,11 @@ pub record CanCheckpoint (layout : Layout) (next : ℕ) (gates : Gates) (first y
   pub opened : HasOpen y.log
   pub over : (t : ℕ) → IsLoser y.log t → ⊥
   pub applied : AreApplied (policy_number layout.policy) y.log y.words
-  pub next_is : next ≡ next_lsn y.log
-  pub lists : AreGatesOf y.log gates
-  pub fits : vec_len gates.checkpoints + 1 ≤ vec_capacity gates.checkpoints
+  pub holds : IsHeld layout y.log held region
+  pub fits : vec_len held.gates.checkpoints + 1 ≤ vec_capacity held.gates.checkpoints
 
 -- Recovery has come from y to the state with a checkpoint record above all: nothing is to be redone any more.
-pub record IsCheckpointed (layout : Layout) (before : Gates) (first y : State) (next : ℕ) (gates : Gates) (region : Region) : Type 0 where
+pub record IsCheckpointed (layout : Layout) (before : Gates) (first y : State) (held : Held) (region : Region) : Type 0 where
   pub checkpoint : Record
   pub is : IsCheckpoint checkpoint
   pub above : (r : Record) → IsAmong y.log r → r.lsn < checkpoint.lsn
@@ -38,9 +37,8 @@ pub record IsCheckpointed (layout : Layout) (before : Gates) (first y : State) (
   pub over : (t : ℕ) → IsLoser (checkpoint ∷ y.log) t → ⊥
   pub applied : AreApplied (policy_number layout.policy) (checkpoint ∷ y.log) y.words
   pub redone : (a : ℕ) → HasNo (IsToRedo (policy_number layout.policy) (checkpoint ∷ y.log) a) (checkpoint ∷ y.log)
-  pub next_is : next ≡ next_lsn (checkpoint ∷ y.log)
-  pub lists : AreGatesOf (checkpoint ∷ y.log) gates
-  pub same_gates : gates.gates ≡ before.gates
-  pub same_ends : gates.ends ≡ before.ends
-  pub len : vec_len gates.checkpoints ≡ vec_len before.checkpoints + 1
-  pub memory : vec_capacity before.checkpoints ≤ vec_capacity gates.checkpoints
+  pub holds : IsHeld layout (checkpoint ∷ y.log) held region
+  pub same_gates : held.gates.gates ≡ before.gates
+  pub same_ends : held.gates.ends ≡ before.ends
+  pub len : vec_len held.gates.checkpoints ≡ vec_len before.checkpoints + 1
+  pub memory : vec_capacity before.checkpoints ≤ vec_capacity held.gates.checkpoints

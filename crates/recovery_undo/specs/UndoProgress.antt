@@ -25,7 +25,9 @@ use Rattle.region_layout.specs.declared.cell.Cell.{Cell}
 use Rattle.region_layout.specs.Cell.{record_of}
 use Rattle.recovery_undo.specs.RecoveryAppends.{AreQuiet, MayTake}
 use Rattle.recovery_undo.specs.Numbers.{next_lsn}
-use Rattle.recovery_undo.specs.Undoing.{AreGatesOf, IsUndone}
+use Rattle.recovery_undo.specs.declared.held.Held.{Held}
+use Rattle.recovery_undo.specs.Holding.{IsHeld}
+use Rattle.recovery_undo.specs.Undoing.{IsUndone}
 
 -- ---- the records
 
@@ -84,21 +86,19 @@ pub record Start : Type 0 where
   pub state : State
   pub most : ℕ
 
--- The undo has come to z with this next number, these gates and this device, and has so many records still to pass: what is
--- still needed fits.
-pub record HasGone (target : Target) (start : Start) (z : State) (left next : ℕ) (gates : Gates) (now : Seen) : Type 0 where
+-- The undo has come to z with this device, and has so many records still to pass: what is still needed fits.
+pub record HasGone (target : Target) (start : Start) (z : State) (left : ℕ) (held : Held) (now : Seen) : Type 0 where
   pub sound : IsSoundState (layout_shape target.layout) start.first
   pub origin : IsSoundState (layout_shape target.layout) start.state
   pub reached : HasReached (layout_shape target.layout) start.first z now.region
   pub quiet : AreQuiet (layout_shape target.layout) now.region
-  pub next_is : next ≡ next_lsn z.log
-  pub lists : AreGatesOf z.log gates
-  pub gates_len : vec_len gates.gates + need_of z.log target.transaction ≡ vec_len start.gates.gates + need_of start.state.log target.transaction
-  pub gates_memory : vec_capacity start.gates.gates ≤ vec_capacity gates.gates
+  pub holds : IsHeld target.layout z.log held now.region
+  pub gates_len : vec_len held.gates.gates + need_of z.log target.transaction ≡ vec_len start.gates.gates + need_of start.state.log target.transaction
+  pub gates_memory : vec_capacity start.gates.gates ≤ vec_capacity held.gates.gates
   pub gates_fit : vec_len start.gates.gates + need_of start.state.log target.transaction ≤ vec_capacity start.gates.gates + 1
-  pub ends : gates.ends ≡ start.gates.ends
+  pub ends : held.gates.ends ≡ start.gates.ends
   pub ends_fit : vec_len start.gates.ends + 1 ≤ vec_capacity start.gates.ends
-  pub checkpoints : gates.checkpoints ≡ start.gates.checkpoints
+  pub checkpoints : held.gates.checkpoints ≡ start.gates.checkpoints
   pub used : ℕ
   pub spent : HasSpent (layout_shape target.layout) used Made start.now now
   pub fits : used + (target.layout.cells + 21) * need_of z.log target.transaction + left + 1 ≤ start.most
@@ -113,20 +113,20 @@ pub record CanNote (target : Target) (y z : State) (cell : Cell) : Type 0 where
   pub less : (at : ℕ) → need_of (record_of at cell ∷ z.log) target.transaction + 1 ≡ need_of z.log target.transaction
 
 -- nothing is undone yet; the records are t's
-pub record Begins (target : Target) (start : Start) (records : List Placed) (next : ℕ) (gates : Gates) (now : Seen) : Type 0 where
-  pub gone : HasGone target start start.state (length records) next gates now
+pub record Begins (target : Target) (start : Start) (records : List Placed) (held : Held) (now : Seen) : Type 0 where
+  pub gone : HasGone target start start.state (length records) held now
   pub undoing : IsUndoing (layout_shape target.layout) target.transaction target.partition start.state start.state
   pub records_are : reverse (map record_of_placed records) ≡ records_of target.transaction start.state.log
 
 -- the pass has these records still to come
-pub record Passes (target : Target) (start : Start) (left : Log) (counter next : ℕ) (gates : Gates) (now : Seen) : Type 0 where
+pub record Passes (target : Target) (start : Start) (left : Log) (counter : ℕ) (held : Held) (now : Seen) : Type 0 where
   pub state : State
-  pub gone : HasGone target start state (length left) next gates now
+  pub gone : HasGone target start state (length left) held now
   pub passing : IsPassing (layout_shape target.layout) target.transaction target.partition start.state state left counter
 
 -- all is done
-pub record Finishes (target : Target) (start : Start) (next : ℕ) (gates : Gates) (now : Seen) : Type 0 where
-  pub undone : IsUndone target.layout target.transaction start.gates start.first start.state next gates now.region
+pub record Finishes (target : Target) (start : Start) (held : Held) (now : Seen) : Type 0 where
+  pub undone : IsUndone target.layout target.transaction start.gates start.first start.state held now.region
   pub spent : HasSpent (layout_shape target.layout) start.most Made start.now now
 
 -- the device stopped on the way

@@ -12,32 +12,28 @@ use Rattle.region_layout.specs.Layout.{layout_shape, policy_number}
 use Rattle.bucket_log.specs.declared.scanning.Placed.{Placed}
 use Rattle.bucket_log.specs.Scans.{record_of_placed}
 use Rattle.recovery_run.specs.declared.gates.Gates.{Gates}
-use Rattle.recovery_run.specs.Groups.{records_of, ListsAll}
+use Rattle.recovery_undo.specs.declared.held.Held.{Held}
+use Rattle.recovery_undo.specs.Holding.{IsHeld}
+use Rattle.recovery_run.specs.Groups.{records_of}
 use Rattle.recovery_run.specs.Reached.{HasSettled}
 use Rattle.recovery_undo.specs.RecoveryAppends.{AreQuiet}
-use Rattle.recovery_undo.specs.Numbers.{next_lsn}
 
 -- the most events of the undo: an append of each record that it needs, a store for each update, and a fence
 abbrev pub undo_events : Layout → ℕ → List Placed → Log → ℕ
 undo_events layout t records log = (layout.cells + 21) * need_of log t + length records + 1
 
--- the lists have the gates of all records of the log
-abbrev pub AreGatesOf : Log → Gates → Type 0
-AreGatesOf log gates = ListsAll log gates.gates.items gates.ends.items gates.checkpoints.items
-
--- Recovery began at first, has come to y, and t runs. The records are t's, oldest first, next is the number that follows all, and there
--- is memory for the gates of the records to come and room for the events.
-pub record CanUndo (layout : Layout) (t : ℕ) (records : List Placed) (next : ℕ) (gates : Gates) (first y : State) (region : Region) (spare : ℕ) : Type 0 where
+-- Recovery began at first, has come to y, and t runs. The records are t's, oldest first, and there is memory for the gates of the records
+-- to come and room for the events.
+pub record CanUndo (layout : Layout) (t : ℕ) (records : List Placed) (held : Held) (first y : State) (region : Region) (spare : ℕ) : Type 0 where
   pub settled : HasSettled (layout_shape layout) first y region
   pub sound : IsSoundState (layout_shape layout) first
   pub quiet : AreQuiet (layout_shape layout) region
   pub loser : IsLoser y.log t
   pub records_are : reverse (map record_of_placed records) ≡ records_of t y.log
-  pub next_is : next ≡ next_lsn y.log
   pub applied : AreApplied (policy_number layout.policy) y.log y.words
-  pub lists : AreGatesOf y.log gates
-  pub gates_fit : vec_len gates.gates + need_of y.log t ≤ vec_capacity gates.gates + 1
-  pub ends_fit : vec_len gates.ends + 1 ≤ vec_capacity gates.ends
+  pub holds : IsHeld layout y.log held region
+  pub gates_fit : vec_len held.gates.gates + need_of y.log t ≤ vec_capacity held.gates.gates + 1
+  pub ends_fit : vec_len held.gates.ends + 1 ≤ vec_capacity held.gates.ends
   pub spare_fits : undo_events layout t records y.log ≤ spare
 
 -- the gates of so many notes and of one end came, in the memory that was there
@@ -49,7 +45,7 @@ pub record HasGrown (before later : Gates) (notes : ℕ) : Type 0 where
   pub checkpoints : later.checkpoints ≡ before.checkpoints
 
 -- Recovery has come from y to a state with records of t more, among them an end that says it is undone; nothing is pending.
-pub record IsUndone (layout : Layout) (t : ℕ) (before : Gates) (first y : State) (next : ℕ) (gates : Gates) (region : Region) : Type 0 where
+pub record IsUndone (layout : Layout) (t : ℕ) (before : Gates) (first y : State) (held : Held) (region : Region) : Type 0 where
   pub state : State
   pub settled : HasSettled (layout_shape layout) first state region
   pub quiet : AreQuiet (layout_shape layout) region
@@ -64,8 +60,7 @@ pub record IsUndone (layout : Layout) (t : ℕ) (before : Gates) (first y : Stat
   pub losers : (u : ℕ) → IsLoser state.log u → IsLoser y.log u × (u ≢ t)
   pub still_losers : (u : ℕ) → u ≢ t → IsLoser y.log u → IsLoser state.log u
   pub applied : AreApplied (policy_number layout.policy) state.log state.words
-  pub next_is : next ≡ next_lsn state.log
-  pub lists : AreGatesOf state.log gates
+  pub holds : IsHeld layout state.log held region
   pub notes : ℕ
   pub notes_are : notes + 1 ≡ need_of y.log t
-  pub grown : HasGrown before gates notes
+  pub grown : HasGrown before held.gates notes

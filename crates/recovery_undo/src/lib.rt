@@ -3,11 +3,13 @@
 
 mod appending;
 mod checkpoint;
+mod held;
 mod target;
 mod undoing;
 
 pub use appending::{Appended, append_record};
 pub use checkpoint::append_checkpoint;
+pub use held::Held;
 pub use undoing::undo;
 
 #[cfg(test)]

@@ -3,6 +3,7 @@ ghost use Rattle.std.specs.Prelude.{◌≡◌, ◌<◌, ℕ};
 ghost use Rattle.region_layout.specs.Cell.{record_of};
 ghost use Rattle.recovery_undo.specs.Records.{compensation_of, plain_record};
 
+use persist_model::format::{COMPENSATION, NO_OUTCOME};
 use region_layout::{Cell, Layout};
 
 // The transaction that is undone, and the partition of its records.
@@ -37,11 +38,11 @@ pub(crate) fn compensation_cell(transaction: u64, lsn: u64, update: &Cell) -> Ce
     Cell {
         lsn,
         transaction,
-        kind: 2,
+        kind: COMPENSATION,
         word: update.word,
         before: update.after,
         after: update.before,
         undo_next: update.undo_next,
-        outcome: 0,
+        outcome: NO_OUTCOME,
     }
 }

@@ -8,7 +8,7 @@ ghost use Rattle.recovery_undo.specs.RecoveryAppends.{KnowsRegion};
 ghost use Rattle.recovery_undo.specs.Checkpoint.{CanCheckpoint};
 ghost use Rattle.recovery_undo.specs.UndoRegions.{small, narrow, word_in, words_in, running, running_narrow, record_with, HasRunningGates, IsTested};
 
-use crate::{append_checkpoint, undo};
+use crate::{Held, append_checkpoint, undo};
 use bucket_log::Placed;
 use lane_traits::{Device, Done};
 use log_partition::UsedBuckets;
@@ -181,16 +181,6 @@ fn narrow_region(alloc: Global) -> Result<PlainCells, Fail>
     region_of(alloc, &pairs)
 }
 
-// The table of a region's chains.
-fn table_of<D: Device>(alloc: Global, device: &D, layout: Layout) -> Result<UsedBuckets, Fail>
-    requires { IsTested (layout_shape layout) (D.cells device.now) }
-    ensures { IfOk result (λ table. KnowsRegion layout table (D.cells device.now)) }
-{
-    let mut table = UsedBuckets::with_memory(alloc, layout)?;
-    table.read(device, layout);
-    Ok(table)
-}
-
 // A record of the transaction that isn't an end.
 fn record(
     at: u32,
@@ -230,22 +220,41 @@ fn small_gates(alloc: Global) -> Result<Gates, Fail>
     Ok(gates)
 }
 
+// The table of a region's chains.
+fn table_of<D: Device>(alloc: Global, device: &D, layout: Layout) -> Result<UsedBuckets, Fail>
+    requires { IsTested (layout_shape layout) (D.cells device.now) }
+    ensures { IfOk result (λ table. KnowsRegion layout table (D.cells device.now)) }
+{
+    let mut table = UsedBuckets::with_memory(alloc, layout)?;
+    table.read(device, layout);
+    Ok(table)
+}
+
+// What is held of a region's log.
+fn small_held<D: Device>(alloc: Global, device: &D, layout: Layout) -> Result<Held, Fail>
+    requires { IsTested (layout_shape layout) (D.cells device.now) }
+    ensures next { IfOk result (λ held. held.next ≡ 5) }
+    ensures gates { IfOk result (λ held. HasRunningGates held.gates) }
+    ensures table { IfOk result (λ held. KnowsRegion layout held.table (D.cells device.now)) }
+{
+    let gates = small_gates(alloc)?;
+    let table = table_of(alloc, device, layout)?;
+    Ok(Held {
+        next: 5,
+        gates,
+        table,
+    })
+}
+
 // Undoes the transaction.
-fn undo_small<D: Device>(
-    device: &mut D,
-    layout: Layout,
-    next: &mut u64,
-    gates: &mut Gates,
-    table: &mut UsedBuckets,
-) -> Done
+fn undo_small<D: Device>(device: &mut D, layout: Layout, held: &mut Held) -> Done
     requires tested { IsTested (layout_shape layout) (D.cells device.old) }
     requires spare { 153 ≤ D.spare device.old }
-    requires next { next.old ≡ 5 }
-    requires gates { HasRunningGates gates.old }
-    requires table { KnowsRegion layout table.old (D.cells device.old) }
-    ensures made { result ≡ Done.Made → (first y : State) × CanCheckpoint layout next.new gates.new first y (D.cells device.new) }
+    requires next { held.old.next ≡ 5 }
+    requires gates { HasRunningGates held.old.gates }
+    requires table { KnowsRegion layout held.old.table (D.cells device.old) }
+    ensures made { result ≡ Done.Made → (first y : State) × CanCheckpoint layout held.new first y (D.cells device.new) }
     ensures spare_left { layout.cells + 21 ≤ D.spare device.new }
-    ensures table { result ≡ Done.Made → KnowsRegion layout table.new (D.cells device.new) }
 {
     let records = [
         record(40, 1, UPDATE, 577, 5, 7, 0),
@@ -253,7 +262,7 @@ fn undo_small<D: Device>(
         record(88, 3, COMPENSATION, 578, 9, 0, 1),
         record(104, 4, DELETION, 592, 1, 0, 0),
     ];
-    undo(device, layout, 1, &records, next, gates, table)
+    undo(device, layout, 1, &records, held)
 }
 
 fn word<W: Look>(words: &W, a: u32) -> u64 {
@@ -276,10 +285,8 @@ fn a_transaction_is_undone_and_a_checkpoint_follows(rt: HostRuntime) -> Result<(
     let alloc = rt.alloc();
     let layout = small_layout();
     let mut region = small_region(alloc)?;
-    let mut gates = small_gates(alloc)?;
-    let mut table = table_of(alloc, &region, layout)?;
-    let mut next = 5;
-    match undo_small(&mut region, layout, &mut next, &mut gates, &mut table) {
+    let mut held = small_held(alloc, &region, layout)?;
+    match undo_small(&mut region, layout, &mut held) {
         Done::Stopped => return Err("stopped".into()),
         Done::Made => {}
     }
@@ -291,21 +298,21 @@ fn a_transaction_is_undone_and_a_checkpoint_follows(rt: HostRuntime) -> Result<(
     check_cell(&rt, &region, 72, &[7, 1, 4, 0, 0, 0, 0, 2]);
     check_cell(&rt, &region, 576, &[1, 5, 0, 0]);
     check_cell(&rt, &region, 592, &[1, 0]);
-    assert_eq!(rt; next, 8);
-    match append_checkpoint(&mut region, layout, &mut next, &mut gates, &mut table) {
+    assert_eq!(rt; held.next, 8);
+    match append_checkpoint(&mut region, layout, &mut held) {
         Done::Stopped => return Err("stopped".into()),
         Done::Made => {}
     }
     assert_eq!(rt; region.events(), 43);
     check_cell(&rt, &region, 80, &[8, 0, 5, 0, 0, 0, 0, 0]);
     check_cell(&rt, &region, 8, &[32, 32, 0]);
-    assert_eq!(rt; next, 9);
+    assert_eq!(rt; held.next, 9);
     assert_eq!(rt;
-        gates.gates.as_slice(),
+        held.gates.gates.as_slice(),
         [40, 56, 88, 104, 48, 64].as_slice()
     );
-    assert_eq!(rt; gates.ends.as_slice(), [72].as_slice());
-    assert_eq!(rt; gates.checkpoints.as_slice(), [80].as_slice());
+    assert_eq!(rt; held.gates.ends.as_slice(), [72].as_slice());
+    assert_eq!(rt; held.gates.checkpoints.as_slice(), [80].as_slice());
     Ok(())
 }
 
@@ -316,10 +323,8 @@ fn an_undo_puts_buckets_behind_the_chain(rt: HostRuntime) -> Result<(), Fail> {
     let alloc = rt.alloc();
     let layout = narrow_layout();
     let mut region = narrow_region(alloc)?;
-    let mut gates = small_gates(alloc)?;
-    let mut table = table_of(alloc, &region, layout)?;
-    let mut next = 5;
-    match undo_small(&mut region, layout, &mut next, &mut gates, &mut table) {
+    let mut held = small_held(alloc, &region, layout)?;
+    match undo_small(&mut region, layout, &mut held) {
         Done::Stopped => return Err("stopped".into()),
         Done::Made => {}
     }
@@ -334,7 +339,7 @@ fn an_undo_puts_buckets_behind_the_chain(rt: HostRuntime) -> Result<(), Fail> {
     check_cell(&rt, &region, 128, &[0, 112]);
     check_cell(&rt, &region, 136, &[7, 1, 4, 0, 0, 0, 0, 2]);
     check_cell(&rt, &region, 576, &[1, 5, 0, 0]);
-    match append_checkpoint(&mut region, layout, &mut next, &mut gates, &mut table) {
+    match append_checkpoint(&mut region, layout, &mut held) {
         Done::Stopped => return Err("stopped".into()),
         Done::Made => {}
     }
@@ -342,11 +347,11 @@ fn an_undo_puts_buckets_behind_the_chain(rt: HostRuntime) -> Result<(), Fail> {
     check_cell(&rt, &region, 128, &[144, 112]);
     check_cell(&rt, &region, 152, &[8, 0, 5, 0, 0, 0, 0, 0]);
     assert_eq!(rt;
-        gates.gates.as_slice(),
+        held.gates.gates.as_slice(),
         [40, 56, 88, 104, 72, 120].as_slice()
     );
-    assert_eq!(rt; gates.ends.as_slice(), [136].as_slice());
-    assert_eq!(rt; gates.checkpoints.as_slice(), [152].as_slice());
+    assert_eq!(rt; held.gates.ends.as_slice(), [136].as_slice());
+    assert_eq!(rt; held.gates.checkpoints.as_slice(), [152].as_slice());
     Ok(())
 }
 
@@ -354,10 +359,8 @@ fn an_undo_puts_buckets_behind_the_chain(rt: HostRuntime) -> Result<(), Fail> {
 fn stop_undo(rt: &impl Abort, alloc: Global, stop: u64) -> Result<(), Fail> {
     let layout = small_layout();
     let mut cut = Cut::new(small_region(alloc)?, stop);
-    let mut gates = small_gates(alloc)?;
-    let mut table = table_of(alloc, &cut, layout)?;
-    let mut next = 5;
-    let done = undo_small(&mut cut, layout, &mut next, &mut gates, &mut table);
+    let mut held = small_held(alloc, &cut, layout)?;
+    let done = undo_small(&mut cut, layout, &mut held);
     assert_eq!(rt; done, Done::Stopped);
     assert_eq!(rt; cut.events(), stop);
     assert_eq!(rt; word(&cut, 578), if stop < 11 { 9 } else { 0 });

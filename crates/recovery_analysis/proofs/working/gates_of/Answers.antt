@@ -17,8 +17,8 @@ loop-placed-init c =
       };
     }
 
-pub put_gate-requires : goal.put_gate-requires
-put_gate-requires c =
+pub put_gate_of-requires : goal.put_gate_of-requires
+put_gate_of-requires c =
     let spare = c.loop-placed.invariant.spare in record {
       of_gates = omega (arith, spare.of_gates, c.loop-placed-test.true);
       of_ends = omega (arith, spare.of_ends, c.loop-placed-test.true);
@@ -30,9 +30,9 @@ loop-placed-preserved c =
     let spare = c.loop-placed.invariant.spare in
     let left = length c.args.merged.now - (c.loop-placed.placed-index + 1) in
     record {
-      gates = gates_more c.args.merged.now c.loop-placed.placed-index _ _ _ _ _ _ _ c.loop-placed-test.true c.loop-placed.invariant.gates c.put_gate.ensures.gates c.put_gate.ensures.ends
-          c.put_gate.ensures.checkpoints;
-      spare = c.put_gate.ensures.spare (c.args.more + left) (c.args.ends + left) (1 + left) (record {
+      gates = gates_more c.args.merged.now c.loop-placed.placed-index _ _ _ _ _ _ _ c.loop-placed-test.true c.loop-placed.invariant.gates c.put_gate_of.ensures.gates c.put_gate_of.ensures.ends
+          c.put_gate_of.ensures.checkpoints;
+      spare = c.put_gate_of.ensures.spare (c.args.more + left) (c.args.ends + left) (1 + left) (record {
         of_gates = omega (arith, spare.of_gates, c.loop-placed-test.true);
         of_ends = omega (arith, spare.of_ends, c.loop-placed-test.true);
         of_checkpoints = omega (arith, spare.of_checkpoints, c.loop-placed-test.true);

@@ -10,18 +10,18 @@ use Rattle.recovery_passes.proofs.Counting.{counted_more, counted_then, keeps_th
 use Rattle.recovery_passes.proofs.clearing.clear.Goals as goal
 
 pub close_gates-requires-clause-ready : goal.close_gates-requires-clause-ready
-close_gates-requires-clause-ready g c = let r = c.requires.can in (r.0, c.in-Made.ensures.made refl r.0 r.1 r.2 r.3 r.4, r.3)
+close_gates-requires-clause-ready g c = let r = c.requires.can in (r.0, c.in-Made.ensures.made refl r.0 r.1 r.2 r.3)
 
 pub returns-in-Stopped-close_gates-clause-stopped : goal.returns-in-Stopped-close_gates-clause-stopped
-returns-in-Stopped-close_gates-clause-stopped g c = λ stopped first total h sound wanted. c.in-Stopped-close_gates.ensures.stopped refl first (c.in-Made.ensures.made refl first total h sound wanted) sound
+returns-in-Stopped-close_gates-clause-stopped g c = λ stopped first total h wanted. c.in-Stopped-close_gates.ensures.stopped refl first (c.in-Made.ensures.made refl first total h wanted)
 
 pub returns-in-Stopped-close_gates-clause-counted : goal.returns-in-Stopped-close_gates-clause-counted
 returns-in-Stopped-close_gates-clause-counted g c =
     let mark = if c.args.wanted then c.args.layout.cells + 21 else 0 in
     let len = c.in-Made.ensures.count refl in
-    counted_more (mark + (gates_len c.checkpoint_if.new.gates + 3)) (clear_events c.args.layout c.args.wanted (gates_len c.args.gates)) Stopped (g.D.Device.counts c.args.device.now) (g.D.Device.counts c.close_gates.new.device)
-    (close_fits c.args.layout c.args.wanted (gates_len c.args.gates) (gates_len c.checkpoint_if.new.gates) len)
-    (counted_then mark (gates_len c.checkpoint_if.new.gates + 3) Stopped (g.D.Device.counts c.args.device.now) (g.D.Device.counts c.checkpoint_if.new.device) (g.D.Device.counts c.close_gates.new.device)
+    counted_more (mark + (gates_len c.checkpoint_if.new.held.gates + 3)) (clear_events c.args.layout c.args.wanted (gates_len c.args.held.gates)) Stopped (g.D.Device.counts c.args.device.now) (g.D.Device.counts c.close_gates.new.device)
+    (close_fits c.args.layout c.args.wanted (gates_len c.args.held.gates) (gates_len c.checkpoint_if.new.held.gates) len)
+    (counted_then mark (gates_len c.checkpoint_if.new.held.gates + 3) Stopped (g.D.Device.counts c.args.device.now) (g.D.Device.counts c.checkpoint_if.new.device) (g.D.Device.counts c.close_gates.new.device)
     c.in-Made.ensures.counted c.in-Stopped-close_gates.ensures.counted)
 
 pub returns-in-Stopped-close_gates-clause-header : goal.returns-in-Stopped-close_gates-clause-header
@@ -32,34 +32,34 @@ returns-in-Stopped-close_gates-clause-header g c =
 pub drop_all-requires-clause-settled : goal.drop_all-requires-clause-settled
 drop_all-requires-clause-settled g c =
     let r = c.requires.can in
-    let k = c.in-Made-close_gates.ensures.made refl r.0 (c.in-Made.ensures.made refl r.0 r.1 r.2 r.3 r.4) r.3 in
+    let k = c.in-Made-close_gates.ensures.made refl r.0 (c.in-Made.ensures.made refl r.0 r.1 r.2 r.3) in
     (r.0, k.state, k.settled, k.empty)
 
 pub drop_all-requires-clause-quiet : goal.drop_all-requires-clause-quiet
 drop_all-requires-clause-quiet g c =
     let r = c.requires.can in
-    (c.in-Made-close_gates.ensures.made refl r.0 (c.in-Made.ensures.made refl r.0 r.1 r.2 r.3 r.4) r.3).quiet
+    (c.in-Made-close_gates.ensures.made refl r.0 (c.in-Made.ensures.made refl r.0 r.1 r.2 r.3)).quiet
 
 pub returns-clause-made : goal.returns-clause-made
-returns-clause-made g c = λ made first total h sound wanted.
-    let k = c.in-Made-close_gates.ensures.made refl first (c.in-Made.ensures.made refl first total h sound wanted) sound in
+returns-clause-made g c = λ made first total h wanted.
+    let k = c.in-Made-close_gates.ensures.made refl first (c.in-Made.ensures.made refl first total h wanted) in
     let d = c.drop_all.ensures.made made first k.state k.settled k.empty in
     record { state = d.state; settled = d.settled; empty = d.empty; quiet = c.drop_all.ensures.quiet made; short = c.drop_all.ensures.few made }
 
 pub returns-clause-stopped : goal.returns-clause-stopped
-returns-clause-stopped g c = λ stopped first total h sound wanted.
-    let k = c.in-Made-close_gates.ensures.made refl first (c.in-Made.ensures.made refl first total h sound wanted) sound in
-    c.drop_all.ensures.stopped stopped first k.state sound k.settled k.empty
+returns-clause-stopped g c = λ stopped first total h wanted.
+    let k = c.in-Made-close_gates.ensures.made refl first (c.in-Made.ensures.made refl first total h wanted) in
+    c.drop_all.ensures.stopped stopped first k.state h.sound k.settled k.empty
 
 pub returns-clause-counted : goal.returns-clause-counted
 returns-clause-counted g c =
     let mark = if c.args.wanted then c.args.layout.cells + 21 else 0 in
     let len = c.in-Made.ensures.count refl in
-    let first_two = counted_then mark (gates_len c.checkpoint_if.new.gates + 3) Made (g.D.Device.counts c.args.device.now) (g.D.Device.counts c.checkpoint_if.new.device) (g.D.Device.counts c.close_gates.new.device)
+    let first_two = counted_then mark (gates_len c.checkpoint_if.new.held.gates + 3) Made (g.D.Device.counts c.args.device.now) (g.D.Device.counts c.checkpoint_if.new.device) (g.D.Device.counts c.close_gates.new.device)
     c.in-Made.ensures.counted c.in-Made-close_gates.ensures.counted in
-    counted_more (mark + (gates_len c.checkpoint_if.new.gates + 3) + 7 * c.args.layout.buckets) (clear_events c.args.layout c.args.wanted (gates_len c.args.gates)) c.drop_all.result (g.D.Device.counts c.args.device.now)
-    (g.D.Device.counts c.drop_all.new.device) (clear_fits c.args.layout c.args.wanted (gates_len c.args.gates) (gates_len c.checkpoint_if.new.gates) len)
-    (counted_then (mark + (gates_len c.checkpoint_if.new.gates + 3)) (7 * c.args.layout.buckets) c.drop_all.result (g.D.Device.counts c.args.device.now) (g.D.Device.counts c.close_gates.new.device)
+    counted_more (mark + (gates_len c.checkpoint_if.new.held.gates + 3) + 7 * c.args.layout.buckets) (clear_events c.args.layout c.args.wanted (gates_len c.args.held.gates)) c.drop_all.result (g.D.Device.counts c.args.device.now)
+    (g.D.Device.counts c.drop_all.new.device) (clear_fits c.args.layout c.args.wanted (gates_len c.args.held.gates) (gates_len c.checkpoint_if.new.held.gates) len)
+    (counted_then (mark + (gates_len c.checkpoint_if.new.held.gates + 3)) (7 * c.args.layout.buckets) c.drop_all.result (g.D.Device.counts c.args.device.now) (g.D.Device.counts c.close_gates.new.device)
     (g.D.Device.counts c.drop_all.new.device) first_two c.drop_all.ensures.counted)
 
 pub returns-clause-header : goal.returns-clause-header

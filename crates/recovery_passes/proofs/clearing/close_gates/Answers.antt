@@ -7,7 +7,7 @@ use Rattle.recovery_passes.proofs.Closed.{plan_few, ready_lists, closed_log, clo
 use Rattle.recovery_passes.proofs.clearing.close_gates.Goals as goal
 
 pub returns-then-has_no_gates-clause-made : goal.returns-then-has_no_gates-clause-made
-returns-then-has_no_gates-clause-made g c = λ made first h sound. closed_already c.args.layout first c.args.gates (g.D.Device.cells c.args.device.now) (c.has_no_gates.ensures.some c.if-has_no_gates.true) h
+returns-then-has_no_gates-clause-made g c = λ made first h. closed_already c.args.layout first c.args.gates (g.D.Device.cells c.args.device.now) (c.has_no_gates.ensures.some c.if-has_no_gates.true) h
 
 pub close_everything-requires-clause-spare : goal.close_everything-requires-clause-spare
 close_everything-requires-clause-spare g c =
@@ -28,19 +28,19 @@ close_everything-requires-clause-few g c =
     omega (arith, few, small)
 
 pub returns-clause-made : goal.returns-clause-made
-returns-clause-made g c = λ made first h sound.
+returns-clause-made g c = λ made first h.
     let list = c.into_clear_list-list.result in
     let is = c.into_clear_list-list.ensures in
     let old = g.D.Device.cells c.args.device.now in
-    let end = c.close_everything.ensures.made made (layout_shape c.args.layout) first h.state h.settled sound (ready_lists c.args.layout c.args.gates list.gates list.ends list.checkpoints is.0 is.1 is.2 first old h) in
+    let end = c.close_everything.ensures.made made (layout_shape c.args.layout) first h.state h.settled h.sound (ready_lists c.args.layout c.args.gates list.gates list.ends list.checkpoints is.0 is.1 is.2 first old h) in
     closed_log c.args.layout c.args.gates list.gates list.ends list.checkpoints is.0 is.1 is.2 first old (g.D.Device.cells c.close_everything.new.device) h end.0
     (let few = c.args.layout.partitions_within in omega (arith, few)) end.1 c.close_everything.ensures.low
 
 pub returns-clause-stopped : goal.returns-clause-stopped
-returns-clause-stopped g c = λ stopped first h sound.
+returns-clause-stopped g c = λ stopped first h.
     let list = c.into_clear_list-list.result in
     let is = c.into_clear_list-list.ensures in
-    c.close_everything.ensures.stopped stopped (layout_shape c.args.layout) first h.state h.settled sound
+    c.close_everything.ensures.stopped stopped (layout_shape c.args.layout) first h.state h.settled h.sound
     (ready_lists c.args.layout c.args.gates list.gates list.ends list.checkpoints is.0 is.1 is.2 first (g.D.Device.cells c.args.device.now) h)
 
 pub returns-clause-counted : goal.returns-clause-counted

@@ -14,25 +14,25 @@ abbrev state : (g : _) (c : After-undo g) → State
 state g c = running_state (runs g c).words (runs g c).room
 
 can : (g : _) (c : After-undo g) →
-    CanUndo c.args.layout 1 (c.record.result ∷ c.record-2.result ∷ c.record-3.result ∷ c.record-4.result ∷ []) c.args.next.now c.args.gates.now (state g c) (state g c) (g.D.Device.cells c.args.device.now) (g.D.Device.spare c.args.device.now)
-can g c = can_undo c.args.layout (g.D.Device.cells c.args.device.now) (g.D.Device.spare c.args.device.now) c.args.next.now _ c.args.gates.now
-    (runs g c) c.requires.spare c.requires.next refl (four_records _ _ _ _ c.record.ensures c.record-2.ensures c.record-3.ensures c.record-4.ensures) c.requires.gates
+    CanUndo c.args.layout 1 (c.record.result ∷ c.record-2.result ∷ c.record-3.result ∷ c.record-4.result ∷ []) c.args.held.now (state g c) (state g c) (g.D.Device.cells c.args.device.now) (g.D.Device.spare c.args.device.now)
+can g c = can_undo c.args.layout (g.D.Device.cells c.args.device.now) (g.D.Device.spare c.args.device.now) _ c.args.held.now
+    (runs g c) c.requires.spare c.requires.next refl (four_records _ _ _ _ c.record.ensures c.record-2.ensures c.record-3.ensures c.record-4.ensures) c.requires.gates c.requires.table
 
-pub undo-requires-clause-can : goal.undo-requires-clause-can
-undo-requires-clause-can g c =
+pub undo-requires : goal.undo-requires
+undo-requires g c =
     let h = tested (layout_shape c.args.layout) (g.D.Device.cells c.args.device.now) c.requires.tested in
     let state : State = running_state h.words h.room in (
       state,
       state,
-      can_undo c.args.layout (g.D.Device.cells c.args.device.now) (g.D.Device.spare c.args.device.now) c.args.next.now _ c.args.gates.now h c.requires.spare c.requires.next refl
-          (four_records _ _ _ _ c.record.ensures c.record-2.ensures c.record-3.ensures c.record-4.ensures) c.requires.gates,
+      can_undo c.args.layout (g.D.Device.cells c.args.device.now) (g.D.Device.spare c.args.device.now) _ c.args.held.now h c.requires.spare c.requires.next refl
+          (four_records _ _ _ _ c.record.ensures c.record-2.ensures c.record-3.ensures c.record-4.ensures) c.requires.gates c.requires.table,
     )
 
 pub returns-clause-made : goal.returns-clause-made
 returns-clause-made g c = λ made. (
   state g c,
   _,
-  can_checkpoint c.args.layout c.args.gates.now c.undo.new.gates c.undo.new.next (g.D.Device.cells c.args.device.now) (g.D.Device.cells c.undo.new.device) (runs g c) c.requires.gates
+  can_checkpoint c.args.layout c.args.held.now.gates c.undo.new.held (g.D.Device.cells c.args.device.now) (g.D.Device.cells c.undo.new.device) (runs g c) c.requires.gates c.requires.table
       (c.undo.ensures.made made (state g c) (state g c) (can g c)),
 )
 

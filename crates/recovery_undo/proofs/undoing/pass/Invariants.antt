@@ -1,16 +1,14 @@
 use Rattle.std.proofs.Common.{◌≤◌, ◌+◌, length, map, reverse, take}
 use Rattle.bucket_log.specs.Scans.{record_of_placed}
-use Rattle.recovery_undo.specs.RecoveryAppends.{KnowsRegion}
 use Rattle.recovery_undo.specs.UndoProgress.{seen, Start, Passes}
 use Rattle.recovery_undo.proofs.undoing.pass.Given as goal
 
 abbrev pub invariant-loop-left : goal.invariant-loop-left
 invariant-loop-left g l = record {
   bound : l.counter + l.left ≤ length l.records;
-  knows : KnowsRegion l.target.layout l.table (g.D.Device.cells l.device);
-  so_far : (start : Start) → Passes l.target start (reverse (map record_of_placed l.records)) 0 l.initial.next l.initial.gates
+  so_far : (start : Start) → Passes l.target start (reverse (map record_of_placed l.records)) 0 l.initial.held
       (seen (g.D.Device.cells l.initial.device) (g.D.Device.counts l.initial.device) (g.D.Device.spare l.initial.device))
-      → Passes l.target start (reverse (map record_of_placed (take l.left l.records))) l.counter l.next l.gates
+      → Passes l.target start (reverse (map record_of_placed (take l.left l.records))) l.counter l.held
       (seen (g.D.Device.cells l.device) (g.D.Device.counts l.device) (g.D.Device.spare l.device));
 }
 

@@ -1,19 +1,13 @@
 use Rattle.std.proofs.Common.{refl}
 use Rattle.recovery_undo.proofs.undoing.undo_target.Goals as goal
 
-pub pass-requires-clause-passes : goal.pass-requires-clause-passes
-pass-requires-clause-passes g c = (c.requires.begins.0, c.in-Made.ensures.made refl c.requires.begins.0 c.requires.begins.1)
+pub pass-requires : goal.pass-requires
+pass-requires g c = (c.requires.0, c.in-Made.ensures.made refl c.requires.0 c.requires.1)
 
-pub pass-requires-clause-table : goal.pass-requires-clause-table
-pass-requires-clause-table g c = c.in-Made.ensures.table refl
-
-pub finish-requires-clause-passes : goal.finish-requires-clause-passes
-finish-requires-clause-passes g c =
-    let k = c.in-Made-pass.ensures.made refl c.requires.begins.0 (c.in-Made.ensures.made refl c.requires.begins.0 c.requires.begins.1) in
-    (c.requires.begins.0, k.0, k.1)
-
-pub finish-requires-clause-table : goal.finish-requires-clause-table
-finish-requires-clause-table g c = c.in-Made-pass.ensures.table refl
+pub finish-requires : goal.finish-requires
+finish-requires g c =
+    let k = c.in-Made-pass.ensures.made refl c.requires.0 (c.in-Made.ensures.made refl c.requires.0 c.requires.1) in
+    (c.requires.0, k.0, k.1)
 
 pub returns-in-Stopped-clause-stopped : goal.returns-in-Stopped-clause-stopped
 returns-in-Stopped-clause-stopped g c = λ same start h. c.in-Stopped.ensures.stopped refl start h
