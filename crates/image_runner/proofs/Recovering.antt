@@ -9,7 +9,7 @@ use Rattle.region_layout.specs.declared.layout.Kind.{Kind}
 use Rattle.region_layout.specs.declared.reading.ImageFault.{ImageFault}
 use Rattle.image_text.specs.declared.image.Image.{Image}
 use Rattle.image_text.specs.Written.{IsWritable}
-use Rattle.image_text.specs.Grammar.{image as image_of_text}
+use Rattle.image_text.specs.Grammar.{IsImageText}
 use Rattle.recovery_run.specs.Edges.{KeepsWords, IsPlainHeaderWord}
 use Rattle.recovery_run.specs.Reached.{newest_at}
 use Rattle.recovery_passes.specs.declared.recovering.Recovered.{Recovered}
@@ -26,7 +26,7 @@ use Rattle.sound_check.specs.declared.fault.CheckFault.TheVariants as refusal
 use Rattle.image_runner.specs.Tells.{end_of_refusal, end_of_fault, Tells, TellsText}
 use Rattle.image_runner.proofs.Kept.{reads_loaded, same_standing, recovered_by}
 use Rattle.image_runner.proofs.Contents.{AreSameFrom, hold_there, broken_there}
-use Rattle.image_text.proofs.RoundTrip.{written_reads}
+use Rattle.image_text.proofs.Meanings.{written_reads}
 
 -- what a finished recovery owes
 pub record HasFinished (cells later : Region) (counts later_counts : Counts) (done : Recovered) : Type 0 where
@@ -123,7 +123,7 @@ module _ (i : Image) (cells later : Region) (before counts later_counts : Counts
           } in
           record {
             text_is = told.is;
-            reads = ap image_of_text told.is ∙ written_reads i.kinds (newest_words later) writes;
+            reads = subst (λ (t : List ℕ). IsImageText t i.kinds (newest_words later)) (sym told.is) (written_reads i.kinds (newest_words later) writes);
           }
 
       pub told_end : (wanted : Wanted) (region : Region) (end : Ended) → Tells wanted (heap (shape_of (words_of i))) i.kinds done (newest_words later) end

@@ -8,8 +8,7 @@ use Rattle.persist_model.specs.Faults.{IsFirstFault}
 use Rattle.lane_traits.specs.Device.{Counts, counted, since_load}
 use Rattle.region_layout.specs.declared.layout.Kind.{Kind}
 use Rattle.image_text.specs.declared.image.Image.{Image}
-use Rattle.image_text.specs.declared.image.TextFault.TheVariants.{Line}
-use Rattle.image_text.specs.Grammar.{image as image_of_text}
+use Rattle.image_text.specs.Grammar.{IsImageText, IsTextOf, BreaksAt}
 use Rattle.image_text.specs.Written.{image_text}
 use Rattle.recovery_run.specs.Reached.{newest_at}
 use Rattle.recovery_passes.specs.Recovered.{IsFinished, Restores, EachStands, AreFates, AreFew}
@@ -78,7 +77,7 @@ pub record IsReportOf (i : Image) (events : ℕ) (text : List ℕ) : Type 0 wher
 -- The text of the device's words, which reads as them and the same kinds.
 pub record IsImageOf (kinds : List Kind) (words : List ℕ) (text : List ℕ) : Type 0 where
   pub text_is : text ≡ image_text kinds words
-  pub reads : image_of_text text ≡ Ok (record { kinds = kinds; words = words })
+  pub reads : IsImageText text kinds words
 
 abbrev pub IsTold : Wanted → Image → ℕ → Region → List ℕ → Type 0
 IsTold want.Report i events region text = IsReportOf i events text
@@ -121,7 +120,7 @@ IsEndOfImage wanted i region counts region_after counts_after (ended.Done text) 
 
 -- what a text came to, and why
 abbrev pub IsEndOf : Wanted → List ℕ → Region → Counts → Region → Counts → Ended → Type 0
-IsEndOf wanted text region counts region_after counts_after (ended.Misread line) = (image_of_text text ≡ Err (Line line)) × (region_after ≡ region) × (counts_after ≡ counts)
+IsEndOf wanted text region counts region_after counts_after (ended.Misread line) = BreaksAt text line × (region_after ≡ region) × (counts_after ≡ counts)
 IsEndOf wanted text region counts region_after counts_after ended.NoMemory =
-    ((region_after ≡ region) × (counts_after ≡ counts)) ⊎ ((i : Image) × (image_of_text text ≡ Ok i) × IsShort i region counts region_after counts_after)
-IsEndOf wanted text region counts region_after counts_after end = (i : Image) × (image_of_text text ≡ Ok i) × IsEndOfImage wanted i region counts region_after counts_after end
+    ((region_after ≡ region) × (counts_after ≡ counts)) ⊎ ((i : Image) × IsTextOf text i × IsShort i region counts region_after counts_after)
+IsEndOf wanted text region counts region_after counts_after end = (i : Image) × IsTextOf text i × IsEndOfImage wanted i region counts region_after counts_after end

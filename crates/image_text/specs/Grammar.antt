@@ -5,8 +5,10 @@ use Rattle.std.specs.Str.{bytes_eq}
 use Rattle.persist_model.specs.declared.format.TheConstants.{MAX_WORDS}
 use Rattle.region_layout.specs.declared.layout.Kind.{Kind}
 use Rattle.region_layout.specs.declared.layout.Kind.TheVariants.{Cells, Tree, Hash}
+use Rattle.image_text.specs.declared.image.Image.{Image}
 use Rattle.image_text.specs.declared.entry.Entry.{Entry}
 use Rattle.image_text.specs.declared.entry.Entry.TheVariants.{Size, Map, Word, End}
+use Rattle.image_text.specs.declared.draft.TheConstants.{MAX_KINDS}
 use Rattle.image_text.specs.Text.{is_space, lines, number_of, value_of}
 
 infixl 10 ◌>>=◌
@@ -80,13 +82,16 @@ pub record AreLinesOf (ls : List (List ℕ)) (kinds : List Kind) (words : List �
   pub say : map entry_of ls ≡ map Some (entries (length words) kinds named)
   pub small : length words ≤ MAX_WORDS
   pub some : 1 ≤ length kinds
-  pub few : length kinds ≤ 8
+  pub few : length kinds ≤ MAX_KINDS
   pub rise : Rise 0 (length words) named
   pub values : (a : ℕ) → slice_index words a ≡ value_at a named
 
 -- The text of an image of these kinds and words.
 abbrev pub IsImageText : List ℕ → List Kind → List ℕ → Type 0
 IsImageText text kinds words = AreLinesOf (lines text) kinds words
+
+abbrev pub IsTextOf : List ℕ → Image → Type 0
+IsTextOf text i = IsImageText text i.kinds i.words
 
 -- ---- the first wrong line
 

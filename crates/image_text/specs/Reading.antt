@@ -10,6 +10,7 @@ use Rattle.image_text.specs.declared.entry.Entry.TheVariants.{Size, Map, Word, E
 use Rattle.image_text.specs.declared.draft.Part.{Part}
 use Rattle.image_text.specs.declared.draft.Part.TheVariants as part
 use Rattle.image_text.specs.declared.draft.Draft.{Draft}
+use Rattle.image_text.specs.declared.draft.TheConstants.{MAX_KINDS}
 use Rattle.image_text.specs.declared.refusal.Refusal.{Refusal}
 use Rattle.image_text.specs.declared.refusal.Refusal.TheVariants as refusal
 use Rattle.image_text.specs.Text.{lines}
@@ -52,7 +53,7 @@ with_size draft size = do
 -- Then come up to eight maps.
 unfoldable pub with_map : Draft → Kind → Option Draft
 with_map draft kind = do
-  _ ← guard (is_maps draft.part && nat_lt (length draft.kinds) 8)
+  _ ← guard (is_maps draft.part && nat_lt (length draft.kinds) MAX_KINDS)
   Some (record draft { kinds = draft.kinds ++ kind ∷ [] })
 
 abbrev pub is_next_word : Draft → ℕ → Bool

@@ -3,6 +3,7 @@ use Rattle.std.specs.Prelude.{ℕ, ◌+◌, ◌<◌, ◌≤◌, ◌^◌, List, [
 use Rattle.persist_model.specs.declared.format.TheConstants.{MAX_WORDS}
 use Rattle.region_layout.specs.declared.layout.Kind.{Kind}
 use Rattle.region_layout.specs.declared.layout.Kind.TheVariants.{Cells, Tree, Hash}
+use Rattle.image_text.specs.declared.draft.TheConstants.{MAX_KINDS}
 use Rattle.image_text.specs.Text.{text_of, hexadecimal}
 use Rattle.image_text.specs.Grammar.{IsImageText}
 
@@ -38,7 +39,7 @@ image_text kinds words = text_of (image_lines kinds words)
 -- An image that a text can have.
 pub record IsWritable (kinds : List Kind) (words : List ℕ) : Type 0 where
   pub some : 1 ≤ length kinds
-  pub few : length kinds ≤ 8
+  pub few : length kinds ≤ MAX_KINDS
   pub small : length words ≤ MAX_WORDS
   pub fit : (a : ℕ) → a < length words → slice_index words a < 2 ^ 64
 

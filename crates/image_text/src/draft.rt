@@ -11,7 +11,8 @@ use persist_model::format::MAX_WORDS;
 use region_layout::Kind;
 use std::alloc::Global;
 
-const MAX_KINDS: usize = 8;
+/// The most `map` lines of a text.
+pub const MAX_KINDS: usize = 8;
 
 /// What the last line belongs to.
 #[derive(Clone, Copy, Debug, PartialEq, Eq)]

@@ -1,7 +1,7 @@
 //! Reading an image text.
 ghost use Rattle.std.specs.Prelude.{◌≡◌, ℕ, Err, IfOk};
 ghost use Rattle.image_text.specs.declared.image.TextFault.{TextFault};
-ghost use Rattle.image_text.specs.Grammar.{IsImageText, BreaksAt};
+ghost use Rattle.image_text.specs.Grammar.{IsTextOf, BreaksAt};
 ghost use Rattle.image_text.specs.Reading.{image as image_of_text, Reads};
 ghost use Rattle.image_text.specs.Written.{IsWritable};
 
@@ -14,7 +14,7 @@ use std::alloc::Global;
 ///
 /// Each text is that of exactly one image, or breaks at exactly one line: so this answers as the text wants, or with want of memory.
 pub fn read_image(alloc: Global, text: &[u8]) -> Result<Image, TextFault>
-    ensures reads { IfOk result (λ found. IsImageText text.now found.kinds found.words) }
+    ensures reads { IfOk result (λ found. IsTextOf text.now found) }
     ensures breaks { (line : ℕ) → result ≡ Err (TextFault.Line line) → BreaksAt text.now line }
     ensures writable { IfOk result (λ found. IsWritable found.kinds found.words) }
 {

@@ -10,7 +10,7 @@ use Rattle.persist_model.specs.Shape.{shape_of, heap}
 use Rattle.lane_traits.specs.Device.{Counts, since_load}
 use Rattle.lane_traits.specs.Stream.{HasRisen}
 use Rattle.image_text.specs.declared.image.Image.{Image}
-use Rattle.image_text.specs.Grammar.{image as image_of_text}
+use Rattle.image_text.specs.Grammar.{IsTextOf}
 use Rattle.recovery_passes.specs.Recovered.{IsFinished}
 use Rattle.image_runner.specs.declared.runner.Wanted.{Wanted}
 use Rattle.image_runner.specs.declared.runner.Wanted.TheVariants as want
@@ -225,7 +225,7 @@ module _ (wanted : Wanted) (call : Call) (words : AreWordsOf (job.Recover wanted
 -- ---- an image that a recovery left wants no event
 
 module _ (wanted : Wanted) (call : Call) (bytes : List ℕ) (i : Image) (words : AreWordsOf (job.Recover wanted) call.words) (tells : call.left ≡ Some bytes)
-    (is : image_of_text bytes ≡ Ok i) (finished : IsFinished (length i.words) (words_of i)) where
+    (is : IsTextOf bytes i) (finished : IsFinished (length i.words) (words_of i)) where
   finished_there : (j : Image) → i ≡ j → IsFinished (length j.words) (words_of j)
   finished_there j this = subst (λ (x : Image). IsFinished (length x.words) (words_of x)) this finished
 
@@ -240,8 +240,8 @@ module _ (wanted : Wanted) (call : Call) (bytes : List ℕ) (i : Image) (words :
   short_rests j this (unmade_there h) = ap (λ (c : Counts). c.events) h.unmade
   short_rests j this (behind h) = recovered_rests j this h
 
-  here_is : (text : List ℕ) (j : Image) → bytes ≡ text → image_of_text text ≡ Ok j → i ≡ j
-  here_is text j same there = ok_same bytes i j is (ap image_of_text same ∙ there)
+  here_is : (text : List ℕ) (j : Image) → bytes ≡ text → IsTextOf text j → i ≡ j
+  here_is text j same there = ok_same bytes i j is (subst (λ (t : List ℕ). IsTextOf t j) (sym same) there)
 
   end_rests : (w : Wanted) (text : List ℕ) (end : Ended) → bytes ≡ text → IsEndOf w text call.region call.counts call.region_after call.counts_after end
       → call.counts_after.events ≡ call.counts.events

@@ -16,8 +16,7 @@ use Rattle.image_runner.specs.declared.runner.Ended.{Ended}
 use Rattle.image_runner.specs.declared.runner.Ended.TheVariants as ended
 use Rattle.image_runner.specs.declared.runner.Wanted.TheVariants as want
 use Rattle.image_text.specs.declared.image.Image.{Image}
-use Rattle.image_text.specs.declared.image.TextFault.TheVariants.{Line}
-use Rattle.image_text.specs.Grammar.{image as image_of_text}
+use Rattle.image_text.specs.Grammar.{IsTextOf, BreaksAt}
 use Rattle.persist_model.specs.Shape.{shape_of, heap}
 use Rattle.image_runner.specs.Ends.{words_of, AreStanding, IsAdmitted, IsRefusedBy, IsEndOf}
 use Rattle.image_runner.specs.Maps.{AreMaps, IsFirstBroken}
@@ -252,10 +251,10 @@ due bytes = if nat_lt SCRIPT_LIMIT (length bytes) then status.TooLong else due_o
 -- doesn't stop.
 pub data IsDue (wanted : Wanted) (bytes : List ℕ) (s : Status) : Type 0 where
   long : IMAGE_LIMIT < length bytes → s ≡ status.TooLong → IsDue wanted bytes s
-  misread : length bytes ≤ IMAGE_LIMIT → (line : ℕ) → image_of_text bytes ≡ Err (Line line) → s ≡ status.Script → IsDue wanted bytes s
-  refused : length bytes ≤ IMAGE_LIMIT → (i : Image) → image_of_text bytes ≡ Ok i → (fault a : ℕ) → IsRefusedBy i fault a → s ≡ status.Unsound → IsDue wanted bytes s
-  broken : length bytes ≤ IMAGE_LIMIT → (i : Image) → image_of_text bytes ≡ Ok i → IsAdmitted i → wanted ≡ want.Report
+  misread : length bytes ≤ IMAGE_LIMIT → (line : ℕ) → BreaksAt bytes line → s ≡ status.Script → IsDue wanted bytes s
+  refused : length bytes ≤ IMAGE_LIMIT → (i : Image) → IsTextOf bytes i → (fault a : ℕ) → IsRefusedBy i fault a → s ≡ status.Unsound → IsDue wanted bytes s
+  broken : length bytes ≤ IMAGE_LIMIT → (i : Image) → IsTextOf bytes i → IsAdmitted i → wanted ≡ want.Report
       → (z : Words) → AreStanding (words_of i) z → (a : ℕ) → IsFirstBroken (heap (shape_of (words_of i))) z i.kinds a → s ≡ status.Unsound → IsDue wanted bytes s
-  reported : length bytes ≤ IMAGE_LIMIT → (i : Image) → image_of_text bytes ≡ Ok i → IsAdmitted i
+  reported : length bytes ≤ IMAGE_LIMIT → (i : Image) → IsTextOf bytes i → IsAdmitted i
       → (z : Words) → AreStanding (words_of i) z → AreMaps (heap (shape_of (words_of i))) z i.kinds → s ≡ status.Done → IsDue wanted bytes s
-  imaged : length bytes ≤ IMAGE_LIMIT → (i : Image) → image_of_text bytes ≡ Ok i → IsAdmitted i → wanted ≡ want.Image → s ≡ status.Done → IsDue wanted bytes s
+  imaged : length bytes ≤ IMAGE_LIMIT → (i : Image) → IsTextOf bytes i → IsAdmitted i → wanted ≡ want.Image → s ≡ status.Done → IsDue wanted bytes s

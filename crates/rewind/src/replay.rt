@@ -7,7 +7,7 @@ ghost use Rattle.rewind.specs.Events.{event_count};
 ghost use Rattle.rewind.specs.Words.{AreRun, AreKnown, AreWordsOf};
 ghost use Rattle.rewind.specs.Call.{IsCauseOf, IsTextOutcome, AreLimitsOf, IsAnswerTo, HasRun, HasReadFor, status_of, status_of_end, text_of, text_of_end, due, IsDue};
 ghost use Rattle.image_text.specs.declared.image.Image.{Image};
-ghost use Rattle.image_text.specs.Grammar.{image as image_of_text};
+ghost use Rattle.image_text.specs.Grammar.{IsTextOf};
 ghost use Rattle.image_runner.specs.Ends.{words_of};
 ghost use Rattle.recovery_passes.specs.Recovered.{IsFinished};
 
@@ -128,7 +128,7 @@ pub fn rewind_replay<S: Source, K: Sink, D: Device>(
         → (D.counts region).events + 2 ^ 22 ≤ (D.counts region).budget → result.0 ≢ Status.Stopped }
     // An image that a recovery left wants none.
     ensures again { (wanted : Wanted) (bytes : List ℕ) (i : Image) → AreWordsOf (Job.Recover wanted) (map string_bytes words.now)
-        → S.left script.old ≡ Some bytes → image_of_text bytes ≡ Ok i → IsFinished (length i.words) (words_of i)
+        → S.left script.old ≡ Some bytes → IsTextOf bytes i → IsFinished (length i.words) (words_of i)
         → (D.counts result.1).events ≡ (D.counts region).events }
     ensures ran { HasRun
         (record {
