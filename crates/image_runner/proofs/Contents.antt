@@ -63,7 +63,7 @@ hold_from_there heap w u s (kind ∷ kinds) (m ∷ maps) same h =
 pub hold_there : (heap : ℕ) (w u : Words) (kinds : List Kind) (maps : List PairList) → AreSameFrom heap w u → HoldMaps heap w kinds maps → HoldMaps heap u kinds maps
 hold_there heap w u kinds maps same h = hold_from_there heap w u 0 kinds maps same h
 
-are_maps_there : (heap : ℕ) (w u : Words) (s : ℕ) (kinds : List Kind) → AreSameFrom heap w u → AreMapsFrom heap w s kinds → AreMapsFrom heap u s kinds
+pub are_maps_there : (heap : ℕ) (w u : Words) (s : ℕ) (kinds : List Kind) → AreSameFrom heap w u → AreMapsFrom heap w s kinds → AreMapsFrom heap u s kinds
 are_maps_there heap w u s [] same h = tt
 are_maps_there heap w u s (kind ∷ kinds) same h = (is_map_there kind heap s w u same h.0, are_maps_there heap w u (s + 1) kinds same h.1)
 

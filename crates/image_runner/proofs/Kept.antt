@@ -1,5 +1,5 @@
 -- What stands in a device that was loaded with an image and recovered.
-use Rattle.std.proofs.Common.{◌≡◌, inl, inr, ℕ, ◌+◌, ◌*◌, ◌<◌, ◌≤◌, ◌==◌, true, false, if◌then◌else◌, List, [], length, refl, sym, ◌∙◌, ap, subst, arith, nat_lt, slice_index}
+use Rattle.std.proofs.Common.{◌≡◌, inl, inr, ◌⊎◌, Bool, false-eqb, ℕ, ◌+◌, ◌*◌, ◌<◌, ◌≤◌, ◌==◌, true, false, if◌then◌else◌, List, [], length, refl, sym, ◌∙◌, ap, subst, arith, nat_lt, slice_index}
 use Rattle.std.proofs.lemmas.List.{ext_get_or, get_or_past}
 use Rattle.std.proofs.lemmas.Bool.{lt-ltb, le-ltb, cases_lt}
 use Rattle.persist_model.specs.Region.{Words, Region, IsImage, AreSettled, loaded, newest_words}
@@ -40,13 +40,43 @@ shape_loaded words cells shape is same = same ∙ sym (ap (λ (w : Words). shape
 list_words_low : (p : ℕ) → 8 ≤ list_words p
 list_words_low p = elim (p == 0) as (λ b. 8 ≤ (if b then 8 else 16 + 5 * p)) [ true ↦ omega arith | false ↦ omega arith ]
 
-header_word : (shape : Shape) (a : ℕ) → a ≤ 6 → IsPlainHeaderWord shape a
+pub header_word : (shape : Shape) (a : ℕ) → a ≤ 6 → IsPlainHeaderWord shape a
 header_word shape a low = record {
   below = omega arith;
   apart = λ p within. inl (omega (arith, list_words_low p));
 }
 
-one_loaded : (words : List ℕ) (a : ℕ) → HasOnlyValue (slice_index words a) ((loaded words).at a)
+-- the word of a structure's kind
+pub kind_word : (shape : Shape) (s : ℕ) → s < 8 → IsPlainHeaderWord shape (13 + s)
+kind_word shape s low = record {
+  below = omega arith;
+  apart = λ p within. by_part p (p == 0) refl;
+}
+  where
+    by_part : (p : ℕ) (b : Bool) → (p == 0) ≡ b → (13 + s < list_words p) ⊎ (list_words p + 4 < 13 + s)
+    by_part p true first =
+        let at : list_words p ≡ 8 = ap (λ t. if t then 8 else 16 + 5 * p) first in
+        inr (omega (arith, at))
+    by_part p false other =
+        let at : list_words p ≡ 16 + 5 * p = ap (λ t. if t then 8 else 16 + 5 * p) other in
+        inl (omega (arith, at, false-eqb p 0 (sym other)))
+
+-- the first words give the shape
+pub same_shape : (u w : Words) → ((a : ℕ) → a ≤ 6 → u a ≡ w a) → shape_of u ≡ shape_of w
+same_shape u w same = shape_by (same 0 (omega arith)) (same 1 (omega arith)) (same 2 (omega arith)) (same 3 (omega arith)) (same 4 (omega arith)) (same 5 (omega arith)) (same 6 (omega arith))
+  where
+    shape_by : u 0 ≡ w 0 → u 1 ≡ w 1 → u 2 ≡ w 2 → u 3 ≡ w 3 → u 4 ≡ w 4 → u 5 ≡ w 5 → u 6 ≡ w 6 → shape_of u ≡ shape_of w
+    shape_by e0 e1 e2 e3 e4 e5 e6 = λ i. record {
+      policy = e1 i;
+      cells = e2 i;
+      buckets = e3 i;
+      blocks = e4 i;
+      structures = e5 i;
+      format = if e0 i == SECOND_MAGIC then 2 else 1;
+      partitions = if e0 i == SECOND_MAGIC then e6 i else 1;
+    }
+
+pub one_loaded : (words : List ℕ) (a : ℕ) → HasOnlyValue (slice_index words a) ((loaded words).at a)
 one_loaded words a x (inl same) = sym same
 one_loaded words a x (inr none) = absurd none
 
@@ -58,21 +88,7 @@ module _ (words : List ℕ) (later : Region) (full : AreFull later) (size : late
       ∙ newest_one (later.at a) (slice_index words a) (full a) (header a (slice_index words a) (header_word (shape_of (slice_index words)) a low) (one_loaded words a))
 
   pub shape_kept : shape_of (newest_at later) ≡ shape_of (slice_index words)
-  shape_kept = shape_by (header_kept 0 (omega arith)) (header_kept 1 (omega arith)) (header_kept 2 (omega arith)) (header_kept 3 (omega arith))
-      (header_kept 4 (omega arith)) (header_kept 5 (omega arith)) (header_kept 6 (omega arith))
-    where
-      shape_by : newest_at later 0 ≡ slice_index words 0 → newest_at later 1 ≡ slice_index words 1 → newest_at later 2 ≡ slice_index words 2 → newest_at later 3 ≡ slice_index words 3
-          → newest_at later 4 ≡ slice_index words 4 → newest_at later 5 ≡ slice_index words 5 → newest_at later 6 ≡ slice_index words 6
-          → shape_of (newest_at later) ≡ shape_of (slice_index words)
-      shape_by e0 e1 e2 e3 e4 e5 e6 = λ i. record {
-        policy = e1 i;
-        cells = e2 i;
-        buckets = e3 i;
-        blocks = e4 i;
-        structures = e5 i;
-        format = if e0 i == SECOND_MAGIC then 2 else 1;
-        partitions = if e0 i == SECOND_MAGIC then e6 i else 1;
-      }
+  shape_kept = same_shape (newest_at later) (slice_index words) header_kept
 
 -- ---- its standing words
 

@@ -1,7 +1,9 @@
 pub mod Kept
+pub mod Again
 pub mod Contents
 pub mod CellMaps
 pub mod MapSteps
 pub mod Recovering
 pub mod Bounds
 pub mod Excluding
+pub mod Deciding

@@ -18,13 +18,14 @@ use Rattle.image_runner.specs.declared.runner.Wanted.{Wanted}
 use Rattle.image_runner.specs.declared.runner.Wanted.TheVariants as want
 use Rattle.image_runner.specs.declared.runner.Ended.{Ended}
 use Rattle.image_runner.specs.declared.runner.Ended.TheVariants as ended
-use Rattle.image_runner.specs.Ends.{AreStanding, words_of, IsAdmitted, IsRefusedBy, IsLoaded, IsRecovered, WasRecovered, IsTold, IsHalted, unmade, behind, IsEndOfImage}
+use Rattle.image_runner.specs.Ends.{AreStanding, words_of, IsAdmitted, IsRefusedBy, IsLoaded, IsRecovered, EachRecoversAs, WasRecovered, IsTold, IsHalted, unmade, behind, IsEndOfImage}
 use Rattle.recovery_passes.specs.declared.recovering.Unfinished.{Unfinished}
 use Rattle.recovery_passes.specs.declared.recovering.Unfinished.TheVariants as failed
 use Rattle.sound_check.specs.declared.fault.CheckFault.{CheckFault}
 use Rattle.sound_check.specs.declared.fault.CheckFault.TheVariants as refusal
 use Rattle.image_runner.specs.Tells.{end_of_refusal, end_of_fault, Tells, TellsText}
 use Rattle.image_runner.proofs.Kept.{reads_loaded, same_standing, recovered_by}
+use Rattle.image_runner.proofs.Again.{each_recovers}
 use Rattle.image_runner.proofs.Contents.{AreSameFrom, hold_there, broken_there}
 use Rattle.image_text.proofs.Meanings.{written_reads}
 
@@ -46,6 +47,8 @@ pub record HasHalted (cells later : Region) (counts later_counts : Counts) : Typ
   pub counted_is : later_counts ≡ record counts { events = counts.budget; stopped = counted counts.stopped }
   pub early : (n : ℕ) → counts.events + n ≡ counts.budget → AreFew (newest_at cells) (n + 1)
   pub unfinished : IsFinished cells.size (newest_at cells) → ⊥
+  pub size : later.size ≡ cells.size
+  pub header : KeepsWords (IsPlainHeaderWord (shape_of (newest_at cells))) cells later
 
 module _ (i : Image) (cells later : Region) (before counts later_counts : Counts) (is_loaded : cells ≡ loaded i.words) (since : counts ≡ since_load before) (admitted : IsAdmitted i) where
   reads : newest_at cells ≡ words_of i
@@ -57,6 +60,13 @@ module _ (i : Image) (cells later : Region) (before counts later_counts : Counts
   back : (P : ℕ → Words → Type 0) → P (length i.words) (words_of i) → P cells.size (newest_at cells)
   back P h = subst (λ (w : Words). P cells.size w) (sym reads) (subst (λ n. P n (words_of i)) (sym (ap (λ (r : Region). r.size) is_loaded)) h)
 
+  header_there : KeepsWords (IsPlainHeaderWord (shape_of (newest_at cells))) cells later → KeepsWords (IsPlainHeaderWord (shape_of (words_of i))) (loaded i.words) later
+  header_there header = subst (λ (r : Region). KeepsWords (IsPlainHeaderWord (shape_of (words_of i))) r later) is_loaded
+      (there (λ n w. KeepsWords (IsPlainHeaderWord (shape_of w)) cells later) header)
+
+  again_by : later.size ≡ cells.size → KeepsWords (IsPlainHeaderWord (shape_of (newest_at cells))) cells later → EachStands (words_of i) later → EachRecoversAs i later
+  again_by size header stands = each_recovers i later admitted (size ∙ ap (λ (r : Region). r.size) is_loaded) (header_there header) stands
+
   pub halted_end : HasHalted cells later counts later_counts → IsHalted i before later later_counts
   halted_end h = record {
     admitted = admitted;
@@ -64,6 +74,7 @@ module _ (i : Image) (cells later : Region) (before counts later_counts : Counts
     counted = h.counted_is ∙ ap (λ (c : Counts). record c { events = c.budget; stopped = counted c.stopped }) since;
     early = λ n e. there (λ m w. AreFew w (n + 1)) (h.early n (ap (λ (c : Counts). c.events + n) since ∙ e ∙ sym (ap (λ (c : Counts). c.budget) since)));
     unfinished = λ finished. h.unfinished (back IsFinished finished);
+    again = again_by h.size h.header (there (λ n w. EachStands w later) h.stands);
   }
 
   -- what is promised of a recovery that wasn't finished, whatever its fault
@@ -84,8 +95,7 @@ module _ (i : Image) (cells later : Region) (before counts later_counts : Counts
     restored_is = there (λ n w. Restores w (newest_at later)) h.restored
 
     header_is : KeepsWords (IsPlainHeaderWord (shape_of (words_of i))) (loaded i.words) later
-    header_is = subst (λ (r : Region). KeepsWords (IsPlainHeaderWord (shape_of (words_of i))) r later) is_loaded
-        (there (λ n w. KeepsWords (IsPlainHeaderWord (shape_of w)) cells later) h.header)
+    header_is = header_there h.header
 
     pub recovered_is : IsRecovered (words_of i) later
     recovered_is = recovered_by i.words later full size_is admitted.sound header_is restored_is h.settled h.finished
@@ -100,6 +110,7 @@ module _ (i : Image) (cells later : Region) (before counts later_counts : Counts
         few = there (λ n w. AreFew w done.events) h.few;
         again = λ finished. h.again (back IsFinished finished);
       };
+      again = again_by h.size h.header recovered_is.each;
     }
 
     same_words : (z : Words) → AreStanding (words_of i) z → AreSameFrom (heap (shape_of (words_of i))) (newest_at later) z

@@ -1,7 +1,7 @@
 -- What a recovery of an image text came to, each end with its cause, and what became of the device.
-use Rattle.std.specs.Prelude.{◌≡◌, ◌⊎◌, ℕ, ◌+◌, ◌≤◌, List, length, Ok, Err, slice_index}
+use Rattle.std.specs.Prelude.{◌≡◌, ◌⊎◌, ◌↔◌, ℕ, ◌+◌, ◌≤◌, List, length, slice_index}
 use Rattle.persist_model.specs.ImageRules.{rule_number}
-use Rattle.persist_model.specs.Region.{Words, Region, AreSettled, loaded, newest_words}
+use Rattle.persist_model.specs.Region.{Words, Region, IsImage, AreSettled, loaded, newest_words}
 use Rattle.persist_model.specs.Shape.{shape_of, heap, words_of_shape}
 use Rattle.persist_model.specs.Sound.{IsSound}
 use Rattle.persist_model.specs.Faults.{IsFirstFault}
@@ -35,6 +35,18 @@ pub record IsAdmitted (i : Image) : Type 0 where
   pub sound : IsSound (length i.words) (words_of i)
   pub fit : Fit (words_of i) i.kinds
 
+-- This image may be recovered in the place of i: it is sound and of the same shape, its lines are the same and fit, and its
+-- standing words are the same.
+pub record RecoversAs (i later : Image) : Type 0 where
+  pub admitted : IsAdmitted later
+  pub lines : later.kinds ≡ i.kinds
+  pub shape : shape_of (words_of later) ≡ shape_of (words_of i)
+  pub standing : (z : Words) → AreStanding (words_of later) z ↔ AreStanding (words_of i) z
+
+-- whatever a stop leaves of the region now, with the lines of i it may be recovered in the place of i
+abbrev pub EachRecoversAs : Image → Region → Type 0
+EachRecoversAs i region = (words : List ℕ) → IsImage words region → RecoversAs i (record { kinds = i.kinds; words = words })
+
 -- the first rule that the image breaks, or the fault of its lines where it is sound
 pub data IsRefusedBy (i : Image) (fault a : ℕ) : Type 0 where
   unsound : IsFirstFault (length i.words) (words_of i) fault a → IsRefusedBy i fault a
@@ -65,6 +77,7 @@ pub record WasRecovered (i : Image) (counts : Counts) (region_after : Region) (c
   pub recovered : IsRecovered (words_of i) region_after
   pub events : ℕ
   pub made : HasMade i events counts counts_after
+  pub again : EachRecoversAs i region_after
 
 -- The report: the events, the committed and the running transactions, and the maps of the standing words.
 pub record IsReportOf (i : Image) (events : ℕ) (text : List ℕ) : Type 0 where
@@ -96,6 +109,7 @@ pub record IsHalted (i : Image) (counts : Counts) (region_after : Region) (count
   pub counted : counts_after ≡ record (since_load counts) { events = counts.budget; stopped = counted counts.stopped }
   pub early : (n : ℕ) → counts.events + n ≡ counts.budget → AreFew (words_of i) (n + 1)
   pub unfinished : IsFinished (length i.words) (words_of i) → ⊥
+  pub again : EachRecoversAs i region_after
 
 -- A report was wanted, and after recovery the structure with this root block holds no map.
 pub record IsBroken (wanted : Wanted) (i : Image) (counts : Counts) (region_after : Region) (counts_after : Counts) (a : ℕ) : Type 0 where
@@ -124,3 +138,13 @@ IsEndOf wanted text region counts region_after counts_after (ended.Misread line)
 IsEndOf wanted text region counts region_after counts_after ended.NoMemory =
     ((region_after ≡ region) × (counts_after ≡ counts)) ⊎ ((i : Image) × IsTextOf text i × IsShort i region counts region_after counts_after)
 IsEndOf wanted text region counts region_after counts_after end = (i : Image) × IsTextOf text i × IsEndOfImage wanted i region counts region_after counts_after end
+
+-- ---- again
+
+-- An image that may be recovered in the place of another may be recovered in the place of each that this one stands for.
+abbrev pub RecoversAgain : Type 0
+RecoversAgain = (i j k : Image) → RecoversAs i j → RecoversAs j k → RecoversAs i k
+
+-- It is never refused.
+abbrev pub IsNeverUnsound : Type 0
+IsNeverUnsound = (i later : Image) → RecoversAs i later → (fault a : ℕ) → IsRefusedBy later fault a → ⊥

@@ -3,6 +3,7 @@
 
 mod cells;
 mod checking;
+pub mod laws;
 mod map_lines;
 mod maps;
 mod reader;

@@ -1,12 +1,12 @@
 //! Whether the `map` lines of an image fit its words.
 ghost use Rattle.std.specs.Prelude.{◌≡◌, ◌≤◌, ℕ, length, slice_index, IfSome, IfNone};
 ghost use Rattle.persist_model.specs.ImageRules.{rule_number};
+ghost use Rattle.persist_model.specs.Shape.{SECOND_MAGIC as second_magic};
 ghost use Rattle.image_runner.specs.MapLines.{Fit, IsLineFault};
 
-use persist_model::{ImageRule, Look};
 use persist_model::format::{FIRST_KIND, SECOND_MAGIC, STRUCTURES};
+use persist_model::{ImageRule, Look};
 use region_layout::{ImageFault, Kind, number_of_kind};
-
 
 /// The fault of `map` lines that don't fit the words.
 pub(crate) fn wrong_line<W: Look>(words: &W, kinds: &[Kind]) -> Option<ImageFault>
@@ -32,7 +32,7 @@ fn wrong_kind<W: Look>(words: &W, kinds: &[Kind]) -> Option<ImageFault>
     requires long { 32 ≤ length (W.words words.now) }
     requires few { length kinds.now ≤ 8 }
     requires count { length kinds.now ≡ slice_index (W.words words.now) 5 }
-    requires second { slice_index (W.words words.now) 0 ≡ 5933297088048660482 }
+    requires second { slice_index (W.words words.now) 0 ≡ second_magic }
     ensures fault { IfSome result (λ found. IsLineFault (slice_index (W.words words.now)) kinds.now (rule_number found.rule) found.address) }
     ensures fit { IfNone result (Fit (slice_index (W.words words.now)) kinds.now) }
 {

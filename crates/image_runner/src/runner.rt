@@ -1,12 +1,13 @@
 //! Recovers the image of a text on a device.
-ghost use Rattle.std.specs.Prelude.{◌≡◌, ◌≤◌, ℕ, Err, length, slice_index, OnOk, IfOk};
+ghost use Rattle.std.specs.Prelude.{◌≡◌, ◌≢◌, ◌≤◌, ℕ, Err, length, slice_index, OnOk, IfOk};
 ghost use Rattle.persist_model.specs.ImageRules.{rule_number};
 ghost use Rattle.persist_model.specs.Region.{Region, loaded};
 ghost use Rattle.persist_model.specs.Shape.{heap, shape_of, words_of_shape};
 ghost use Rattle.lane_traits.specs.Device.{Counts, since_load};
 ghost use Rattle.region_layout.specs.Layout.{layout_shape};
+ghost use Rattle.image_text.specs.Grammar.{IsTextOf};
 ghost use Rattle.image_text.specs.Written.{IsWritable};
-ghost use Rattle.image_runner.specs.Ends.{words_of, IsAdmitted, IsRefusedBy, IsEndOfImage, IsEndOf};
+ghost use Rattle.image_runner.specs.Ends.{words_of, IsAdmitted, IsRefusedBy, EachRecoversAs, IsEndOfImage, IsEndOf};
 ghost use Rattle.image_runner.specs.Tells.{Tells, end_of_refusal, end_of_fault};
 
 use crate::checking::check;
@@ -51,6 +52,15 @@ pub enum Ended {
 /// The image is loaded first. Its words and then its `map` lines are tried before the first event, and the maps are read
 /// behind the last.
 pub fn recover_text<D: Device>(alloc: Global, text: &[u8], wanted: Wanted, region: &mut D) -> Ended
+    ensures end { IsEndOf wanted text.now (D.cells region.old) (D.counts region.old) (D.cells region.new) (D.counts region.new) result }
+    // Whatever it leaves of an image that it recovers or begins to recover can be recovered again, in this one's place.
+    ensures recovered_again { (i : Image) → IsTextOf text.now i → IsAdmitted i → result ≢ Ended.NoMemory → EachRecoversAs i (D.cells region.new) }
+{
+    recover_read(alloc, text, wanted, region)
+}
+
+/// Recovers the image that a text says.
+fn recover_read<D: Device>(alloc: Global, text: &[u8], wanted: Wanted, region: &mut D) -> Ended
     ensures { IsEndOf wanted text.now (D.cells region.old) (D.counts region.old) (D.cells region.new) (D.counts region.new) result }
 {
     match read_image(alloc, text) {

@@ -27,7 +27,8 @@ use Rattle.rewind.specs.declared.words.Job.TheVariants as job
 use Rattle.rewind.specs.declared.replay.Outcome.{Outcome}
 use Rattle.rewind.specs.declared.replay.Outcome.TheVariants as outcome
 use Rattle.rewind.specs.Words.{AreRun, AreWordsOf, AreKnown, SCRIPT_LIMIT, IMAGE_LIMIT, limit_of}
-use Rattle.rewind.specs.Call.{Call, Took, TookAll, HasReadFor, HasRecovered, IsCauseOf, IsAnswerTo, Written, HasRun, status_of, status_of_end, due, due_of_script, IsDue, long, misread, refused, broken, reported, imaged, IsUntouched, IsExhausted, unread, unmade}
+use Rattle.rewind.specs.Call.{Call, Took, TookAll, HasReadFor, HasRecovered, IsCauseOf, IsAnswerTo, Written, HasRun, status_of, status_of_end, IsUntouched, IsExhausted, unread, unmade}
+use Rattle.rewind.specs.Due.{due, due_of_script, IsDue, long, misread, refused, broken, reported, imaged}
 use Rattle.rewind.proofs.Inputs.{one_word}
 use Rattle.rewind.proofs.Recoveries.{refused_due, misread_due, broken_due, done_due, halted_rose, ok_same}
 
@@ -37,12 +38,12 @@ other_words : (a b : List ℕ) → a ≡ b → length a ≢ length b → ⊥
 other_words a b same apart = apart (ap length same)
 
 -- the words of a recovery are those of no other job
-recover_is_no_run : (wanted : Wanted) (words : List (List ℕ)) → AreRun words → AreWordsOf (job.Recover wanted) words → ⊥
+pub recover_is_no_run : (wanted : Wanted) (words : List (List ℕ)) → AreRun words → AreWordsOf (job.Recover wanted) words → ⊥
 recover_is_no_run want.Report words run recover = other_words (codes "run") (codes "recover") (one_word (codes "run") (codes "recover") (sym run ∙ recover)) (λ e. omega (arith, e))
 recover_is_no_run want.Image words run recover =
     let e = ap (λ (ws : List (List ℕ)). length ws) (sym run ∙ recover) in absurd (omega (arith, e))
 
-same_wanted : (wanted wanted' : Wanted) (words : List (List ℕ)) → AreWordsOf (job.Recover wanted) words → AreWordsOf (job.Recover wanted') words → wanted ≡ wanted'
+pub same_wanted : (wanted wanted' : Wanted) (words : List (List ℕ)) → AreWordsOf (job.Recover wanted) words → AreWordsOf (job.Recover wanted') words → wanted ≡ wanted'
 same_wanted want.Report want.Report words here there = refl
 same_wanted want.Image want.Image words here there = refl
 same_wanted want.Report want.Image words here there =
@@ -62,18 +63,18 @@ module _ (wanted : Wanted) (text : List ℕ) (region region' : Region) (counts c
   told_maps i events bytes want.Image told is z standing = absurd (cc)
 
   pub end_due : (end : Ended) (due : Status) → IsEndOf wanted text region counts region' counts' end → IsDue wanted text due → IsDueOrShort (status_of_end end) due
-  end_due (ended.Misread line) due h d = misread_due wanted text region region' counts counts' short unstopped line due h.0 d
-  end_due (ended.Unsound found) due h d = refused_due wanted text region region' counts counts' short unstopped h.0 (rule_number found.rule) found.address due h.1 h.2.0 d
-  end_due ended.Stopped due h d = absurd (unstopped (halted_rose wanted text region region' counts counts' short unstopped h.0 h.2))
-  end_due (ended.Broken root) due h d = broken_due wanted text region region' counts counts' short unstopped h.0 root due h.1 h.2.report h.2.broken d
+  end_due (ended.Misread line) due h d = misread_due wanted text short line due h.0 d
+  end_due (ended.Unsound found) due h d = refused_due wanted text short h.0 (rule_number found.rule) found.address due h.1 h.2.0 d
+  end_due ended.Stopped due h d = absurd (unstopped (halted_rose h.0 region' counts counts' h.2))
+  end_due (ended.Broken root) due h d = broken_due wanted text short h.0 root due h.1 h.2.report h.2.broken d
   end_due ended.NoMemory due h d = inr refl
   end_due (ended.Done bytes) due h d =
-      done_due wanted text region region' counts counts' short unstopped h.0 due h.1 h.2.recovery.admitted
+      done_due wanted text short h.0 due h.1 h.2.recovery.admitted
       (told_maps h.0 h.2.recovery.events bytes wanted h.2.told) d
 
 -- ---- the status of a call
 
-took_all_is : (left left' : Option (List ℕ)) (bytes text : List ℕ) → left ≡ Some bytes → TookAll left text left' → bytes ≡ text
+pub took_all_is : (left left' : Option (List ℕ)) (bytes text : List ℕ) → left ≡ Some bytes → TookAll left text left' → bytes ≡ text
 took_all_is None left' bytes text tells took = absurd (cc)
 took_all_is (Some xs) left' bytes text tells took = (let e : xs ≡ bytes = cc in sym e ∙ took.0)
 

@@ -6,4 +6,6 @@ pub mod Inputs
 pub mod ServedLimits
 pub mod Recoveries
 pub mod Dues
+pub mod DueLaws
+pub mod Causes
 pub mod Examples

@@ -15,7 +15,7 @@ use Rattle.image_runner.proofs.Excluding.{refused_admitted, maps_unbroken, repor
 use Rattle.rewind.specs.declared.status.Status.{Status}
 use Rattle.rewind.specs.declared.status.Status.TheVariants as status
 use Rattle.rewind.specs.Words.{IMAGE_LIMIT}
-use Rattle.rewind.specs.Call.{IsDue, long, misread, refused, broken, reported, imaged}
+use Rattle.rewind.specs.Due.{IsDue, long, misread, refused, broken, reported, imaged}
 
 ok_err : (text : List ℕ) (i : Image) (line : ℕ) → IsTextOf text i → BreaksAt text line → ⊥
 ok_err text i line here there = breaks_nowhere text i.kinds i.words line here there
@@ -27,7 +27,7 @@ ok_same text i j here there =
 
 -- ---- the status of an end
 
-module _ (wanted : Wanted) (text : List ℕ) (region region' : Region) (counts counts' : Counts) (short : length text ≤ IMAGE_LIMIT) (unstopped : HasRisen counts.stopped counts'.stopped → ⊥) where
+module _ (wanted : Wanted) (text : List ℕ) (short : length text ≤ IMAGE_LIMIT) where
   admitted_there : (i j : Image) → IsTextOf text i → IsTextOf text j → IsAdmitted j → IsAdmitted i
   admitted_there i j here there h = subst IsAdmitted (ok_same text j i there here) h
 
@@ -73,6 +73,6 @@ module _ (wanted : Wanted) (text : List ℕ) (region region' : Region) (counts c
   done_due i due here admitted maps (reported less j there k z standing all is) = inl (sym is)
   done_due i due here admitted maps (imaged less j there k m is) = inl (sym is)
 
-  -- the stop is counted
-  pub halted_rose : (i : Image) → IsHalted i counts region' counts' → HasRisen counts.stopped counts'.stopped
-  halted_rose i h = let e = ap (λ (c : Counts). c.stopped) h.counted in omega (arith, e)
+-- the stop is counted
+pub halted_rose : (i : Image) (region : Region) (counts counts' : Counts) → IsHalted i counts region counts' → HasRisen counts.stopped counts'.stopped
+halted_rose i region counts counts' h = let e = ap (λ (c : Counts). c.stopped) h.counted in omega (arith, e)

@@ -236,25 +236,3 @@ pub record HasRun (call : Call) (answer : Status) (w : Written) : Type 0 where
   pub outcome : Outcome
   pub cause : IsCauseOf outcome call
   pub told : IsAnswerTo outcome answer w
-
--- ---- what status is due
-
-abbrev pub due_of_script : Option Script → Status
-due_of_script None = status.Script
-due_of_script (Some s) = status.Done
-
--- The status of `run` whose input are these bytes, where no count of faults rises and the device doesn't stop.
-abbrev pub due : List ℕ → Status
-due bytes = if nat_lt SCRIPT_LIMIT (length bytes) then status.TooLong else due_of_script (script_of_text bytes)
-
--- The status of `recover` and of `recover image` whose input are these bytes, where no count of faults rises and the device
--- doesn't stop.
-pub data IsDue (wanted : Wanted) (bytes : List ℕ) (s : Status) : Type 0 where
-  long : IMAGE_LIMIT < length bytes → s ≡ status.TooLong → IsDue wanted bytes s
-  misread : length bytes ≤ IMAGE_LIMIT → (line : ℕ) → BreaksAt bytes line → s ≡ status.Script → IsDue wanted bytes s
-  refused : length bytes ≤ IMAGE_LIMIT → (i : Image) → IsTextOf bytes i → (fault a : ℕ) → IsRefusedBy i fault a → s ≡ status.Unsound → IsDue wanted bytes s
-  broken : length bytes ≤ IMAGE_LIMIT → (i : Image) → IsTextOf bytes i → IsAdmitted i → wanted ≡ want.Report
-      → (z : Words) → AreStanding (words_of i) z → (a : ℕ) → IsFirstBroken (heap (shape_of (words_of i))) z i.kinds a → s ≡ status.Unsound → IsDue wanted bytes s
-  reported : length bytes ≤ IMAGE_LIMIT → (i : Image) → IsTextOf bytes i → IsAdmitted i
-      → (z : Words) → AreStanding (words_of i) z → AreMaps (heap (shape_of (words_of i))) z i.kinds → s ≡ status.Done → IsDue wanted bytes s
-  imaged : length bytes ≤ IMAGE_LIMIT → (i : Image) → IsTextOf bytes i → IsAdmitted i → wanted ≡ want.Image → s ≡ status.Done → IsDue wanted bytes s

@@ -4,3 +4,5 @@ pub mod Table
 pub mod Events
 pub mod Words
 pub mod Call
+pub mod Due
+pub mod Causes

@@ -1,6 +1,7 @@
 -- The words of each job of the program.
 use Rattle.std.specs.Prelude.{◌≡◌, ℕ, List, [], ◌∷◌, codes}
 use Rattle.image_runner.specs.declared.runner.Wanted.TheVariants as want
+pub use Rattle.rewind.specs.declared.input.TheConstants.{SCRIPT_LIMIT, IMAGE_LIMIT}
 use Rattle.rewind.specs.declared.words.Job.{Job}
 use Rattle.rewind.specs.declared.words.Job.TheVariants as job
 
@@ -17,13 +18,6 @@ AreWordsOf (job.Recover want.Image) words = words ≡ codes "recover" ∷ codes 
 -- they are those of a job
 abbrev pub AreKnown : List (List ℕ) → Type 0
 AreKnown words = (job : Job) × AreWordsOf job words
-
--- the most bytes of a script, and of an image text
-abbrev pub SCRIPT_LIMIT : ℕ
-SCRIPT_LIMIT = 1048576
-
-abbrev pub IMAGE_LIMIT : ℕ
-IMAGE_LIMIT = 33554432
 
 -- the most bytes of the input
 abbrev pub limit_of : Job → ℕ

@@ -2,9 +2,16 @@
 ghost use Rattle.std.specs.Prelude.{◌≡◌, ◌≢◌, ◌+◌, ◌<◌, ◌≤◌, ℕ, List, Option, length, vec_len, IfOk, OnOk, Ok, Err};
 ghost use Rattle.lane_traits.specs.Stream.{HasRisen};
 ghost use Rattle.rewind.specs.Call.{Took, TookAll};
+ghost use Rattle.rewind.specs.Words.{IMAGE_LIMIT as image_limit};
 
 use lane_traits::{Failed, Source};
 use std::alloc::{AllocError, Global};
+
+/// The most bytes of a script.
+pub const SCRIPT_LIMIT: usize = 1_048_576;
+
+/// The most bytes of an image text.
+pub const IMAGE_LIMIT: usize = 33_554_432;
 
 /// How many bytes are asked for at once.
 const CHUNK: usize = 4096;
@@ -30,7 +37,7 @@ impl From<AllocError> for Unread {
 
 /// The bytes up to the end of the source, where they are no more than the limit.
 pub fn read_input<S: Source>(alloc: Global, source: &mut S, limit: usize) -> Result<Vec<u8>, Unread>
-    requires { limit ≤ 33554432 }
+    requires { limit ≤ image_limit }
     ensures whole { IfOk result (λ text. TookAll (S.left source.old) text.items (S.left source.new)) }
     ensures short { IfOk result (λ text. length text.items ≤ limit) }
     ensures failed { result ≡ Err Unread.Failed → HasRisen (S.faults source.old) (S.faults source.new) }

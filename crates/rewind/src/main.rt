@@ -3,6 +3,7 @@
 
 mod image_report;
 mod input;
+mod laws;
 mod replay;
 mod report;
 mod run;

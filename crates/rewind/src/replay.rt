@@ -5,14 +5,16 @@ ghost use Rattle.lane_traits.specs.Device.{since_load};
 ghost use Rattle.rewind.specs.Served.{script as script_of_text};
 ghost use Rattle.rewind.specs.Events.{event_count};
 ghost use Rattle.rewind.specs.Words.{AreRun, AreKnown, AreWordsOf};
-ghost use Rattle.rewind.specs.Call.{IsCauseOf, IsTextOutcome, AreLimitsOf, IsAnswerTo, HasRun, HasReadFor, status_of, status_of_end, text_of, text_of_end, due, IsDue};
+ghost use Rattle.rewind.specs.Call.{IsCauseOf, IsTextOutcome, AreLimitsOf, IsAnswerTo, HasRun, HasReadFor, status_of, status_of_end, text_of, text_of_end};
+ghost use Rattle.rewind.specs.Causes.{IsLongInput, IsNoScript, IsNoImageText, IsUnsoundImage};
+ghost use Rattle.rewind.specs.Due.{due, IsDue};
 ghost use Rattle.image_text.specs.declared.image.Image.{Image};
 ghost use Rattle.image_text.specs.Grammar.{IsTextOf};
-ghost use Rattle.image_runner.specs.Ends.{words_of};
+ghost use Rattle.image_runner.specs.Ends.{words_of, IsAdmitted, EachRecoversAs};
 ghost use Rattle.recovery_passes.specs.Recovered.{IsFinished};
 
 use crate::image_report::end_text;
-use crate::input::{Unread, read_input};
+use crate::input::{IMAGE_LIMIT, SCRIPT_LIMIT, Unread, read_input};
 use crate::report::{report_text, stop_text, wrong_text};
 use crate::run::{Ran, run_script};
 use crate::script::Script;
@@ -23,12 +25,6 @@ use image_runner::{Ended, Wanted, recover_text};
 use lane_traits::{Device, Failed, Sink, Source};
 use persist_model::NoMemory;
 use std::alloc::Global;
-
-/// The most bytes of a script.
-const SCRIPT_LIMIT: usize = 1_048_576;
-
-/// The most bytes of an image text.
-const IMAGE_LIMIT: usize = 33_554_432;
 
 /// What a call came to.
 #[derive(Drop)]
@@ -115,6 +111,34 @@ pub fn rewind_replay<S: Source, K: Sink, D: Device>(
     ensures read_fault { result.0 ≡ Status.ReadFault → HasRisen (S.faults script.old) (S.faults script.new) }
     ensures write_fault { result.0 ≡ Status.WriteFault → HasRisen (K.faults out.old) (K.faults out.new) }
     ensures stopped { result.0 ≡ Status.Stopped → HasRisen (D.counts region).stopped (D.counts result.1).stopped }
+    ensures too_long { result.0 ≡ Status.TooLong → (job : Job) → AreWordsOf job (map string_bytes words.now) → IsLongInput job
+        (record {
+          left = S.left script.old;
+          left_after = S.left script.new;
+          written = K.written out.old;
+          written_after = K.written out.new;
+        }) }
+    ensures no_script { result.0 ≡ Status.Script → AreRun (map string_bytes words.now) → IsNoScript
+        (record {
+          left = S.left script.old;
+          left_after = S.left script.new;
+          written = K.written out.old;
+          written_after = K.written out.new;
+        }) }
+    ensures no_image_text { result.0 ≡ Status.Script → (wanted : Wanted) → AreWordsOf (Job.Recover wanted) (map string_bytes words.now) → IsNoImageText
+        (record {
+          left = S.left script.old;
+          left_after = S.left script.new;
+          written = K.written out.old;
+          written_after = K.written out.new;
+        }) }
+    ensures unsound_image { result.0 ≡ Status.Unsound → (wanted : Wanted) → AreWordsOf (Job.Recover wanted) (map string_bytes words.now) → IsUnsoundImage wanted
+        (record {
+          left = S.left script.old;
+          left_after = S.left script.new;
+          written = K.written out.old;
+          written_after = K.written out.new;
+        }) }
     ensures last_load { (result.0 ≡ Status.Done) ⊎ (result.0 ≡ Status.Stopped) → (D.counts result.1).restarts ≡ (since_load (D.counts region)).restarts }
     ensures one_event_each { AreRun (map string_bytes words.now) → (bytes : List ℕ) (s : Script) → S.left script.old ≡ Some bytes → script_of_text bytes ≡ Some s
         → (D.counts result.1).events ≤ (D.counts region).events + event_count s.transactions }
@@ -130,6 +154,10 @@ pub fn rewind_replay<S: Source, K: Sink, D: Device>(
     ensures again { (wanted : Wanted) (bytes : List ℕ) (i : Image) → AreWordsOf (Job.Recover wanted) (map string_bytes words.now)
         → S.left script.old ≡ Some bytes → IsTextOf bytes i → IsFinished (length i.words) (words_of i)
         → (D.counts result.1).events ≡ (D.counts region).events }
+    // Whatever a stop leaves of the device then can be recovered in the image's place.
+    ensures recovered_again { (wanted : Wanted) (bytes : List ℕ) (i : Image) → AreWordsOf (Job.Recover wanted) (map string_bytes words.now)
+        → S.left script.old ≡ Some bytes → IsTextOf bytes i → IsAdmitted i
+        → (result.0 ≡ Status.Done) ⊎ (result.0 ≡ Status.Stopped) ⊎ (result.0 ≡ Status.Unsound) → EachRecoversAs i (D.cells result.1) }
     ensures ran { HasRun
         (record {
           words = map string_bytes words.now;

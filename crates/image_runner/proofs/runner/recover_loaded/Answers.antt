@@ -33,6 +33,8 @@ returns-in-Err g c = λ before counts since.
         counted_is = told.stopped_counts (ap Err same);
         early = λ n e. told.stopped_early (ap Err same) n e;
         unfinished = λ finished. told.unfinished finished (ap Err same);
+        size = told.size;
+        header = told.header;
       };
     }))
 
