@@ -6,7 +6,8 @@ use Rattle.persist_model.specs.ImageRules.{SIZES_RULE}
 use Rattle.persist_model.specs.Region.{Words}
 use Rattle.persist_model.specs.Shape.{shape_of, words_of_shape, SECOND_MAGIC}
 use Rattle.persist_model.specs.Sound.{IsSound, StandsIn}
-use Rattle.log_laws.proofs.Soundness.{standing_is_one}
+use Rattle.persist_model.specs.Faults.{IsFirstFault}
+use Rattle.log_laws.proofs.Soundness.{standing_is_one, sound_or_faulty}
 use Rattle.region_layout.specs.declared.layout.Kind.{Kind}
 use Rattle.region_layout.specs.Layout.{kind_number}
 use Rattle.region_layout.specs.HeapBlocks.{root_of}
@@ -20,6 +21,12 @@ equal_or m n =
     ⊎_elim (λ (l : m < n). inr (λ e. omega (arith, e, l)))
     (λ (l : n ≤ m). ⊎_elim (λ (k : n < m). inr (λ e. omega (arith, e, k))) (λ (k : m ≤ n). inl (omega arith)) (cases_lt n m))
     (cases_lt m n)
+
+-- ---- the rules
+
+-- words are a sound image, or break a rule first
+pub rule_trial : (size : ℕ) (w : Words) → IsSound size w ⊎ ((fault : ℕ) × (a : ℕ) × IsFirstFault size w fault a)
+rule_trial size w = sound_or_faulty size w
 
 -- ---- the lines
 

@@ -43,6 +43,7 @@ differ s t apart same = apart (ap code same)
 
 module _ (call : Call) (answer : Status) (w : Written) (run : HasRun call answer w) where
   told : (s : Status) → code s ≢ 5 → code s ≢ 6 → answer ≡ s → (status_of run.outcome ≡ s) × HasTold (streams call w) (text_of run.outcome)
+  unfolding code
   told s written memory is = by_told run.told
     where
       by_told : IsAnswerTo run.outcome answer w → (status_of run.outcome ≡ s) × HasTold (streams call w) (text_of run.outcome)

@@ -5,7 +5,6 @@ use Rattle.persist_model.specs.Region.{Words}
 use Rattle.persist_model.specs.Shape.{Shape, shape_of, heap}
 use Rattle.persist_model.specs.Sound.{IsSound}
 use Rattle.persist_model.specs.Faults.{IsFirstFault}
-use Rattle.log_laws.proofs.Soundness.{sound_or_faulty}
 use Rattle.region_layout.specs.declared.layout.Kind.{Kind}
 use Rattle.image_text.specs.declared.image.Image.{Image}
 use Rattle.image_text.specs.Grammar.{IsImageText, IsTextOf, BreaksAt}
@@ -17,7 +16,7 @@ use Rattle.image_runner.specs.Ends.{words_of, AreStanding, IsAdmitted, IsRefused
 use Rattle.image_runner.proofs.Kept.{same_standing}
 use Rattle.image_runner.proofs.Contents.{are_maps_there, broken_there}
 use Rattle.image_runner.proofs.Excluding.{refused_admitted, report_image}
-use Rattle.image_runner.proofs.Deciding.{LineTrial, fits, faulty, line_trial, standing_words, maps_or_broken}
+use Rattle.image_runner.proofs.Deciding.{rule_trial, LineTrial, fits, faulty, line_trial, standing_words, maps_or_broken}
 use Rattle.rewind.specs.declared.status.Status.{Status}
 use Rattle.rewind.specs.declared.status.Status.TheVariants as status
 use Rattle.rewind.specs.declared.words.Job.{Job}
@@ -88,7 +87,7 @@ module _ (wanted : Wanted) (bytes : List ℕ) (none : (s : Status) → IsDue wan
   by_text : ((kinds : List Kind) × (words : List ℕ) × IsImageText bytes kinds words) ⊎ ((n : ℕ) × BreaksAt bytes n) → ⊥
   by_text (inl says) =
       let i : Image = record { kinds = says.0; words = says.1 } in
-      by_rules (record { kinds = says.0; words = says.1 }) says.2 (sound_or_faulty (length says.1) (slice_index says.1))
+      by_rules (record { kinds = says.0; words = says.1 }) says.2 (rule_trial (length says.1) (slice_index says.1))
   by_text (inr breaks) = none status.Script (misread less breaks.0 breaks.1 (λ k. status.Script))
 
 recover_some : (wanted : Wanted) (bytes : List ℕ) → ((s : Status) → IsDue wanted bytes s → ⊥) → ⊥
