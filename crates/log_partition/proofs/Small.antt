@@ -1,10 +1,6 @@
 -- The lists of the tests' region are sound.
-use Rattle.std.proofs.Common.{◌≡◌, inl, inr, ℕ, zero, suc, ◌+◌, ◌*◌, ◌<◌, ◌≤◌, List, [], ◌∷◌, length, refl, sym, ◌∙◌, subst, arith}
+use Rattle.std.proofs.Common.{◌≡◌, inl, inr, ℕ, zero, suc, ◌+◌, ◌*◌, ◌<◌, ◌≤◌, List, [], ◌∷◌, length, refl, sym, subst, arith}
 use Rattle.std.specs.Prelude.{slice_index}
-use Rattle.std.proofs.lemmas.Bool.{cases_lt}
-use Rattle.std.proofs.lemmas.Bool.Decides.{eqb_tells}
-use Rattle.std.proofs.lemmas.List.{get_or_past}
-use Rattle.std.proofs.lemmas.List.FromFn.{length-map-range_with_len, get_or-map-range_with_len}
 use Rattle.persist_model.specs.Region.{Words}
 use Rattle.persist_model.specs.Shape.{IsShape, IsBucketOf}
 use Rattle.persist_model.specs.Chain.{view, Each, ListRules}
@@ -12,7 +8,9 @@ use Rattle.atomic_list.specs.Rules.{IsList, at_rest}
 use Rattle.atomic_list.proofs.CasesToRules.{rules_of_list}
 use Rattle.region_layout.specs.declared.layout.Layout.{Layout}
 use Rattle.region_layout.specs.Layout.{layout_shape}
-use Rattle.log_partition.specs.TableRegion.{small, Pair, word_in, words_in, two_chains}
+use Rattle.test_regions.specs.Pairs.{word_in, words_in, addresses}
+use Rattle.test_regions.proofs.Regions.{words_long, words_are}
+use Rattle.log_partition.specs.TableRegion.{small, two_chains}
 use Rattle.log_partition.specs.Merging.{AreLogsOf}
 
 abbrev w : Words
@@ -20,35 +18,8 @@ w = word_in two_chains
 
 -- ---- the words
 
-pub words_long : (pairs : List Pair) (n : ℕ) → length (words_in pairs n) ≡ n
-unfolding words_in
-words_long pairs n = length-map-range_with_len (word_in pairs) 0 n
-
-abbrev addresses : List Pair → List ℕ
-addresses [] = []
-addresses (pair ∷ pairs) = pair.0 ∷ addresses pairs
-
--- behind all that the pairs name there is 0
-word_past : (pairs : List Pair) (n a : ℕ) → Each (λ b. b < n) (addresses pairs) → n ≤ a → word_in pairs a ≡ 0
-word_past [] n a below past = refl
-word_past (pair ∷ pairs) n a below past = elim (eqb_tells a pair.0) [
-  | inl e ↦ (let is = e.1 in let lt = below.0 in absurd (omega (arith, is, lt, past)))
-  | inr e ↦ rw e.0 (word_past pairs n a below.1 past)
-]
-
 all_below : Each (λ b. b < 416) (addresses two_chains)
 all_below = (omega arith, (omega arith, (omega arith, (omega arith, (omega arith, (omega arith, (omega arith, (omega arith, (omega arith, (omega arith, (omega arith, (omega arith, (omega arith, (omega arith, tt))))))))))))))
-
-words_read : (a : ℕ) → slice_index (words_in two_chains 416) a ≡ w a
-unfolding words_in
-words_read a = elim (cases_lt a 416) [
-  | inl lt ↦ get_or-map-range_with_len w 0 416 a a 0 lt (omega arith)
-  | inr past ↦ (let long = words_long two_chains 416 in get_or_past (words_in two_chains 416) a 0 (omega (arith, long, past))
-      ∙ sym (word_past two_chains 416 a all_below past))
-]
-
-words_are : slice_index (words_in two_chains 416) ≡ w
-words_are = λ i a. words_read a i
 
 -- ---- the header and the lists
 
@@ -109,7 +80,7 @@ lists (suc (suc p)) lt = absurd (omega (arith, lt))
 pub small_logs : (layout : Layout) (row : List ℕ) → layout_shape layout ≡ small → row ≡ words_in two_chains 416 → AreLogsOf layout (length row) (slice_index row)
 small_logs layout row shape is = subst (λ xs. AreLogsOf layout (length xs) (slice_index xs)) (sym is)
     (subst (λ n. AreLogsOf layout n (slice_index (words_in two_chains 416))) (sym (words_long two_chains 416))
-    (subst (AreLogsOf layout 416) (sym words_are) (record {
+    (subst (AreLogsOf layout 416) (sym (words_are two_chains 416 all_below)) (record {
       shape = is_shape;
       has_layout = sym shape;
       lists = λ p lt. subst (λ s. (chain : List ℕ) × ListRules (IsBucketOf s p) (view p w) chain) (sym shape) (lists p (subst (λ s. p < s.partitions) shape lt));

@@ -1,15 +1,17 @@
-ghost use Rattle.std.specs.Prelude.{◌≡◌, ◌<◌, ◌^◌, ℕ, List, IfOk, length};
+ghost use Rattle.std.specs.Prelude.{◌≡◌, ◌<◌, ℕ, List, IfOk};
 ghost use Rattle.persist_model.specs.Shape.{IsBucketOf};
 ghost use Rattle.region_layout.specs.Layout.{layout_shape};
-ghost use Rattle.log_partition.specs.TableRegion.{small, word_in, words_in, two_chains};
+ghost use Rattle.test_regions.specs.Pairs.{words_in};
+ghost use Rattle.log_partition.specs.TableRegion.{small, two_chains};
 ghost use Rattle.log_partition.specs.Used.{KnowsChains};
 
-use crate::{UsedBuckets, out};
+use crate::{UsedBuckets, region_event};
 use persist_model::{Event, Look};
 use region_layout::{Layout, Policy};
 use std::alloc::Global;
 use std::process::Abort;
 use std::test::Fail;
+use test_regions::Row;
 
 #[test]
 fn list_words_are_those_of_the_partition(rt: HostRuntime) {
@@ -19,25 +21,6 @@ fn list_words_are_those_of_the_partition(rt: HostRuntime) {
     assert!(rt; matches!(region_event(2, Event::WriteBack(12)), Event::WriteBack(30)));
     assert!(rt; matches!(region_event(2, Event::PStore(13, 5)), Event::PStore(13, 5)));
     assert!(rt; matches!(region_event(2, Event::Fence), Event::Fence));
-}
-
-// A row of words in memory.
-#[derive(Drop)]
-struct Row {
-    words: Vec<u64>,
-    ghost small: { length words.items < 2 ^ 32 },
-}
-
-impl Look for Row {
-    ghost words = { λ row. row.words.items };
-
-    fn size(&self) -> u32 {
-        self.words.len() as u32
-    }
-
-    fn word(&self, a: u32) -> u64 {
-        self.words[a as usize]
-    }
 }
 
 fn small_layout() -> Layout
@@ -54,32 +37,9 @@ fn small_layout() -> Layout
     }
 }
 
-fn word_of(pairs: &[(u32, u64)], a: u32) -> u64
-    ensures { result ≡ word_in pairs.now a }
-{
-    for pair in pairs {
-        if a == pair.0 {
-            return pair.1;
-        }
-    }
-    0
-}
-
-// So many words, as the pairs say.
-fn words_of(alloc: Global, pairs: &[(u32, u64)], size: u32) -> Result<Vec<u64>, Fail>
-    ensures { IfOk result (λ words. words.items ≡ words_in pairs.now size) }
-{
-    let mut words = Vec::new(alloc);
-    for a in 0..size {
-        let word = word_of(pairs, a);
-        words.push(word)?;
-    }
-    Ok(words)
-}
-
 // The words of a region with a chain of two buckets and one of one.
 fn small_row(alloc: Global) -> Result<Row, Fail>
-    ensures { IfOk result (λ row. row.words.items ≡ words_in two_chains 416) }
+    ensures { IfOk result (λ row. ⟦<Row as Look>⟧.words row ≡ words_in two_chains 416) }
 {
     let pairs = [
         (0, 5933297088048660482),
@@ -97,8 +57,7 @@ fn small_row(alloc: Global) -> Result<Row, Fail>
         (21, 96),
         (22, 96),
     ];
-    let words = words_of(alloc, &pairs, 416)?;
-    Ok(Row { words })
+    Ok(Row::of(alloc, &pairs, 416)?)
 }
 
 fn expect_least(
