@@ -1,6 +1,5 @@
 -- The tests' region holds a state without records, and what a stop leaves of such a region.
 use Rattle.std.proofs.Common.{◌≡◌, inl, inr, ℕ, zero, suc, ◌+◌, ◌*◌, ◌<◌, ◌≤◌, ◌==◌, if◌then◌else◌, List, [], ◌∷◌, length, refl, sym, ap, ◌∙◌, subst, arith}
-use Rattle.std.proofs.lemmas.List.FromFn.{length-map-range_with_len, get_or-map-range_with_len}
 use Rattle.persist_model.specs.Region.{Words, Region, loaded}
 use Rattle.persist_model.specs.Records.{Record, IsAmong}
 use Rattle.persist_model.specs.Shape.{Shape, SECOND_MAGIC, shape_of, IsShape, IsBucketOf, heap_words, log_words, words_of_shape}
@@ -14,7 +13,9 @@ use Rattle.recovery_run.specs.Reached.{newest_at, HasSettled, IsQuiet}
 use Rattle.recovery_run.proofs.ClosingPart.{same_heap}
 use Rattle.recovery_run.proofs.Reaching.{read_newest, settled_begins}
 use Rattle.bucket_log.proofs.PartStates.{log_words_same}
-use Rattle.recovery_lists.specs.ListRegion.{small, Pair, word_in, words_in, unrepaired}
+use Rattle.test_regions.specs.Pairs.{word_in, words_in}
+use Rattle.test_regions.proofs.Regions.{words_long, word_at}
+use Rattle.recovery_lists.specs.ListRegion.{small, unrepaired}
 use Rattle.recovery_lists.specs.Lists.{IsAtState, IsAtEmptyLog}
 
 abbrev w : Words
@@ -22,15 +23,10 @@ w = word_in unrepaired
 
 -- ---- the words
 
-pub words_long : (pairs : List Pair) (n : ℕ) → length (words_in pairs n) ≡ n
-unfolding words_in
-words_long pairs n = length-map-range_with_len (word_in pairs) 0 n
-
 read_word : (a : ℕ) → a < 416 → newest_at (loaded (words_in unrepaired 416)) a ≡ w a
-unfolding words_in
 read_word a lt =
     let size : length (words_in unrepaired 416) ≡ 416 = words_long unrepaired 416 in
-    read_newest (loaded (words_in unrepaired 416)) a (omega (arith, lt, size)) ∙ get_or-map-range_with_len w 0 416 a a 0 lt (omega arith)
+    read_newest (loaded (words_in unrepaired 416)) a (omega (arith, lt, size)) ∙ word_at unrepaired 416 a lt
 
 -- ---- the lists
 

@@ -1,25 +1,11 @@
 -- The region of the tests: two partitions of four buckets of one cell, without records. A bucket is being put behind the chain of the
 -- first partition, and one is being taken out of the chain of the second.
-use Rattle.std.specs.Prelude.{ℕ, ◌==◌, if◌then◌else◌, List, [], ◌∷◌, map}
-use Rattle.std.specs.List.{range_with_len}
-use Rattle.persist_model.specs.Region.{Words}
+use Rattle.std.specs.Prelude.{List, [], ◌∷◌}
 use Rattle.persist_model.specs.Shape.{Shape, SECOND_MAGIC}
+use Rattle.test_regions.specs.Pairs.{Pair}
 
 abbrev pub small : Shape
 small = record { policy = 1; cells = 1; buckets = 8; blocks = 16; structures = 1; format = 2; partitions = 2 }
-
--- an address and what stands there
-abbrev pub Pair : Type 0
-Pair = ℕ × ℕ
-
--- what these pairs say of a word, 0 where they say nothing
-abbrev pub word_in : List Pair → Words
-word_in [] a = 0
-word_in (pair ∷ pairs) a = if a == pair.0 then pair.1 else word_in pairs a
-
--- so many words, as the pairs say
-unfoldable pub words_in : List Pair → ℕ → List ℕ
-words_in pairs size = map (word_in pairs) (range_with_len 0 size)
 
 abbrev pub unrepaired : List Pair
 unrepaired =

@@ -6,7 +6,8 @@ ghost use Rattle.log_laws.specs.Parts.{EachKeeps};
 ghost use Rattle.region_layout.specs.Layout.{layout_shape};
 ghost use Rattle.recovery_run.specs.Edges.{KeepsWords, IsPlainHeaderWord};
 ghost use Rattle.recovery_run.specs.Reached.{newest_at, HasSettled, IsQuiet};
-ghost use Rattle.recovery_lists.specs.ListRegion.{small, word_in, words_in, unrepaired};
+ghost use Rattle.test_regions.specs.Pairs.{words_in};
+ghost use Rattle.recovery_lists.specs.ListRegion.{small, unrepaired};
 ghost use Rattle.recovery_lists.specs.Lists.{IsAtState};
 
 use crate::{drop_closed, repair};
@@ -16,6 +17,7 @@ use region_layout::{Layout, Policy};
 use std::alloc::Global;
 use std::process::Abort;
 use std::test::Fail;
+use test_regions::words_of;
 use word_region::{Cut, PlainCells};
 
 fn small_layout() -> Layout
@@ -30,29 +32,6 @@ fn small_layout() -> Layout
         format: 2,
         partitions: 2,
     }
-}
-
-fn word_of(pairs: &[(u32, u64)], a: u32) -> u64
-    ensures { result ≡ word_in pairs.now a }
-{
-    for pair in pairs {
-        if a == pair.0 {
-            return pair.1;
-        }
-    }
-    0
-}
-
-// So many words, as the pairs say.
-fn words_of(alloc: Global, pairs: &[(u32, u64)], size: u32) -> Result<Vec<u64>, Fail>
-    ensures { IfOk result (λ words. words.items ≡ words_in pairs.now size) }
-{
-    let mut words = Vec::new(alloc);
-    for a in 0..size {
-        let word = word_of(pairs, a);
-        words.push(word)?;
-    }
-    Ok(words)
 }
 
 // The region of the tests, with memory for a hundred stores.

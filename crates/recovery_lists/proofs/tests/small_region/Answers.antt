@@ -1,6 +1,6 @@
 use Rattle.std.proofs.Common.{◌∙◌, ap, length, arith}
 use Rattle.persist_model.specs.Region.{loaded}
-use Rattle.recovery_lists.proofs.Small.{words_long}
+use Rattle.test_regions.proofs.Regions.{words_long}
 use Rattle.recovery_lists.proofs.tests.small_region.Goals as goal
 
 pub load-requires : goal.load-requires
