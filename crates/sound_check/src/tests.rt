@@ -2,28 +2,10 @@
 ghost use Rattle.std.specs.Prelude.{◌<◌, ◌≤◌, ◌^◌, length};
 
 use crate::{CheckFault, check};
-use persist_model::Look;
 use std::alloc::Global;
+use std::process::Abort;
 use std::test::Fail;
-
-/// Words in memory.
-#[derive(Drop)]
-struct Row {
-    words: Vec<u64>,
-    ghost small: { length words.items < 2 ^ 32 },
-}
-
-impl Look for Row {
-    ghost words = { λ row. row.words.items };
-
-    fn size(&self) -> u32 {
-        self.words.len() as u32
-    }
-
-    fn word(&self, a: u32) -> u64 {
-        self.words[a as usize]
-    }
-}
+use test_regions::Row;
 
 /// Values of words, by their addresses.
 type Words<'a> = &'a [(u32, u64)];
@@ -81,7 +63,7 @@ fn verdict_of(alloc: Global, words: Vec<u64>) -> Result<(u32, u32), Fail> {
     if words.len() >= 4_294_967_296 {
         return Err("large".into());
     }
-    match check(alloc, &Row { words }) {
+    match check(alloc, &Row::new(words)) {
         Ok(_) => Ok((0, 0)),
         Err(CheckFault::Unsound(found)) => Ok((found.rule.number(), found.address)),
         Err(CheckFault::NoMemory) => Err("memory".into()),
@@ -97,70 +79,24 @@ fn verdict(alloc: Global, size: u32, words: Words, changes: Words) -> Result<(u3
     verdict_of(alloc, all)
 }
 
+/// Changes of an image's words, and what is answered then.
+type Cases = &'static [(Words<'static>, (u32, u32))];
+
 // Of one update.
-fn first(alloc: Global, changes: Words) -> Result<(u32, u32), Fail> {
-    verdict(alloc, 352, &ONE_UPDATE, changes)
+fn first(rt: &impl Abort, alloc: Global, cases: Cases) -> Result<(), Fail> {
+    for (changes, wanted) in cases {
+        let found = verdict(alloc, 352, &ONE_UPDATE, changes)?;
+        assert_eq!(rt; found, *wanted, "{changes:?}");
+    }
+    Ok(())
 }
 
 // Of two partitions.
-fn second(alloc: Global, changes: Words) -> Result<(u32, u32), Fail> {
-    verdict(alloc, 416, &TWO_PARTS, changes)
-}
-
-#[test]
-fn sound_images_are_accepted(rt: HostRuntime) -> Result<(), Fail> {
-    let alloc = rt.alloc();
-    assert!(rt; first(alloc, &[])? == (0, 0));
-    assert!(rt; second(alloc, &[])? == (0, 0));
-    // A bucket that is being put in: the walk is cut behind LAST_TAIL.
-    assert!(rt; first(alloc, &[(10, 48), (11, 32), (49, 32)])? == (0, 0));
-    // A bucket that is being taken out has left the chain.
-    assert!(rt; first(alloc, &[(12, 48), (49, 32), (32, 48)])? == (0, 0));
-    Ok(())
-}
-
-#[test]
-fn headers_are_tried_first(rt: HostRuntime) -> Result<(), Fail> {
-    let alloc = rt.alloc();
-    assert!(rt; verdict(alloc, 31, &ONE_UPDATE, &[])? == (1, 0));
-    assert!(rt; first(alloc, &[(0, 5), (8, 33)])? == (1, 0));
-    assert!(rt; first(alloc, &[(1, 3), (8, 33)])? == (2, 1));
-    assert!(rt; first(alloc, &[(2, 4), (8, 33)])? == (3, 2));
-    assert!(rt; first(alloc, &[(4, 15), (5, 0)])? == (4, 4));
-    assert!(rt; verdict(alloc, 353, &ONE_UPDATE, &[])? == (4, 0));
-    assert!(rt; second(alloc, &[(6, 3)])? == (4, 6));
-    assert!(rt; second(alloc, &[(13, 4)])? == (4, 13));
-    Ok(())
-}
-
-#[test]
-fn links_are_tried_before_they_are_followed(rt: HostRuntime) -> Result<(), Fail> {
-    let alloc = rt.alloc();
-    assert!(rt; first(alloc, &[(8, 33)])? == (5, 8));
-    assert!(rt; first(alloc, &[(8, u64::MAX)])? == (5, 8));
-    assert!(rt; first(alloc, &[(11, 96)])? == (5, 11));
-    assert!(rt; first(alloc, &[(32, 96)])? == (5, 32));
-    assert!(rt; first(alloc, &[(33, 31)])? == (5, 33));
-    assert!(rt; first(alloc, &[(10, 64), (64, 1)])? == (5, 64));
-    assert!(rt; second(alloc, &[(21, 32)])? == (5, 21));
-    assert!(rt; second(alloc, &[(97, 80)])? == (5, 97));
-    Ok(())
-}
-
-#[test]
-fn lists_are_tried_point_by_point(rt: HostRuntime) -> Result<(), Fail> {
-    let alloc = rt.alloc();
-    assert!(rt; first(alloc, &[(10, 48), (12, 64)])? == (6, 12));
-    // A cycle.
-    assert!(rt; first(alloc, &[(32, 48), (48, 32)])? == (6, 8));
-    // TO_APPEND was visited.
-    assert!(rt; first(alloc, &[(10, 32), (11, 32)])? == (6, 10));
-    assert!(rt; first(alloc, &[(10, 48), (11, 32), (49, 64)])? == (6, 10));
-    // The bucket that is taken out has no neighbours.
-    assert!(rt; first(alloc, &[(12, 48)])? == (6, 12));
-    assert!(rt; first(alloc, &[(12, 48), (49, 32), (32, 48), (56, 9)])? == (6, 12));
-    assert!(rt; first(alloc, &[(33, 48)])? == (6, 33));
-    assert!(rt; second(alloc, &[(22, 0)])? == (6, 22));
+fn second(rt: &impl Abort, alloc: Global, cases: Cases) -> Result<(), Fail> {
+    for (changes, wanted) in cases {
+        let found = verdict(alloc, 416, &TWO_PARTS, changes)?;
+        assert_eq!(rt; found, *wanted, "{changes:?}");
+    }
     Ok(())
 }
 
@@ -188,61 +124,150 @@ const THIRD_UPDATE: [(u32, u64); 8] = [
     (125, 8),
 ];
 
+const SOUND: Cases = &[
+    (&[], (0, 0)),
+    // A bucket that is being put in: the walk is cut behind LAST_TAIL.
+    (&[(10, 48), (11, 32), (49, 32)], (0, 0)),
+    // A bucket that is being taken out has left the chain.
+    (&[(12, 48), (49, 32), (32, 48)], (0, 0)),
+];
+
+const SOUND_OF_TWO: Cases = &[(&[], (0, 0))];
+
 #[test]
-fn records_are_tried_by_number(rt: HostRuntime) -> Result<(), Fail> {
-    let alloc = rt.alloc();
-    assert!(rt; first(alloc, &[(42, 9)])? == (7, 40));
-    // The owner of a root.
-    assert!(rt; first(alloc, &[(43, 96)])? == (7, 40));
-    assert!(rt; second(alloc, &[(105, 0)])? == (7, 104));
-    // Two open gates have the number 1.
-    assert!(rt; first(alloc, &SECOND_UPDATE)? == (8, 56));
-    assert!(rt; first(alloc, &[(46, 3)])? == (8, 40));
-    // A transaction with records in two partitions.
-    assert!(rt; second(alloc, &[(8, 32), (9, 32), (40, 2), (41, 1), (42, 3)])? == (8, 40));
+fn sound_images_are_accepted(rt: HostRuntime) -> Result<(), Fail> {
+    first(&rt, rt.alloc(), SOUND)?;
+    second(&rt, rt.alloc(), SOUND_OF_TWO)
+}
+
+const HEADERS: Cases = &[
+    (&[(0, 5), (8, 33)], (1, 0)),
+    (&[(1, 3), (8, 33)], (2, 1)),
+    (&[(2, 4), (8, 33)], (3, 2)),
+    (&[(4, 15), (5, 0)], (4, 4)),
+];
+
+const HEADERS_OF_TWO: Cases = &[(&[(6, 3)], (4, 6)), (&[(13, 4)], (4, 13))];
+
+#[test]
+fn headers_are_tried_first(rt: HostRuntime) -> Result<(), Fail> {
+    first(&rt, rt.alloc(), HEADERS)?;
+    second(&rt, rt.alloc(), HEADERS_OF_TWO)
+}
+
+#[test]
+fn a_region_has_its_size(rt: HostRuntime) -> Result<(), Fail> {
+    for (size, wanted) in [(31, (1, 0)), (353, (4, 0))] {
+        let found = verdict(rt.alloc(), size, &ONE_UPDATE, &[])?;
+        assert_eq!(rt; found, wanted, "{size}");
+    }
     Ok(())
 }
+
+const LINKS: Cases = &[
+    (&[(8, 33)], (5, 8)),
+    (&[(8, u64::MAX)], (5, 8)),
+    (&[(11, 96)], (5, 11)),
+    (&[(32, 96)], (5, 32)),
+    (&[(33, 31)], (5, 33)),
+    (&[(10, 64), (64, 1)], (5, 64)),
+];
+
+const LINKS_OF_TWO: Cases = &[(&[(21, 32)], (5, 21)), (&[(97, 80)], (5, 97))];
+
+#[test]
+fn links_are_tried_before_they_are_followed(rt: HostRuntime) -> Result<(), Fail> {
+    first(&rt, rt.alloc(), LINKS)?;
+    second(&rt, rt.alloc(), LINKS_OF_TWO)
+}
+
+const LISTS: Cases = &[
+    (&[(10, 48), (12, 64)], (6, 12)),
+    // A cycle.
+    (&[(32, 48), (48, 32)], (6, 8)),
+    // TO_APPEND was visited.
+    (&[(10, 32), (11, 32)], (6, 10)),
+    (&[(10, 48), (11, 32), (49, 64)], (6, 10)),
+    // The bucket that is taken out has no neighbours.
+    (&[(12, 48)], (6, 12)),
+    (&[(12, 48), (49, 32), (32, 48), (56, 9)], (6, 12)),
+    (&[(33, 48)], (6, 33)),
+];
+
+const LISTS_OF_TWO: Cases = &[(&[(22, 0)], (6, 22))];
+
+#[test]
+fn lists_are_tried_point_by_point(rt: HostRuntime) -> Result<(), Fail> {
+    first(&rt, rt.alloc(), LISTS)?;
+    second(&rt, rt.alloc(), LISTS_OF_TWO)
+}
+
+const RECORDS: Cases = &[
+    (&[(42, 9)], (7, 40)),
+    // The owner of a root.
+    (&[(43, 96)], (7, 40)),
+    // Two open gates have the number 1.
+    (&SECOND_UPDATE, (8, 56)),
+    (&[(46, 3)], (8, 40)),
+];
+
+const RECORDS_OF_TWO: Cases = &[
+    (&[(105, 0)], (7, 104)),
+    // A transaction with records in two partitions.
+    (&[(8, 32), (9, 32), (40, 2), (41, 1), (42, 3)], (8, 40)),
+];
+
+#[test]
+fn records_are_tried_by_number(rt: HostRuntime) -> Result<(), Fail> {
+    first(&rt, rt.alloc(), RECORDS)?;
+    second(&rt, rt.alloc(), RECORDS_OF_TWO)
+}
+
+const ROOM: Cases = &[
+    // Recovery would draw three numbers, and under no-force one more.
+    (&[(40, (1 << 63) - 3)], (0, 0)),
+    (&[(40, (1 << 63) - 2)], (9, 9)),
+];
+
+const ROOM_OF_TWO: Cases = &[
+    // Two running transactions want six cells, and there are two.
+    (&THIRD_UPDATE, (9, 22)),
+    (&[(104, (1 << 63) - 4)], (0, 0)),
+    (&[(104, (1 << 63) - 3)], (9, 9)),
+];
 
 #[test]
 fn room_and_numbers_are_tried_last(rt: HostRuntime) -> Result<(), Fail> {
-    let alloc = rt.alloc();
-    // Two running transactions want six cells, and there are two.
-    assert!(rt; second(alloc, &THIRD_UPDATE)? == (9, 22));
-    // Recovery would draw three numbers, and under no-force one more.
-    assert!(rt; first(alloc, &[(40, (1 << 63) - 3)])? == (0, 0));
-    assert!(rt; first(alloc, &[(40, (1 << 63) - 2)])? == (9, 9));
-    assert!(rt; second(alloc, &[(104, (1 << 63) - 4)])? == (0, 0));
-    assert!(rt; second(alloc, &[(104, (1 << 63) - 3)])? == (9, 9));
-    Ok(())
+    first(&rt, rt.alloc(), ROOM)?;
+    second(&rt, rt.alloc(), ROOM_OF_TWO)
 }
 
-/// A record: number, transaction, kind, address, old and new value, what is to be undone next, and the outcome.
-type Line = [u64; 8];
-
-// An update.
-const fn update(number: u64, transaction: u64, a: u64, old: u64, new: u64, next: u64) -> Line {
-    [number, transaction, 1, a, old, new, next, 0]
+/// A record, by its number and its transaction: for a change the address, the old and the new value, and what is to be undone next;
+/// for a deletion the address; for an end the outcome.
+#[derive(Clone, Copy, Debug)]
+enum Line {
+    Update(u64, u64, u64, u64, u64, u64),
+    Undo(u64, u64, u64, u64, u64, u64),
+    Rollback(u64, u64),
+    End(u64, u64, u64),
+    Checkpoint(u64),
+    Deletion(u64, u64, u64),
 }
 
-// A compensation.
-const fn undo(number: u64, transaction: u64, a: u64, old: u64, new: u64, next: u64) -> Line {
-    [number, transaction, 2, a, old, new, next, 0]
-}
-
-const fn rollback(number: u64, transaction: u64) -> Line {
-    [number, transaction, 3, 0, 0, 0, 0, 0]
-}
-
-const fn end(number: u64, transaction: u64, outcome: u64) -> Line {
-    [number, transaction, 4, 0, 0, 0, 0, outcome]
-}
-
-const fn checkpoint(number: u64) -> Line {
-    [number, 0, 5, 0, 0, 0, 0, 0]
-}
-
-const fn deletion(number: u64, transaction: u64, a: u64) -> Line {
-    [number, transaction, 6, a, 0, 0, 0, 0]
+// The words of its cell.
+fn cell_of(line: Line) -> [u64; 8] {
+    match line {
+        Line::Update(number, transaction, a, old, new, next) => {
+            [number, transaction, 1, a, old, new, next, 0]
+        }
+        Line::Undo(number, transaction, a, old, new, next) => {
+            [number, transaction, 2, a, old, new, next, 0]
+        }
+        Line::Rollback(number, transaction) => [number, transaction, 3, 0, 0, 0, 0, 0],
+        Line::End(number, transaction, outcome) => [number, transaction, 4, 0, 0, 0, 0, outcome],
+        Line::Checkpoint(number) => [number, 0, 5, 0, 0, 0, 0, 0],
+        Line::Deletion(number, transaction, a) => [number, transaction, 6, a, 0, 0, 0, 0],
+    }
 }
 
 // The header and the list words where so many of eight buckets are in the list, from the first on.
@@ -271,7 +296,7 @@ fn bucket_word(i: usize, offset: usize, lines: &[Line]) -> u64
     match offset {
         0 if i + 1 < lines.len() => 48 + 16 * i as u64,
         1 if i > 0 => 16 + 16 * i as u64,
-        8..=15 => lines[i][offset - 8],
+        8..=15 => cell_of(lines[i])[offset - 8],
         _ => 0,
     }
 }
@@ -295,97 +320,157 @@ fn logged(alloc: Global, policy: u64, lines: &[Line]) -> Result<(u32, u32), Fail
     verdict_of(alloc, all)
 }
 
-#[test]
-fn updates_are_tried_by_those_before(rt: HostRuntime) -> Result<(), Fail> {
-    let alloc = rt.alloc();
-    let one = update(1, 1, 161, 0, 5, 0);
-    assert!(rt; logged(alloc, 1, &[one, update(2, 1, 161, 5, 7, 1)])? == (0, 0));
-    // Another number to be undone next, and another old value than the last new one.
-    assert!(rt; logged(alloc, 1, &[one, update(2, 1, 161, 5, 7, 0)])? == (8, 56));
-    assert!(rt; logged(alloc, 1, &[one, update(2, 1, 161, 4, 7, 1)])? == (8, 56));
-    // Behind a rollback record, and behind the end.
-    assert!(rt; logged(alloc, 1, &[one, rollback(2, 1), update(3, 1, 162, 0, 6, 1)])? == (8, 72));
-    assert!(rt; logged(alloc, 1, &[one, end(2, 1, 1), update(3, 1, 162, 0, 6, 1)])? == (8, 72));
+/// A policy, records, and what is answered for them.
+type Logs = &'static [(u64, &'static [Line], (u32, u32))];
+
+fn all_logged(rt: &impl Abort, alloc: Global, cases: Logs) -> Result<(), Fail> {
+    for (policy, lines, wanted) in cases {
+        if lines.len() > 8 {
+            return Err("long".into());
+        }
+        let found = logged(alloc, *policy, lines)?;
+        assert_eq!(rt; found, *wanted, "{lines:?}");
+    }
     Ok(())
 }
+
+const ONE: Line = Line::Update(1, 1, 161, 0, 5, 0);
+
+const UPDATES: Logs = &[
+    (1, &[ONE, Line::Update(2, 1, 161, 5, 7, 1)], (0, 0)),
+    // Another number to be undone next, and another old value than the last new one.
+    (1, &[ONE, Line::Update(2, 1, 161, 5, 7, 0)], (8, 56)),
+    (1, &[ONE, Line::Update(2, 1, 161, 4, 7, 1)], (8, 56)),
+    // Behind a rollback record, and behind the end.
+    (
+        1,
+        &[ONE, Line::Rollback(2, 1), Line::Update(3, 1, 162, 0, 6, 1)],
+        (8, 72),
+    ),
+    (
+        1,
+        &[ONE, Line::End(2, 1, 1), Line::Update(3, 1, 162, 0, 6, 1)],
+        (8, 72),
+    ),
+];
+
+#[test]
+fn updates_are_tried_by_those_before(rt: HostRuntime) -> Result<(), Fail> {
+    all_logged(&rt, rt.alloc(), UPDATES)
+}
+
+const TWO: Line = Line::Update(2, 1, 162, 0, 6, 1);
+
+const BACK: Line = Line::Rollback(3, 1);
+
+const LAST: Line = Line::Undo(4, 1, 162, 6, 0, 1);
+
+const COMPENSATIONS: Logs = &[
+    (1, &[ONE, TWO, BACK, LAST], (0, 0)),
+    (
+        1,
+        &[ONE, TWO, BACK, LAST, Line::Undo(5, 1, 161, 5, 0, 0)],
+        (0, 0),
+    ),
+    // The first update before the second one, the second one once more, and one more than there are.
+    (
+        1,
+        &[ONE, TWO, BACK, Line::Undo(4, 1, 161, 5, 0, 0)],
+        (8, 88),
+    ),
+    (
+        1,
+        &[ONE, TWO, BACK, LAST, Line::Undo(5, 1, 162, 6, 0, 1)],
+        (8, 104),
+    ),
+    (
+        1,
+        &[
+            ONE,
+            BACK,
+            Line::Undo(4, 1, 161, 5, 0, 0),
+            Line::Undo(5, 1, 161, 5, 0, 0),
+        ],
+        (8, 88),
+    ),
+];
 
 #[test]
 fn compensations_name_the_undo_point(rt: HostRuntime) -> Result<(), Fail> {
-    let alloc = rt.alloc();
-    let one = update(1, 1, 161, 0, 5, 0);
-    let two = update(2, 1, 162, 0, 6, 1);
-    let back = rollback(3, 1);
-    let last = undo(4, 1, 162, 6, 0, 1);
-    assert!(rt; logged(alloc, 1, &[one, two, back, last])? == (0, 0));
-    assert!(rt; logged(alloc, 1, &[one, two, back, last, undo(5, 1, 161, 5, 0, 0)])? == (0, 0));
-    // The first update before the second one, the second one once more, and one more than there are.
-    assert!(rt; logged(alloc, 1, &[one, two, back, undo(4, 1, 161, 5, 0, 0)])? == (8, 88));
-    assert!(rt; logged(alloc, 1, &[one, two, back, last, undo(5, 1, 162, 6, 0, 1)])? == (8, 104));
-    assert!(rt;
-        logged(
-            alloc,
-            1,
-            &[
-                one,
-                back,
-                undo(4, 1, 161, 5, 0, 0),
-                undo(5, 1, 161, 5, 0, 0)
-            ]
-        )? == (8, 88)
-    );
-    Ok(())
+    all_logged(&rt, rt.alloc(), COMPENSATIONS)
 }
+
+const OTHER: Line = Line::Update(3, 2, 161, 5, 6, 0);
+
+const GONE: Line = Line::Deletion(1, 1, 176);
+
+const NEW: Line = Line::Update(3, 2, 176, 0, 1, 0);
+
+const BARRED: Logs = &[
+    (1, &[ONE, OTHER], (8, 56)),
+    (1, &[ONE, Line::End(2, 1, 1), OTHER], (0, 0)),
+    // What a committed transaction gives back stays barred.
+    (1, &[GONE, Line::End(2, 1, 1), NEW], (8, 72)),
+    (1, &[GONE, Line::End(2, 1, 2), NEW], (0, 0)),
+];
 
 #[test]
 fn words_of_others_are_barred(rt: HostRuntime) -> Result<(), Fail> {
-    let alloc = rt.alloc();
-    let one = update(1, 1, 161, 0, 5, 0);
-    let other = update(3, 2, 161, 5, 6, 0);
-    assert!(rt; logged(alloc, 1, &[one, other])? == (8, 56));
-    assert!(rt; logged(alloc, 1, &[one, end(2, 1, 1), other])? == (0, 0));
-    // What a committed transaction gives back stays barred.
-    let gone = deletion(1, 1, 176);
-    let new = update(3, 2, 176, 0, 1, 0);
-    assert!(rt; logged(alloc, 1, &[gone, end(2, 1, 1), new])? == (8, 72));
-    assert!(rt; logged(alloc, 1, &[gone, end(2, 1, 2), new])? == (0, 0));
-    Ok(())
+    all_logged(&rt, rt.alloc(), BARRED)
 }
+
+const SECOND: Line = Line::Update(2, 1, 162, 0, 5, 1);
+
+const THIRD: Line = Line::Update(3, 1, 163, 0, 5, 2);
+
+const NEEDS: Logs = &[
+    // Three updates need five cells, and there are five; four need six, and there are four.
+    (1, &[ONE, SECOND, THIRD], (0, 0)),
+    (
+        1,
+        &[ONE, SECOND, THIRD, Line::Update(4, 1, 164, 0, 5, 3)],
+        (9, 9),
+    ),
+];
 
 #[test]
 fn needs_are_counted_once(rt: HostRuntime) -> Result<(), Fail> {
-    let alloc = rt.alloc();
-    let one = update(1, 1, 161, 0, 5, 0);
-    let two = update(2, 1, 162, 0, 5, 1);
-    let three = update(3, 1, 163, 0, 5, 2);
-    // Three updates need five cells, and there are five; four need six, and there are four.
-    assert!(rt; logged(alloc, 1, &[one, two, three])? == (0, 0));
-    assert!(rt; logged(alloc, 1, &[one, two, three, update(4, 1, 164, 0, 5, 3)])? == (9, 9));
-    Ok(())
+    all_logged(&rt, rt.alloc(), NEEDS)
 }
+
+const NEW_OF_TWO: Line = Line::Update(5, 2, 162, 0, 5, 0);
+
+const NEW_OF_THREE: Line = Line::Update(7, 3, 163, 0, 5, 0);
+
+/// The checkpoint records stand behind all ends.
+const SKIPPED: &[Line] = &[
+    ONE,
+    Line::End(2, 1, 1),
+    NEW_OF_TWO,
+    Line::End(6, 2, 1),
+    NEW_OF_THREE,
+    Line::End(8, 3, 1),
+    Line::Checkpoint(9),
+    Line::Checkpoint(10),
+];
+
+/// They stand before the newest end.
+const EARLY: &[Line] = &[
+    ONE,
+    Line::End(2, 1, 1),
+    Line::Checkpoint(3),
+    Line::Checkpoint(4),
+    NEW_OF_TWO,
+    Line::End(6, 2, 1),
+    NEW_OF_THREE,
+    Line::End(8, 3, 1),
+];
 
 #[test]
 fn skipped_transactions_need_no_checkpoint(rt: HostRuntime) -> Result<(), Fail> {
-    let alloc = rt.alloc();
-    let old = [update(1, 1, 161, 0, 5, 0), end(2, 1, 1)];
-    let new = [update(5, 2, 162, 0, 5, 0), end(6, 2, 1)];
-    let newer = [update(7, 3, 163, 0, 5, 0), end(8, 3, 1)];
-    let marks = [checkpoint(9), checkpoint(10)];
-    let all = [
-        old[0], old[1], new[0], new[1], newer[0], newer[1], marks[0], marks[1],
-    ];
-    assert!(rt; logged(alloc, 2, &all)? == (0, 0));
-    // The checkpoint records stand before the newest end.
-    let early = [
-        old[0],
-        old[1],
-        checkpoint(3),
-        checkpoint(4),
-        new[0],
-        new[1],
-        newer[0],
-        newer[1],
-    ];
-    assert!(rt; logged(alloc, 2, &early)? == (9, 9));
-    assert!(rt; logged(alloc, 1, &early)? == (0, 0));
-    Ok(())
+    all_logged(
+        &rt,
+        rt.alloc(),
+        &[(2, SKIPPED, (0, 0)), (2, EARLY, (9, 9)), (1, EARLY, (0, 0))],
+    )
 }
