@@ -1,31 +1,30 @@
 -- An append from a reached state.
-use Rattle.std.proofs.Common.{◌≡◌, ◌⊎◌, inl, inr, ℕ, zero, suc, ◌+◌, ◌<◌, ◌≤◌, List, [], ◌∷◌, ◌++◌, length, take, sum_by, refl, sym, ap, ◌∙◌, subst, arith}
+use Rattle.std.proofs.Common.{◌≡◌, ◌⊎◌, inl, inr, ℕ, ◌<◌, ◌≤◌, List, [], ◌∷◌, ◌++◌, length, take, sum_by, refl, sym, ap, ◌∙◌, subst, arith}
 use Rattle.std.proofs.lemmas.List.Sums.{sum_by-cons}
 use Rattle.persist_model.specs.declared.event.Event.{Event}
 use Rattle.persist_model.specs.declared.event.Event.TheVariants.{Store, PStore, WriteBack, Fence}
-use Rattle.persist_model.specs.Region.{Words, Region, newest_words}
+use Rattle.persist_model.specs.Region.{Words, Region}
 use Rattle.persist_model.specs.Progress.{Progress, Wrote, Reaches, latest, start, advance, advance_all}
 use Rattle.persist_model.specs.Runs.{progress_at}
 use Rattle.persist_model.specs.Records.{Record}
 use Rattle.persist_model.specs.Shape.{Shape, heap, words_of_shape, heap_words}
-use Rattle.persist_model.specs.State.{State, IsSoundState}
+use Rattle.persist_model.specs.State.{State}
 use Rattle.persist_model.specs.Sound.{HasState}
 use Rattle.persist_model.proofs.Tracking.{latest_cases}
-use Rattle.persist_model.proofs.Projecting.{SameOn, SameOn-events, Reaches-same, AreAway, AreAway-append, IsDue-aways, advance_all-append}
+use Rattle.persist_model.proofs.Projecting.{SameOn, SameOn-events, Reaches-same, AreAway, IsDue-aways, advance_all-append}
 use Rattle.lane_traits.specs.Device.{stores_of}
 use Rattle.log_laws.specs.Recovery.{HasDecidingRecord, Step, Steps, start as begins, makes, stores, grown}
-use Rattle.log_laws.specs.Recovering.{RECOVERY, IsOnLog, AreOnLog, with_heap}
+use Rattle.log_laws.specs.Recovering.{RECOVERY, AreOnLog, with_heap}
 use Rattle.log_laws.specs.StateAppends.{IsAppend, MayCome}
-use Rattle.log_laws.specs.Parts.{after_plan, HasCome, Leads, EachKeeps}
+use Rattle.log_laws.specs.Parts.{after_plan, Leads}
 use Rattle.log_laws.proofs.Parts.{part_image}
 use Rattle.log_laws.proofs.Recovering.{heap_step}
-use Rattle.recovery_run.specs.Edges.{KeepsWords, IsPlainHeaderWord, AreOffHeader}
+use Rattle.recovery_run.specs.Edges.{AreOffHeader}
 use Rattle.recovery_run.specs.Reached.{newest_at, HasReached, HasSettled}
 use Rattle.recovery_run.proofs.Aside.{plan_keeps}
 use Rattle.recovery_run.proofs.Making.{take_whole}
 use Rattle.recovery_run.proofs.ClosingPart.{same_heap}
 use Rattle.recovery_run.proofs.Coming.{settled_append_leads, settled_append_done}
-use Rattle.recovery_run.proofs.Composing.{parts_keep}
 use Rattle.recovery_run.proofs.Reaching.{newest_latest, newest_log, reached_step, plan_done, settled_newest, settled_reached, settles, single_plan}
 
 -- how many places a plan takes

@@ -1,11 +1,11 @@
 -- The closing of all records from a settled state.
-use Rattle.std.proofs.Common.{◌≡◌, ◌⊎◌, inl, inr, ℕ, zero, suc, ◌+◌, ◌*◌, ◌<◌, ◌≤◌, ◌==◌, Bool, true, false, if◌then◌else◌, List, [], ◌∷◌, ◌++◌, length, refl, sym, ap, ◌∙◌, subst, arith}
+use Rattle.std.proofs.Common.{◌≡◌, ◌⊎◌, inl, inr, ℕ, ◌+◌, ◌*◌, ◌<◌, ◌≤◌, ◌==◌, Bool, true, false, if◌then◌else◌, List, [], ◌∷◌, ◌++◌, refl, sym, ap, subst, arith}
 use Rattle.std.proofs.lemmas.Bool.Decides.{nat_tests}
 use Rattle.persist_model.specs.declared.event.Event.{Event}
-use Rattle.persist_model.specs.declared.event.Event.TheVariants.{PStore, Fence}
+use Rattle.persist_model.specs.declared.event.Event.TheVariants.{Fence}
 use Rattle.persist_model.specs.Region.{Words, Region}
-use Rattle.persist_model.specs.Progress.{Progress, Wrote, start, advance_all}
-use Rattle.persist_model.specs.Records.{Record, Log, IsAmong, IsCheckpoint, IsEnded}
+use Rattle.persist_model.specs.Progress.{Progress, Wrote, start}
+use Rattle.persist_model.specs.Records.{Record, Log, IsAmong}
 use Rattle.persist_model.specs.Shape.{Shape, heap, words_of_shape, IsBucketOf, SECOND_MAGIC}
 use Rattle.persist_model.specs.Chain.{Each}
 use Rattle.persist_model.specs.State.{State, IsSoundState}
@@ -14,11 +14,10 @@ use Rattle.log_laws.proofs.SameLists.{chain_buckets}
 use Rattle.log_laws.proofs.Applying.{all_may_close}
 use Rattle.atomic_list.proofs.Parts.{whole_bucket_fits}
 use Rattle.log_laws.specs.Recovering.{RECOVERY}
-use Rattle.log_laws.specs.Parts.{after_plan, HasCome, Leads, EachKeeps}
+use Rattle.log_laws.specs.Parts.{after_plan, HasCome, Leads}
 use Rattle.log_clearing.specs.Plans.{closes as zeroes, group, closing_plan}
-use Rattle.log_clearing.specs.Closed.{IsListed}
 use Rattle.recovery_run.specs.ClosingAll.{CanCloseAll}
-use Rattle.recovery_run.specs.Edges.{StoreElsewhere, KeepsWords, IsPlainHeaderWord}
+use Rattle.recovery_run.specs.Edges.{StoreElsewhere}
 use Rattle.recovery_run.specs.Reached.{newest_at, HasHeader, HasSettled}
 use Rattle.log_clearing.proofs.ClosingWords.{closing_ends}
 use Rattle.recovery_run.proofs.Within.{AreWithin}

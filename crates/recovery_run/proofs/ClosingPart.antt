@@ -1,24 +1,23 @@
 -- A closing as a part of recovery: each image of each prefix, and its end.
-use Rattle.std.proofs.Common.{◌≡◌, ◌⊎◌, inl, inr, ℕ, zero, suc, Bool, true, false, ◌<◌, ◌≤◌, if◌then◌else◌, List, [], ◌∷◌, ◌++◌, length, take, refl, sym, subst, ◌∙◌, ap, arith, nat_lt}
-use Rattle.std.specs.Prelude.{slice_index}
+use Rattle.std.proofs.Common.{◌≡◌, ◌⊎◌, inl, inr, ℕ, Bool, true, false, ◌<◌, ◌≤◌, if◌then◌else◌, List, [], ◌∷◌, ◌++◌, length, take, refl, sym, subst, ◌∙◌, arith, nat_lt}
 use Rattle.std.proofs.lemmas.Bool.{ltb-true, ltb-false}
 use Rattle.persist_model.specs.declared.event.Event.{Event}
-use Rattle.persist_model.specs.declared.event.Event.TheVariants.{PStore, Fence}
+use Rattle.persist_model.specs.declared.event.Event.TheVariants.{Fence}
 use Rattle.persist_model.specs.Region.{Words, Region}
 use Rattle.persist_model.specs.Progress.{Progress, Reaches, start, advance_all}
-use Rattle.persist_model.specs.Records.{Record, Log, IsAmong}
+use Rattle.persist_model.specs.Records.{Record, IsAmong}
 use Rattle.log_laws.specs.Closing.{MayClear}
 use Rattle.persist_model.specs.Shape.{Shape, heap, words_of_shape, heap_words, log_words, part_of}
 use Rattle.persist_model.specs.State.{State, IsSoundState}
 use Rattle.log_laws.specs.Recovery.{Steps, start as begins, makes, closes}
 use Rattle.persist_model.specs.Sound.{HasState}
-use Rattle.log_laws.specs.Recovering.{RECOVERY, IsAtRest, IsOnLog, AreOnLog}
+use Rattle.log_laws.specs.Recovering.{RECOVERY, IsAtRest, AreOnLog}
 use Rattle.log_laws.proofs.Parts.{part_image, part_image_settled}
 use Rattle.log_laws.proofs.Clearing.{closed_by}
 use Rattle.log_laws.proofs.Closings.{part_among}
 use Rattle.log_clearing.specs.Plans.{closes as zeroes, group, closing_plan}
 use Rattle.log_clearing.specs.Closed.{AreGroups, IsListed}
-use Rattle.log_clearing.proofs.ClosingWords.{closed, closing_ends, latest_zero, latest_away}
+use Rattle.log_clearing.proofs.ClosingWords.{closed, closing_ends, latest_zero}
 use Rattle.log_clearing.proofs.ClosingImages.{HasPart, closing_image}
 use Rattle.log_laws.specs.Parts.{after_plan, AreDurable, HasCome, Leads}
 use Rattle.recovery_run.proofs.Composing.{parts_go_on}

@@ -1,7 +1,7 @@
 -- Which records may come: a compensation and a rollback record whatever the covered heap words are, an end and a checkpoint record where nothing is pending.
-use Rattle.std.proofs.Common.{◌≡◌, ◌⊎◌, inl, inr, ℕ, ◌<◌, ◌≤◌, List, [], ◌∷◌, ◌++◌, length, take, refl, sym, ap, subst, ◌∙◌, arith}
+use Rattle.std.proofs.Common.{◌≡◌, inl, inr, ℕ, ◌<◌, List, [], ◌∷◌, length, take, refl, sym, ap, subst, ◌∙◌, arith}
 use Rattle.persist_model.specs.declared.event.Event.{Event}
-use Rattle.persist_model.specs.declared.event.Event.TheVariants.{PStore, Fence}
+use Rattle.persist_model.specs.declared.event.Event.TheVariants.{Fence}
 use Rattle.persist_model.specs.Region.{Words, Region}
 use Rattle.persist_model.specs.Progress.{Progress, Reaches, start, advance, advance_all}
 use Rattle.persist_model.specs.Records.{Record, Log, IsOf, IsRollback, IsCompensation, HasNo}
@@ -9,7 +9,7 @@ use Rattle.persist_model.specs.Order.{Compensates}
 use Rattle.persist_model.specs.Need.{to_undo}
 use Rattle.persist_model.specs.Shape.{Shape, heap_words, words_of_shape}
 use Rattle.persist_model.specs.State.{State}
-use Rattle.log_laws.specs.Recovery.{Step, Steps, start as begins, makes, compensates, rolls_back, Appends, IsOfLoser, grown}
+use Rattle.log_laws.specs.Recovery.{Step, start as begins, makes, compensates, rolls_back, Appends, IsOfLoser, grown}
 use Rattle.log_laws.specs.Recovering.{RECOVERY, IsAtRest, with_heap}
 use Rattle.persist_model.specs.Sound.{HasState}
 use Rattle.persist_model.proofs.Projecting.{advance_all-append}

@@ -1,15 +1,15 @@
 -- How the parts of recovery follow one another.
-use Rattle.std.proofs.Common.{◌≡◌, inl, inr, ℕ, zero, suc, ◌<◌, ◌≤◌, List, [], ◌∷◌, ◌++◌, take, refl, sym, subst, ◌∙◌, ap, arith}
+use Rattle.std.proofs.Common.{◌≡◌, ℕ, zero, suc, ◌<◌, List, [], ◌∷◌, take, refl, sym, subst, ◌∙◌}
 use Rattle.std.specs.Prelude.{slice_index}
 use Rattle.persist_model.specs.declared.event.Event.{Event}
 use Rattle.persist_model.specs.declared.event.Event.TheVariants.{Store, PStore, WriteBack, Fence}
-use Rattle.persist_model.specs.Region.{Words, Region, IsImage, after}
-use Rattle.persist_model.specs.Progress.{Progress, Tracks, Reaches, Wrote, AreSettledAt, start, advance, advance_all}
-use Rattle.persist_model.specs.Shape.{Shape, heap, words_of_shape, heap_words}
+use Rattle.persist_model.specs.Region.{Words, Region, after}
+use Rattle.persist_model.specs.Progress.{Progress, Tracks, AreSettledAt, start, advance, advance_all}
+use Rattle.persist_model.specs.Shape.{Shape, words_of_shape}
 use Rattle.persist_model.specs.State.{State, IsSoundState}
-use Rattle.log_laws.specs.Recovery.{HasDecidingRecord, Step, Steps, start as begins, makes, KeepsStanding}
+use Rattle.log_laws.specs.Recovery.{Steps, start as begins, makes}
 use Rattle.persist_model.specs.Sound.{HasState}
-use Rattle.log_laws.specs.Recovering.{RECOVERY, IsAtRest, IsRecovering}
+use Rattle.log_laws.specs.Recovering.{RECOVERY, IsAtRest}
 use Rattle.persist_model.proofs.Tracking.{Tracks-event, Tracks-settled, Reaches-image}
 use Rattle.log_laws.proofs.Keeping.{runs_keep}
 use Rattle.log_laws.specs.Parts.{after_plan, AreDurable, HasCome, Leads, EachKeeps}

@@ -1,5 +1,5 @@
 -- How a plan goes on, event by event.
-use Rattle.std.proofs.Common.{◌≡◌, ℕ, zero, suc, ◌+◌, ◌<◌, ◌≤◌, List, [], ◌∷◌, ◌++◌, length, take, drop, sum_by, get_or, Some, None, refl, sym, ◌∙◌, ap, subst, arith}
+use Rattle.std.proofs.Common.{◌≡◌, ℕ, zero, suc, ◌+◌, ◌≤◌, List, [], ◌∷◌, ◌++◌, length, take, drop, sum_by, get_or, Some, None, refl, ◌∙◌, ap, subst, arith}
 use Rattle.std.specs.Prelude.{slice_get}
 use Rattle.std.proofs.lemmas.List.{take_more}
 use Rattle.std.proofs.lemmas.List.Sums.{sum_by-drop_more}
@@ -7,7 +7,7 @@ use Rattle.std.proofs.lemmas.Option.{get_or_from_slice_get, slice_get_within}
 use Rattle.persist_model.specs.declared.event.Event.{Event}
 use Rattle.persist_model.specs.declared.event.Event.TheVariants.{Store, PStore, WriteBack, Fence}
 use Rattle.persist_model.specs.Region.{Region, after}
-use Rattle.lane_traits.specs.Device.{stores_of, IsWithin}
+use Rattle.lane_traits.specs.Device.{stores_of}
 use Rattle.log_laws.specs.Parts.{after_plan}
 
 push : (lane : ℕ) (region : Region) (xs : List Event) (e : Event) → after_plan lane region (xs ++ e ∷ []) ≡ after (after_plan lane region xs) lane e

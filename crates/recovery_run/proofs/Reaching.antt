@@ -1,24 +1,21 @@
 -- What a reached state says of the region, and how it goes on.
 use Rattle.std.proofs.Common.{◌≡◌, ◌⊎◌, inl, inr, ℕ, zero, suc, ◌+◌, ◌<◌, ◌≤◌, ◌==◌, Bool, true, false, if◌then◌else◌, List, [], ◌∷◌, ◌++◌, length, take, refl, sym, ap, ◌∙◌, subst, arith, nat_lt}
-use Rattle.std.specs.Prelude.{slice_index}
 use Rattle.std.proofs.lemmas.Bool.Decides.{eqb_tells, nat_tests}
-use Rattle.std.proofs.lemmas.Bool.{ltb-true, ltb-false}
+use Rattle.std.proofs.lemmas.Bool.{ltb-true}
 use Rattle.persist_model.specs.declared.event.Event.{Event}
 use Rattle.persist_model.specs.declared.event.Event.TheVariants.{Store, PStore, WriteBack, Fence}
 use Rattle.persist_model.specs.declared.event.Candidate.{Candidate}
-use Rattle.persist_model.specs.Region.{Words, Region, after, candidate, fenced, IsCandidate, IsSettled, AreSettled, newest, newest_words}
+use Rattle.persist_model.specs.Region.{Words, Region, after, candidate, fenced, IsCandidate, IsSettled, AreSettled, newest}
 use Rattle.persist_model.specs.Progress.{Progress, Wrote, Tracks, IsWordOf, IsDurable, Reaches, latest, write, start, advance, advance_all}
-use Rattle.persist_model.specs.Records.{IsAmong}
-use Rattle.persist_model.specs.Shape.{Shape, shape_of, heap, words_of_shape, log_words, heap_words, list_words, IsShape, SECOND_MAGIC, IsBucketOf, IsMagic, IsPolicy, IsCellCount, IsBucketCount, IsBlockCount, IsStructureCount, IsKind, IsPartitionCount}
-use Rattle.persist_model.specs.Chain.{view, ListRules}
+use Rattle.persist_model.specs.Shape.{Shape, shape_of, heap, words_of_shape, heap_words, list_words, SECOND_MAGIC, IsMagic, IsPolicy, IsCellCount, IsBucketCount, IsBlockCount, IsStructureCount, IsKind, IsPartitionCount}
 use Rattle.persist_model.specs.State.{State, IsSoundState}
 use Rattle.persist_model.specs.Sound.{HasState}
 use Rattle.persist_model.proofs.Candidates.{IsCandidate_newest, newest-push, fenced-push}
 use Rattle.persist_model.proofs.Tracking.{latest_cases, Tracks-event, Wrote-push, Wrote-pushed}
 use Rattle.persist_model.proofs.Projecting.{latest_none}
 use Rattle.persist_model.proofs.Images.{get_or-newest_words, settled_is}
-use Rattle.log_laws.specs.Recovery.{HasDecidingRecord, Step, Steps, start as begins, makes, stores, KeepsStanding}
-use Rattle.log_laws.specs.Recovering.{RECOVERY, IsAtRest, with_heap}
+use Rattle.log_laws.specs.Recovery.{HasDecidingRecord, Step, Steps, start as begins, makes, KeepsStanding}
+use Rattle.log_laws.specs.Recovering.{RECOVERY, with_heap}
 use Rattle.log_laws.specs.Parts.{after_plan, AreDurable, HasCome, Leads, EachKeeps}
 use Rattle.log_laws.proofs.Recovering.{same_log, state_with_heap, heap_step, rest_image, rest_store}
 use Rattle.log_laws.proofs.Keeping.{runs_keep}

@@ -1,5 +1,5 @@
 -- Plans whose words are within a region.
-use Rattle.std.proofs.Common.{◌≡◌, ℕ, zero, suc, ◌<◌, List, [], ◌∷◌, length, get_or, arith}
+use Rattle.std.proofs.Common.{ℕ, zero, suc, List, [], ◌∷◌, arith}
 use Rattle.std.specs.Prelude.{All}
 use Rattle.persist_model.specs.declared.event.Event.{Event}
 use Rattle.lane_traits.specs.Device.{IsWithin}

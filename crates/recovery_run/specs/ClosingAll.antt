@@ -1,5 +1,5 @@
 -- The closing of all records.
-use Rattle.std.specs.Prelude.{◌≡◌, ℕ, ◌≤◌, ◌<◌, ◌+◌, List}
+use Rattle.std.specs.Prelude.{ℕ, List}
 use Rattle.persist_model.specs.Records.{HasNo, IsLoser}
 use Rattle.persist_model.specs.Standing.{IsToRedo}
 use Rattle.persist_model.specs.Shape.{Shape}

@@ -1,4 +1,4 @@
-use Rattle.std.proofs.Common.{◌≤◌, sum_by, length, sym, subst, arith}
+use Rattle.std.proofs.Common.{sym, subst, arith}
 use Rattle.persist_model.specs.Region.{Region}
 use Rattle.log_laws.specs.Recovery.{grown}
 use Rattle.log_laws.specs.Parts.{EachKeeps}

@@ -1,13 +1,10 @@
-use Rattle.std.proofs.Common.{◌≡◌, ℕ, [], sym, subst, arith}
+use Rattle.std.proofs.Common.{ℕ, [], sym, subst, arith}
 use Rattle.persist_model.specs.Region.{Region}
-use Rattle.persist_model.specs.State.{State}
 use Rattle.persist_model.specs.Progress.{start}
 use Rattle.log_clearing.specs.Plans.{closing_plan}
-use Rattle.log_laws.specs.Recovering.{RECOVERY}
 use Rattle.log_laws.specs.Parts.{EachKeeps}
 use Rattle.recovery_run.specs.Reached.{HasSettled}
 use Rattle.recovery_run.proofs.Appended.{stores_are_few}
-use Rattle.recovery_run.proofs.Aside.{plan_keeps}
 use Rattle.recovery_run.proofs.Composing.{parts_keep}
 use Rattle.recovery_run.proofs.Within.{all_within}
 use Rattle.recovery_run.proofs.ClosingAll.{plan_low, plan_within, close_all_leads, close_all_done}

@@ -1,8 +1,8 @@
-use Rattle.std.proofs.Common.{◌≡◌, ◌≤◌, ◌+◌, ap, sym, ◌∙◌, refl, subst, arith, length, take, drop, sum_by, get_or}
+use Rattle.std.proofs.Common.{◌+◌, ap, sym, ◌∙◌, refl, subst, arith, take}
 use Rattle.std.proofs.lemmas.Option.{get_or_from_slice_get, slice_get_within}
 use Rattle.persist_model.specs.Region.{Region, after}
 use Rattle.log_laws.specs.Recovering.{RECOVERY}
-use Rattle.lane_traits.specs.Device.{Counts, counted, stores_of, IsWithin}
+use Rattle.lane_traits.specs.Device.{Counts, counted, IsWithin}
 use Rattle.log_laws.specs.Parts.{after_plan}
 use Rattle.recovery_run.specs.Edges.{HasOnlyValue}
 use Rattle.recovery_run.proofs.Making.{plan_more, places_left, past_end, take_whole, same_size}
