@@ -5,8 +5,7 @@ use Rattle.std.proofs.lemmas.Bool.Decides.{eqb_tells}
 use Rattle.persist_model.specs.Region.{Words}
 use Rattle.persist_model.specs.Progress.{Reaches, Wrote}
 use Rattle.persist_model.specs.Runs.{progress_at}
-use Rattle.persist_model.specs.Records.{Record, Log, IsAmong}
-use Rattle.persist_model.proofs.Tracking.{Reaches-image}
+use Rattle.persist_model.specs.Records.{Log, IsAmong}
 use Rattle.persist_model.specs.Standing.{Stands}
 use Rattle.persist_model.specs.Shape.{Shape, shape_of, heap, log_words, heap_words}
 use Rattle.persist_model.specs.Chain.{view}
@@ -18,18 +17,23 @@ use Rattle.bucket_log.proofs.PartWords.{decide_part_word, appends_are_on_part, o
 use Rattle.bucket_log.proofs.Partitions.{part_words_apart, part_word_below, few_parts}
 use Rattle.log_clearing.specs.Plans.{closing_plan}
 use Rattle.log_clearing.specs.Clearing.{AreDeferred}
-use Rattle.log_clearing.specs.Closed.{AreGroups, IsListed}
+use Rattle.log_clearing.specs.Closed.{AreGroups}
 use Rattle.log_clearing.specs.Removals.{region_removal}
 use Rattle.log_clearing.proofs.ClearingStates.{sound_with_heap}
 use Rattle.log_clearing.proofs.PartPlans.{removals_are_on_part, closings_are_on_part, own_words_drop}
 use Rattle.plan_records.specs.Appends.{MayStandAt}
+use Rattle.log_keeper.specs.Parts.{plan_of}
+use Rattle.log_keeper.specs.Logged.{waiting, IsReached}
+use Rattle.log_keeper.proofs.EventsPass.{tracked_images_reach}
+use Rattle.log_keeper.proofs.Reading.{keepers_track}
+use Rattle.log_keeper.proofs.Progressing.{only_gates}
 use Rattle.history_laws.specs.Histories.{Entry, fold}
 use Rattle.history_laws.specs.Stands.{has_commit}
-use Rattle.history_laws.specs.UnderWay.{record_of_adding, UnderWay, nothing, appends, closes, takes_back, drops, plan_of, made_of, IsAddedIn}
+use Rattle.history_laws.specs.UnderWay.{record_of_adding, UnderWay, nothing, appends, closes, takes_back, drops, run_of, runs_of, IsAddedIn}
 use Rattle.history_laws.specs.Choices.{HasChoice}
-use Rattle.history_laws.specs.Moments.{IsRunningIn, IsMoment, IsReached}
+use Rattle.history_laws.specs.Moments.{IsRunningIn, IsMoment}
 use Rattle.history_laws.specs.Stands.{IsHeader}
-use Rattle.history_laws.specs.Laws.{TrackedImagesReach, ImagesHaveChoices, ImagesStand, RegionsStand}
+use Rattle.history_laws.specs.Laws.{ImagesHaveChoices, ImagesStand, RegionsStand, KeptRegionsStand}
 use Rattle.history_laws.proofs.Folding.{commit_cases, value_none}
 use Rattle.history_laws.proofs.Headers.{header_below, header_is_none's, stands_for}
 use Rattle.history_laws.proofs.PartWords.{some_part, replaced, replaced_in, replaced_out, reached_there, view_replaced, heap_words_alike, same_state}
@@ -45,13 +49,8 @@ deferred_groups log gates deferred = record {
   of_checkpoints = λ a m. absurd m;
 }
 
-gate_listed : (gates : List ℕ) (d : Record) → IsListed gates [] [] d → IsAmong gates d.at
-gate_listed gates d (inl m) = m
-gate_listed gates d (inr (inl m)) = absurd m
-gate_listed gates d (inr (inr m)) = absurd m
-
 module _ (shape : Shape) (base : Words) (s : State) (h : Words) (flight : List Entry) (under : ℕ → UnderWay) (i : Words)
-    (moment : IsMoment shape base s h flight under (heap_words shape i)) (reached : IsReached shape base under i) where
+    (moment : IsMoment shape base s h flight under (heap_words shape i)) (reached : IsReached shape base (runs_of under) i) where
   -- the image's words in the first n partitions and in the heap, the settled ones elsewhere
   record IsMixed (n : ℕ) (w : Words) : Type 0 where
     own : (q a : ℕ) → q < n → IsPartWord shape q a → w a ≡ i a
@@ -98,12 +97,12 @@ module _ (shape : Shape) (base : Words) (s : State) (h : Words) (flight : List E
     alike : heap_words shape w ≡ heap_words shape i
     alike = heap_words_alike shape i w mixed.behind
 
-    part_reached : Reaches (IsPartWord shape n) (progress_at base (plan_of shape n (under n)) (made_of (under n))) w
-    part_reached a m = subst (λ u. (u ≡ (progress_at base (plan_of shape n (under n)) (made_of (under n))).durable a) ⊎
-        Wrote (progress_at base (plan_of shape n (under n)) (made_of (under n))).pending a u) (sym (mixed.own n a (omega arith) m)) (reached.parts n inside a m)
+    part_reached : Reaches (IsPartWord shape n) (progress_at base (plan_of shape n (run_of (under n)).part) (run_of (under n)).made) w
+    part_reached a m = subst (λ u. (u ≡ (progress_at base (plan_of shape n (run_of (under n)).part) (run_of (under n)).made).durable a) ⊎
+        Wrote (progress_at base (plan_of shape n (run_of (under n)).part) (run_of (under n)).made).pending a u) (sym (mixed.own n a (omega arith) m)) (reached.parts n inside a m)
 
     next_choice : Choice n before → (u : UnderWay) → under n ≡ u → IsRunningIn shape base s h flight (heap_words shape i) n u →
-        Reaches (IsPartWord shape n) (progress_at base (plan_of shape n u) (made_of u)) w → Choice (suc n) w
+        Reaches (IsPartWord shape n) (progress_at base (plan_of shape n (run_of u).part) (run_of u).made) w → Choice (suc n) w
     unfolding before
     next_choice choice nothing is runs there = step_nothing shape base s h flight under (heap_words shape i) moment n inside before w alike choice
         (λ a lt. elim (decide_part_word shape n a) [
@@ -117,7 +116,7 @@ module _ (shape : Shape) (base : Words) (s : State) (h : Words) (flight : List E
         (reached_there shape n base w (closing_plan gates ends []) made (closings_are_on_part shape n base s gates ends [] moment.allowed moment.has group.groups group.here) there)
     next_choice choice (takes_back gates made) is taking there = step_take_back shape base s h flight under (heap_words shape i) moment n inside before w alike choice gates made is taking
         (reached_there shape n base w (closing_plan gates [] []) made
-        (closings_are_on_part shape n base s gates [] [] moment.allowed moment.has (deferred_groups s.log gates taking.deferred) (λ d m on. taking.here d m (gate_listed gates d on))) there)
+        (closings_are_on_part shape n base s gates [] [] moment.allowed moment.has (deferred_groups s.log gates taking.deferred) (λ d m on. taking.here d m (only_gates gates d.at on))) there)
     next_choice choice (appends x made) is runs there = elim (cases_lt (length (region_append shape n x.place (record_of_adding x))) (made + 2)) [
       | inr early ↦ step_waits shape base s h flight under (heap_words shape i) moment n inside before w alike choice x.place x.number x.added made runs.chain can early made_there
       | inl stored ↦ (
@@ -149,13 +148,6 @@ module _ (shape : Shape) (base : Words) (s : State) (h : Words) (flight : List E
 
 -- ---- the laws
 
-pub tracked_images_reach : TrackedImagesReach
-tracked_images_reach shape base under holder region i ok tracked image = record {
-  header = λ a low none. tracked.header a (low, none) (i a) (image a (let size = tracked.size in omega (arith, low, size)));
-  parts = λ p lt. Reaches-image (IsPartWord shape p) (holder p) (progress_at base (plan_of shape p (under p)) (made_of (under p))) region i
-      (λ a m. (let size = tracked.size in let inside = part_word_below shape p a ok lt m in omega (arith, inside, size))) image (tracked.parts p lt);
-}
-
 pub images_have_choices : ImagesHaveChoices
 images_have_choices shape base s h flight under i moment reached = image_choice shape base s h flight under i moment reached
 
@@ -172,4 +164,8 @@ images_stand size base s start history flight under i is moment reached =
 pub regions_stand : RegionsStand
 regions_stand base s start history flight under holder region is tracked moments i image =
     images_stand region.size base s start history flight under i is (moments i image)
-    (tracked_images_reach (shape_of base) base under holder region i (moments i image).allowed tracked image)
+    (tracked_images_reach (shape_of base) base (runs_of under) holder region i (moments i image).allowed tracked image)
+
+pub kept_regions_stand : KeptRegionsStand
+kept_regions_stand base s chains k region start history flight under is logged same moments i image =
+    regions_stand base s start history flight under (waiting k) region is (keepers_track (shape_of base) base s chains k region (runs_of under) same logged) moments i image

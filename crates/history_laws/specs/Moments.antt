@@ -1,21 +1,19 @@
 -- What is asked at a moment: of the settled log, of what is under way in each partition, and of the image's words. All of it is said of the
 -- settled state, though other partitions may have made more of theirs in an image.
 use Rattle.std.specs.Prelude.{◌≡◌, ◌≢◌, ◌⊎◌, ℕ, ◌+◌, ◌*◌, ◌<◌, ◌≤◌, ◌^◌, List, [], ◌∷◌, ◌++◌}
-use Rattle.persist_model.specs.Region.{Words, Region}
+use Rattle.persist_model.specs.Region.{Words}
 use Rattle.persist_model.specs.Kinds.{CHECKPOINT}
-use Rattle.persist_model.specs.Progress.{Reaches, Tracks, AreSettledAt, latest}
-use Rattle.persist_model.specs.Runs.{progress_at}
+use Rattle.persist_model.specs.Progress.{latest}
 use Rattle.persist_model.specs.Records.{Record, Log, IsAmong, Has, HasNo, IsOf, IsEnd, IsDeletion, NamesWord, IsRunning, IsEnded, IsCommitted}
 use Rattle.persist_model.specs.Standing.{IsLatest, Stands}
 use Rattle.persist_model.specs.Order.{undo_point}
 use Rattle.persist_model.specs.Need.{need_in}
-use Rattle.persist_model.specs.Shape.{Shape, part_of, words_of_shape, log_words, IsHeapWord}
+use Rattle.persist_model.specs.Shape.{Shape, part_of, log_words, IsHeapWord}
 use Rattle.persist_model.specs.Chain.{view}
 use Rattle.persist_model.specs.State.{State, IsSoundState}
 use Rattle.persist_model.specs.Sound.{HasState}
 use Rattle.log_laws.specs.Moves.{IsDeletionBy, IsChangeBy}
 use Rattle.region_layout.specs.Layout.{IsAllowed}
-use Rattle.bucket_log.specs.Words.{IsPartWord}
 use Rattle.bucket_log.specs.Appends.{CanAppend}
 use Rattle.log_clearing.specs.Clearing.{AreDeferred}
 use Rattle.log_clearing.specs.Closed.{AreGroups, IsListed}
@@ -24,7 +22,7 @@ use Rattle.plan_records.specs.Cells.{IsCellOf}
 use Rattle.plan_records.specs.Passing.{Passes}
 use Rattle.plan_records.specs.Conditions.{CanUpdate, CanDelete, CanRollBack, CanCompensate, CanEndUndone, IsOfOpen, AreLast, AreWritten}
 use Rattle.history_laws.specs.Histories.{Entry, LeavesWord}
-use Rattle.history_laws.specs.UnderWay.{Added, an_update, a_deletion, a_rollback, a_compensation, an_undone_end, a_commit_end, Adding, record_of_adding, UnderWay, nothing, appends, closes, takes_back, drops, plan_of, made_of, IsStored, IsAddedIn}
+use Rattle.history_laws.specs.UnderWay.{Added, an_update, a_deletion, a_rollback, a_compensation, an_undone_end, a_commit_end, Adding, record_of_adding, UnderWay, nothing, appends, closes, takes_back, drops, IsStored, IsAddedIn}
 
 -- ---- an append whose gate is stored
 
@@ -129,14 +127,3 @@ pub record IsMoment (shape : Shape) (base : Words) (s : State) (h : Words) (flig
   pub drawn : (p : ℕ) (r : Record) → p < shape.partitions → IsAddedIn shape p (under p) r → r.lsn < top
   pub numbers : top + shape.cells * (shape.buckets + shape.partitions) + 1 ≤ 2 ^ 63
   pub standing : (a : ℕ) → IsHeapWord shape a → Stands shape.policy s.log heap a (h a)
-
--- Words that may be found: those of the header that no partition has are base's, and of each partition's words those that its part has reached.
-pub record IsReached (shape : Shape) (base : Words) (under : ℕ → UnderWay) (i : Words) : Type 0 where
-  pub header : (a : ℕ) → a < 32 → ((p : ℕ) → p < shape.partitions → IsPartWord shape p a → ⊥) → i a ≡ base a
-  pub parts : (p : ℕ) → p < shape.partitions → Reaches (IsPartWord shape p) (progress_at base (plan_of shape p (under p)) (made_of (under p))) i
-
--- A region in which the holder of each partition has made so much of its part, and others nothing in its words.
-pub record AreTracked (shape : Shape) (base : Words) (under : ℕ → UnderWay) (holder : ℕ → ℕ) (region : Region) : Type 0 where
-  pub size : region.size ≡ words_of_shape shape
-  pub header : AreSettledAt (λ a. (a < 32) × ((p : ℕ) → p < shape.partitions → IsPartWord shape p a → ⊥)) base region
-  pub parts : (p : ℕ) → p < shape.partitions → Tracks (IsPartWord shape p) (holder p) (progress_at base (plan_of shape p (under p)) (made_of (under p))) region

@@ -1,6 +1,5 @@
--- What is under way in a partition of the log, as plain data.
+-- What is under way in a partition of the log: the keeper's run, and what an append adds.
 use Rattle.std.specs.Prelude.{◌≡◌, ◌⊎◌, ℕ, ◌+◌, ◌<◌, List, [], length}
-use Rattle.persist_model.specs.declared.event.Event.{Event}
 use Rattle.persist_model.specs.Records.{Record, Log, IsAmong}
 use Rattle.persist_model.specs.Shape.{Shape, part_of}
 use Rattle.atomic_list.specs.declared.plans.Remove.{Remove}
@@ -9,9 +8,8 @@ use Rattle.bucket_log.specs.declared.append.Place.{Place}
 use Rattle.plan_records.specs.declared.parts.Update.{Update}
 use Rattle.plan_records.specs.declared.parts.Giving.{Giving}
 use Rattle.bucket_log.specs.Appends.{region_append}
-use Rattle.log_clearing.specs.Plans.{closing_plan}
 use Rattle.log_clearing.specs.Closed.{IsListed}
-use Rattle.log_clearing.specs.Removals.{region_removal}
+use Rattle.log_keeper.specs.Parts.{rests, appends as adds, closes as shuts, takes_back as drops_deletions, drops as takes_out, Running}
 use Rattle.persist_model.specs.declared.kinds.Outcome.TheVariants.{Committed, RolledBack}
 use Rattle.plan_records.specs.Cells.{cell_of_update, cell_of_deletion, appended}
 use Rattle.region_layout.specs.RecordCells.{cell_of_compensation, cell_of_rollback, cell_of_end}
@@ -51,19 +49,16 @@ pub data UnderWay : Type 0 where
   takes_back : List ℕ → ℕ → UnderWay
   drops : Remove → ℕ → UnderWay
 
-abbrev pub plan_of : Shape → ℕ → UnderWay → List Event
-plan_of shape p nothing = []
-plan_of shape p (appends x made) = region_append shape p x.place (record_of_adding x)
-plan_of shape p (closes gates ends made) = closing_plan gates ends []
-plan_of shape p (takes_back gates made) = closing_plan gates [] []
-plan_of shape p (drops r made) = region_removal p r
+-- the run of the log's keeper that it is
+abbrev pub run_of : UnderWay → Running
+run_of nothing = record { part = rests; made = 0 }
+run_of (appends x made) = record { part = adds x.place (record_of_adding x); made = made }
+run_of (closes gates ends made) = record { part = shuts gates ends []; made = made }
+run_of (takes_back gates made) = record { part = drops_deletions gates; made = made }
+run_of (drops r made) = record { part = takes_out r; made = made }
 
-abbrev pub made_of : UnderWay → ℕ
-made_of nothing = 0
-made_of (appends x made) = made
-made_of (closes gates ends made) = made
-made_of (takes_back gates made) = made
-made_of (drops r made) = made
+abbrev pub runs_of : (ℕ → UnderWay) → ℕ → Running
+runs_of under p = run_of (under p)
 
 -- the gate is stored: all events are made but for the last fence, or that too
 abbrev pub IsStored : Shape → ℕ → Adding → ℕ → Type 0

@@ -2,14 +2,9 @@
 //! that do nothing: the clause is the law.
 #![tactic(auto)]
 
-ghost use Rattle.history_laws.specs.Laws.{TrackedImagesReach, ImagesHaveChoices, ImagesStand, RegionsStand};
+ghost use Rattle.history_laws.specs.Laws.{ImagesHaveChoices, ImagesStand, RegionsStand, KeptRegionsStand};
 ghost use Rattle.history_laws.specs.Growing.{UncoveredAreSettled, HistoryGrows};
 ghost use Rattle.history_laws.specs.Checkpoints.{CheckpointsStand, CheckpointClosingsStand};
-
-/// What a stop leaves of a region is, in each partition, what its part has reached.
-pub fn tracked_images_reach()
-    ensures { TrackedImagesReach }
-{}
 
 /// Each image has a sound state: the settled log with some of the records under way, and without some of those that are being closed.
 pub fn images_have_choices()
@@ -24,6 +19,11 @@ pub fn images_stand()
 /// So does whatever a stop leaves of a region.
 pub fn regions_stand()
     ensures { RegionsStand }
+{}
+
+/// So does whatever a stop leaves of the log's keeper's region.
+pub fn kept_regions_stand()
+    ensures { KeptRegionsStand }
 {}
 
 /// At each prefix of the append of a checkpoint's record each image stands for the history,

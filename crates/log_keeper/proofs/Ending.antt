@@ -32,7 +32,7 @@ use Rattle.log_clearing.proofs.RemovalStates.{removals_are_states}
 use Rattle.plan_records.specs.Appends.{with_record}
 use Rattle.plan_records.specs.Passing.{inserted}
 use Rattle.plan_records.proofs.Passing.{inserted_gains, inserted_in}
-use Rattle.log_keeper.specs.Parts.{LogPart, rests, appends, closes, drops, Running, plan_of, waits_for, words_behind, CanRun}
+use Rattle.log_keeper.specs.Parts.{LogPart, rests, appends, closes, takes_back, drops, Running, plan_of, waits_for, words_behind, CanRun}
 use Rattle.log_keeper.specs.Ledger.{Noted, settled_log}
 use Rattle.log_keeper.specs.Logged.{Keeping, with_chain, resting, ended, waiting, plan_in, IsLoggedAt}
 use Rattle.log_keeper.specs.Laws.{AppendsSettle, RemovalsSettle}
@@ -47,6 +47,8 @@ can_beside shape q base later s x chain (appends place r) ok lt same there can =
     own_words_take.append shape q (view q (log_words shape base)) (view q (log_words shape later)) chain place r (own_words_take.views shape q base later ok lt same) can
 can_beside shape q base later s x chain (drops r) ok lt same there can =
     own_words_drop shape q (view q (log_words shape base)) (view q (log_words shape later)) r (own_words_take.views shape q base later ok lt same) can
+can_beside shape q base later s x chain (takes_back gates) ok lt same there can =
+    ((λ a m. (let k = can.0 a m in (k.0, there k.0 (ap (part_of shape) k.2.0 ∙ can.1 a m) k.1, k.2))), can.1)
 can_beside shape q base later s x chain (closes gates ends checkpoints) ok lt same there can = (
   record {
     of_gates = λ a m. (let k = can.0.of_gates a m in (k.0, there k.0 (ap (part_of shape) k.2.0 ∙ can.1 a (inl m)) k.1, k.2));

@@ -16,7 +16,7 @@ use Rattle.bucket_log.proofs.Partitions.{part_words_apart, part_word_below}
 use Rattle.bucket_log.proofs.PartWords.{own_words_take}
 use Rattle.log_keeper.specs.Parts.{LogPart, rests, Running, plan_of, waits_for, CanRun}
 use Rattle.log_keeper.specs.Logged.{Keeping, one_more, begun, IsNone's, waiting, plan_in}
-use Rattle.log_keeper.specs.Laws.{EventsPass, HeapEventsPass, FencesPass, PartsGoOn, PartsBegin, RegionsStart, ImagesAreReached, RestingPartsAreSettled}
+use Rattle.log_keeper.specs.Laws.{EventsPass, HeapEventsPass, FencesPass, PartsGoOn, PartsBegin, RegionsStart, TrackedImagesReach, ImagesAreReached, RestingPartsAreSettled}
 use Rattle.log_keeper.proofs.Progressing.{by_part, settled_of, settled_aside, size_after, part_durable, durable_event, on_event, part_on, waits_is}
 
 pub events_pass : EventsPass
@@ -139,12 +139,16 @@ regions_start shape base s chains k region size ok has records rest settled rest
 
 -- ---- images
 
-pub images_are_reached : ImagesAreReached
-images_are_reached shape base s chains k region i h image = record {
-  header = λ a none. h.header a none (i a) (image a (let size = h.size in let low = none.0 in omega (arith, size, low)));
-  parts = λ p lt. Reaches-image (IsPartWord shape p) (waiting k p) (progress_at base (plan_in shape k p) (k.runs p).made) region i
-      (λ a m. (let size = h.size in let below = part_word_below shape p a h.allowed lt m in omega (arith, size, below))) image (h.parts p lt);
+pub tracked_images_reach : TrackedImagesReach
+tracked_images_reach shape base runs holder region i ok tracked image = record {
+  header = λ a low none. tracked.header a (low, none) (i a) (image a (let size = tracked.size in omega (arith, low, size)));
+  parts = λ p lt. Reaches-image (IsPartWord shape p) (holder p) (progress_at base (plan_of shape p (runs p).part) (runs p).made) region i
+      (λ a m. (let size = tracked.size in let inside = part_word_below shape p a ok lt m in omega (arith, inside, size))) image (tracked.parts p lt);
 }
+
+pub images_are_reached : ImagesAreReached
+images_are_reached shape base s chains k region i h image =
+    tracked_images_reach shape base k.runs (waiting k) region i h.allowed (record { size = h.size; header = h.header; parts = h.parts }) image
 
 pub resting_parts_are_settled : RestingPartsAreSettled
 resting_parts_are_settled shape base s chains k region i p inside free h image = record {

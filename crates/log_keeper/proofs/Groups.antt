@@ -1,10 +1,11 @@
 -- The last event of a group of a closing.
-use Rattle.std.proofs.Common.{◌≡◌, ◌⊎◌, inl, inr, ℕ, ◌<◌, ◌==◌, ◌||◌, Bool, true, false, cond, nat_lt, if◌then◌else◌, List, [], ◌∷◌, length, refl, sym, ap, ◌∙◌, subst, arith}
+use Rattle.std.proofs.Common.{◌≡◌, ◌≢◌, ◌⊎◌, inl, inr, ℕ, ◌<◌, ◌==◌, ◌||◌, Bool, true, false, cond, nat_lt, if◌then◌else◌, List, [], ◌∷◌, length, refl, sym, ap, ◌∙◌, subst, arith}
 use Rattle.std.proofs.lemmas.Bool.Decides.{eqb_tells}
-use Rattle.persist_model.specs.Region.{Words}
-use Rattle.persist_model.specs.Progress.{start, advance_all}
+use Rattle.persist_model.specs.Region.{Words, Region}
+use Rattle.persist_model.specs.Progress.{Reaches, start, advance_all}
+use Rattle.persist_model.specs.Runs.{progress_at}
 use Rattle.persist_model.specs.Records.{Record, Log, IsAmong, Has}
-use Rattle.persist_model.specs.Shape.{Shape, IsBucketOf, heap, heap_words, log_words}
+use Rattle.persist_model.specs.Shape.{Shape, IsBucketOf, heap, heap_words, log_words, part_of}
 use Rattle.persist_model.specs.Chain.{view, out_address}
 use Rattle.persist_model.specs.ImageRecords.{cell_address}
 use Rattle.persist_model.specs.State.{State}
@@ -13,7 +14,7 @@ use Rattle.log_laws.specs.Closing.{IsSublog, empty, stays, goes}
 use Rattle.log_laws.proofs.SameLists.{chain_buckets}
 use Rattle.log_laws.proofs.Views.{out_cases, out_behind, view-out}
 use Rattle.region_layout.specs.Layout.{IsAllowed}
-use Rattle.atomic_list.specs.Rules.{IsListWord}
+use Rattle.atomic_list.specs.Rules.{IsListWord, IsAtRest}
 use Rattle.atomic_list.proofs.Repairs.{still}
 use Rattle.bucket_log.proofs.Addresses.{list_word_is_no_cell}
 use Rattle.bucket_log.proofs.AppendImages.{Each-among}
@@ -25,12 +26,12 @@ use Rattle.log_clearing.specs.Clearing.{ClosingLeaves}
 use Rattle.log_clearing.proofs.ClearingStates.{closings_end}
 use Rattle.log_clearing.proofs.ClosedStates.{part_in}
 use Rattle.log_clearing.proofs.ClosingImages.{HasPart, closing_image}
-use Rattle.log_keeper.specs.Parts.{closes, words_behind, IsListedGate, CanRun}
-use Rattle.log_keeper.specs.Ledger.{is_in, is_listed, left_open}
-use Rattle.log_keeper.specs.Laws.{GroupsSettle}
-use Rattle.log_keeper.specs.Logged.{with_chain, ended, IsLoggedAt}
+use Rattle.log_keeper.specs.Parts.{closes, takes_back, words_behind, IsListedGate, CanRun}
+use Rattle.log_keeper.specs.Ledger.{Noted, is_in, is_listed, settled_log, left_open}
+use Rattle.log_keeper.specs.Laws.{HasClosed, GroupsSettle, TakingsBackSettle}
+use Rattle.log_keeper.specs.Logged.{Keeping, with_chain, ended, IsLoggedAt}
 use Rattle.log_keeper.proofs.Ending.{reached, ends}
-use Rattle.log_keeper.proofs.Progressing.{by_part}
+use Rattle.log_keeper.proofs.Progressing.{by_part, deletion_groups, only_gates}
 
 -- ---- what is listed
 
@@ -152,30 +153,32 @@ module _ (shape : Shape) (base : Words) (s : State) (has : HasState shape base s
       ∙ log_words_same shape base (words_behind shape p (closes gates ends checkpoints) base) (out_address p a) (λ lt. leaves.others (out_address p a) (no_list_word a m))
       ∙ sym (view-out p (log_words shape base) a)
 
-pub groups_settle : GroupsSettle
-groups_settle shape base s chains k region p gates checks checkpoints ledger inside is whole log_is h = record {
+-- what a whole closing of these gates leaves, where its part is known to end so
+group_closes : (shape : Shape) (base : Words) (s : State) (chains : ℕ → List ℕ) (k : Keeping) (region : Region) (p : ℕ) (gates checks checkpoints : List ℕ) (ledger : List Noted) →
+    p < shape.partitions → AreGroups s.log gates checks checkpoints → ((a : ℕ) → IsListedGate gates checks checkpoints a → part_of shape a ≡ p) →
+    settled_log ledger ≡ left_open gates checks checkpoints (settled_log k.ledger) → IsLoggedAt shape base s chains k region →
+    let behind = (advance_all (start base) (closing_plan gates checks checkpoints)).durable in
+    Reaches (λ a. a < heap shape) (progress_at base (closing_plan gates checks checkpoints) (length (closing_plan gates checks checkpoints))) behind →
+    ((x : State) → HasState shape behind x → x.log ≡ settled_log ledger → IsAtRest shape p (view p (log_words shape behind)) (chains p) →
+    ((q : ℕ) → q < shape.partitions → q ≢ p → (r : Record) → part_of shape r.at ≡ q → IsAmong s.log r → IsAmong x.log r) →
+    IsLoggedAt shape behind x (with_chain p (chains p) chains) (ended p ledger k) region) →
+    HasClosed shape behind s chains (ended p ledger k) region (left_open gates checks checkpoints s.log)
+group_closes shape base s chains k region p gates checks checkpoints ledger inside groups here log_is h reached ends = record {
   state = x;
   log_is = log_left;
   no_less = part.no_less;
   logged = subst (λ c. IsLoggedAt shape behind x c (ended p ledger k) region) same_chains
-      (ends shape base s chains k region p (closes gates checks checkpoints) inside is whole none h x (chains p) ledger (part.state (heap_words shape behind) refl)
+      (ends x (part.state (heap_words shape behind) refl)
       (log_left ∙ ap (left_open gates checks checkpoints) h.records ∙ sym log_is)
-      (still shape p (view p (log_words shape base)) (view p (log_words shape behind)) (chains p) (h.rest p inside) (list_same shape base s h.has h.allowed p inside gates checks checkpoints can.0))
-      (λ q lt ne r at m. part_in _ part.later s.log part.part.part r m (λ on. ne (sym at ∙ can.1 r.at on.0))));
+      (still shape p (view p (log_words shape base)) (view p (log_words shape behind)) (chains p) (h.rest p inside) (list_same shape base s h.has h.allowed p inside gates checks checkpoints groups))
+      (λ q lt ne r at m. part_in _ part.later s.log part.part.part r m (λ on. ne (sym at ∙ here r.at on.0))));
 }
   where
     behind : Words
-    behind = words_behind shape p (closes gates checks checkpoints) base
-
-    none : (advance_all (start base) (closing_plan gates checks checkpoints)).pending ≡ []
-    none = (closings_end base gates checks checkpoints).nothing_pending
-
-    can : CanRun shape p base s (chains p) (closes gates checks checkpoints)
-    can = subst (CanRun shape p base s (chains p)) is (h.can p inside)
+    behind = (advance_all (start base) (closing_plan gates checks checkpoints)).durable
 
     part : HasPart shape behind s gates checks checkpoints
-    part = closing_image shape base behind s gates checks checkpoints (length (closing_plan gates checks checkpoints)) h.allowed.partitions.1 h.has can.0
-        (reached shape base s chains k region p (closes gates checks checkpoints) inside is whole none h)
+    part = closing_image shape base behind s gates checks checkpoints (length (closing_plan gates checks checkpoints)) h.allowed.partitions.1 h.has groups reached
 
     x : State
     x = record { log = part.later; words = heap_words shape behind; room = part.room }
@@ -187,3 +190,27 @@ groups_settle shape base s chains k region p gates checks checkpoints ledger ins
 
     same_chains : with_chain p (chains p) chains ≡ chains
     same_chains = λ i q. by_part (λ n t. (if t then chains p else chains n) ≡ chains n) p q refl (λ ne. refl) i
+
+pub groups_settle : GroupsSettle
+groups_settle shape base s chains k region p gates checks checkpoints ledger inside is whole log_is h =
+    group_closes shape base s chains k region p gates checks checkpoints ledger inside can.0 can.1 log_is h
+    (reached shape base s chains k region p (closes gates checks checkpoints) inside is whole none h)
+    (λ x has records rest there. ends shape base s chains k region p (closes gates checks checkpoints) inside is whole none h x (chains p) ledger has records rest there)
+  where
+    none : (advance_all (start base) (closing_plan gates checks checkpoints)).pending ≡ []
+    none = (closings_end base gates checks checkpoints).nothing_pending
+
+    can : CanRun shape p base s (chains p) (closes gates checks checkpoints)
+    can = subst (CanRun shape p base s (chains p)) is (h.can p inside)
+
+pub takings_back_settle : TakingsBackSettle
+takings_back_settle shape base s chains k region p gates ledger inside is whole log_is h =
+    group_closes shape base s chains k region p gates [] [] ledger inside (deletion_groups s.log gates can.0) (λ a on. can.1 a (only_gates gates a on)) log_is h
+    (reached shape base s chains k region p (takes_back gates) inside is whole none h)
+    (λ x has records rest there. ends shape base s chains k region p (takes_back gates) inside is whole none h x (chains p) ledger has records rest there)
+  where
+    none : (advance_all (start base) (closing_plan gates [] [])).pending ≡ []
+    none = (closings_end base gates [] []).nothing_pending
+
+    can : CanRun shape p base s (chains p) (takes_back gates)
+    can = subst (CanRun shape p base s (chains p)) is (h.can p inside)

@@ -1,5 +1,5 @@
 -- How far a part has come, in words that agree on its partition, and which plans may run.
-use Rattle.std.proofs.Common.{◌≡◌, ◌≢◌, inl, inr, ℕ, zero, suc, ◌+◌, ◌<◌, ◌==◌, Bool, true, false, List, [], ◌∷◌, ◌++◌, take, Some, slice_get, refl, sym, ap, ◌∙◌, subst}
+use Rattle.std.proofs.Common.{◌≡◌, ◌≢◌, inl, inr, ℕ, zero, suc, ◌+◌, ◌<◌, ◌==◌, Bool, true, false, List, [], ◌∷◌, ◌++◌, take, Some, slice_get, refl, sym, ap, ◌∙◌, subst, arith}
 use Rattle.std.proofs.lemmas.Bool.Decides.{eqb_tells}
 use Rattle.persist_model.specs.declared.event.Event.{Event}
 use Rattle.persist_model.specs.declared.event.Event.TheVariants.{Store, PStore, WriteBack, Fence}
@@ -10,6 +10,7 @@ use Rattle.persist_model.proofs.Tracking.{Tracks-aside, Tracks-settled}
 use Rattle.persist_model.proofs.Projecting.{IsFixed-start, IsFixed-aways}
 use Rattle.log_laws.specs.Parts.{AreDurable}
 use Rattle.log_laws.proofs.Views.{AreAway-stores}
+use Rattle.persist_model.specs.Records.{Log, IsAmong}
 use Rattle.persist_model.specs.Shape.{Shape}
 use Rattle.persist_model.specs.State.{State}
 use Rattle.persist_model.specs.Sound.{HasState}
@@ -21,8 +22,9 @@ use Rattle.bucket_log.specs.PartWords.{IsOnPart, AreOnPart}
 use Rattle.bucket_log.proofs.Appended.{AreDurable-out, append_durable}
 use Rattle.bucket_log.proofs.PartWords.{part_stores, appends_are_on_part}
 use Rattle.log_clearing.specs.Plans.{closes as closes_gates, group}
+use Rattle.log_clearing.specs.Closed.{AreGroups}
 use Rattle.log_clearing.proofs.PartPlans.{removals_are_on_part, closings_are_on_part}
-use Rattle.log_keeper.specs.Parts.{LogPart, rests, appends, closes, drops, plan_of, waits_for, words_behind, CanRun}
+use Rattle.log_keeper.specs.Parts.{LogPart, rests, appends, closes, takes_back, drops, AreDeletions, plan_of, waits_for, words_behind, IsListedGate, CanRun}
 
 -- ---- tests of partitions
 
@@ -94,6 +96,7 @@ part_durable shape p rests = tt
 part_durable shape p (appends place r) = AreDurable-out p (append_plan shape.cells place r) (append_durable shape.cells place r)
 part_durable shape p (closes gates ends checkpoints) =
     durable_append (group gates) (group ends ++ group checkpoints) (group_durable gates) (durable_append (group ends) (group checkpoints) (group_durable ends) (group_durable checkpoints))
+part_durable shape p (takes_back gates) = durable_append (group gates) [] (group_durable gates) tt
 part_durable shape p (drops r) = AreDurable-out p (removal r) (tt, (tt, (tt, (tt, (tt, (tt, (tt, tt)))))))
 
 pub durable_event : (plan : List Event) → AreDurable plan → (k : ℕ) (e : Event) → slice_get plan k ≡ Some e → IsDurable e
@@ -106,12 +109,27 @@ on_event shape p [] each k e found = cc
 on_event shape p (x ∷ xs) each zero e found = let same : x ≡ e = cc in subst (IsOnPart shape p) same each.0
 on_event shape p (x ∷ xs) each (suc k) e found = on_event shape p xs each.1 k e found
 
+-- gates of deletions are a group of a closing
+pub deletion_groups : (log : Log) (gates : List ℕ) → AreDeletions log gates → AreGroups log gates [] []
+deletion_groups log gates given = record {
+  of_gates = λ a m. (let d = given a m in let six = d.2.1 in (d.0, d.1, (d.2.0, (λ four. absurd (omega (arith, four, six))), (λ five. absurd (omega (arith, five, six))))));
+  of_ends = λ a m. absurd m;
+  of_checkpoints = λ a m. absurd m;
+}
+
+pub only_gates : (gates : List ℕ) (a : ℕ) → IsListedGate gates [] [] a → IsAmong gates a
+only_gates gates a (inl m) = m
+only_gates gates a (inr (inl m)) = absurd m
+only_gates gates a (inr (inr m)) = absurd m
+
 pub part_on : (shape : Shape) (p : ℕ) (base : Words) (s : State) (chain : List ℕ) (part : LogPart) → IsAllowed shape → p < shape.partitions → HasState shape base s →
     CanRun shape p base s chain part → AreOnPart shape p (plan_of shape p part)
 part_on shape p base s chain rests ok inside has can = tt
 part_on shape p base s chain (appends place r) ok inside has can = appends_are_on_part shape p _ chain place r inside can
 part_on shape p base s chain (closes gates ends checkpoints) ok inside has can =
     closings_are_on_part shape p base s gates ends checkpoints ok has can.0 (λ r m on. can.1 r.at on)
+part_on shape p base s chain (takes_back gates) ok inside has can =
+    closings_are_on_part shape p base s gates [] [] ok has (deletion_groups s.log gates can.0) (λ d m on. can.1 d.at (only_gates gates d.at on))
 part_on shape p base s chain (drops r) ok inside has can = removals_are_on_part shape p _ r can
 
 -- a plan leaves the words of others
@@ -125,4 +143,5 @@ pub waits_is : (shape : Shape) (p : ℕ) (part : LogPart) (lane k : ℕ) (e : Ev
 waits_is shape p rests lane k e found = cc
 waits_is shape p (appends place r) lane k e found = refl
 waits_is shape p (closes gates ends checkpoints) lane k e found = refl
+waits_is shape p (takes_back gates) lane k e found = refl
 waits_is shape p (drops r) lane k e found = refl

@@ -1,9 +1,8 @@
 -- What is read where nothing is under way, and the region as histories ask of it.
 use Rattle.std.proofs.Common.{◌≡◌, ◌≢◌, inr, ℕ, ◌<◌, arith, sym, ap, ◌∙◌, subst}
-use Rattle.persist_model.specs.Region.{Words, Region}
 use Rattle.persist_model.specs.Progress.{Tracks}
 use Rattle.persist_model.specs.Runs.{progress_at}
-use Rattle.persist_model.specs.Shape.{Shape, log_words}
+use Rattle.persist_model.specs.Shape.{log_words}
 use Rattle.persist_model.specs.Chain.{view, last_or}
 use Rattle.persist_model.specs.ImageRecords.{cell_address}
 use Rattle.persist_model.specs.Sound.{room_of}
@@ -21,8 +20,7 @@ use Rattle.bucket_log.proofs.Rooms.{room_same}
 use Rattle.log_clearing.proofs.PartPlans.{own_words_drop}
 use Rattle.log_keeper.specs.Parts.{Running, plan_of}
 use Rattle.log_keeper.specs.Logged.{waiting}
-use Rattle.log_keeper.specs.Laws.{IsAtRestIn, RestingPartsAreRead}
-use Rattle.log_keeper.specs.UnderWay.{UnderWay, nothing, appends, closes, drops, run_of, plan_of as plan_under, made_of, KeepersTrack}
+use Rattle.log_keeper.specs.Laws.{IsAtRestIn, RestingPartsAreRead, KeepersTrack}
 use Rattle.log_keeper.proofs.EventsPass.{resting_parts_are_settled}
 
 pub resting_parts_are_read : RestingPartsAreRead
@@ -54,19 +52,9 @@ resting_parts_are_read shape base s chains k region i p inside free h image = re
         (list_has_chain shape p (view p (log_words shape base)) (chains p) (at_rest (h.rest p inside)))
         (list_has_chain shape p (view p (log_words shape base)) (h.has.chains p) (list_of_rules shape p (view p (log_words shape base)) (h.has.chains p) (h.has.lists p inside).rules))
 
--- a run that is under way has its plan, and so much of it made
-as_under : (shape : Shape) (p : ℕ) (base : Words) (region : Region) (lane : ℕ) (u : UnderWay) →
-    Tracks (IsPartWord shape p) lane (progress_at base (plan_of shape p (run_of u).part) (run_of u).made) region →
-    Tracks (IsPartWord shape p) lane (progress_at base (plan_under shape p u) (made_of u)) region
-as_under shape p base region lane nothing h = h
-as_under shape p base region lane (appends x made) h = h
-as_under shape p base region lane (closes gates ends made) h = h
-as_under shape p base region lane (drops r made) h = h
-
 pub keepers_track : KeepersTrack
-keepers_track shape base s chains k region under same h = record {
+keepers_track shape base s chains k region runs same h = record {
   size = h.size;
   header = h.header;
-  parts = λ p lt. as_under shape p base region (waiting k p) (under p)
-      (subst (λ (run : Running). Tracks (IsPartWord shape p) (waiting k p) (progress_at base (plan_of shape p run.part) run.made) region) (same p lt) (h.parts p lt));
+  parts = λ p lt. subst (λ (run : Running). Tracks (IsPartWord shape p) (waiting k p) (progress_at base (plan_of shape p run.part) run.made) region) (same p lt) (h.parts p lt);
 }

@@ -1,5 +1,5 @@
 -- The state behind a group of a closing is sound.
-use Rattle.std.proofs.Common.{◌≡◌, inl, ℕ, ◌<◌, Bool, true, false, cond, nat_lt, length, refl, sym, ap, ◌∙◌, subst, arith}
+use Rattle.std.proofs.Common.{◌≡◌, inl, ℕ, ◌<◌, [], Bool, true, false, cond, nat_lt, length, refl, sym, ap, ◌∙◌, subst, arith}
 use Rattle.std.proofs.lemmas.Bool.Decides.{nat_tests}
 use Rattle.std.proofs.lemmas.List.{take_all}
 use Rattle.persist_model.specs.Region.{Words}
@@ -12,10 +12,10 @@ use Rattle.log_laws.proofs.Soundness.{sound_of_image}
 use Rattle.bucket_log.proofs.PartStates.{log_words_same}
 use Rattle.log_clearing.specs.Plans.{closing_plan}
 use Rattle.log_clearing.specs.Closed.{IsListed}
-use Rattle.log_clearing.specs.Clearing.{IsClearing}
-use Rattle.log_clearing.proofs.ClearingStates.{closings_keep, sound_with_heap}
-use Rattle.log_keeper.specs.Parts.{closes, words_behind}
-use Rattle.log_keeper.specs.Laws.{GroupsStaySound}
+use Rattle.log_clearing.specs.Clearing.{IsClearing, IsDropping}
+use Rattle.log_clearing.proofs.ClearingStates.{closings_keep, droppings_keep, sound_with_heap}
+use Rattle.log_keeper.specs.Parts.{closes, takes_back, words_behind}
+use Rattle.log_keeper.specs.Laws.{GroupsStaySound, TakingsBackStaySound}
 
 -- w's log words, and h's heap words
 abbrev mixed : Shape → Words → Words → Words
@@ -50,3 +50,15 @@ groups_stay_sound shape p base h s x gates ends checkpoints few has sound groups
         (subst (λ w. MayClear shape.policy s.log w (IsListed gates ends checkpoints)) (mixed_heap shape (words_behind shape p (closes gates ends checkpoints) base) h) may)
         (λ a lt. inl (mixed_below shape (words_behind shape p (closes gates ends checkpoints) base) h a lt ∙ ap (λ es. (advance_all (start base) es).durable a)
         (sym (take_all (length (closing_plan gates ends checkpoints)) (closing_plan gates ends checkpoints) (omega arith)))))
+
+pub takings_back_stay_sound : TakingsBackStaySound
+takings_back_stay_sound shape p base s x gates few has sound deferred behind =
+    sound_with_heap shape (with_heap x (heap_words shape later)) x.words
+    (sound_of_image shape later dropping.state (with_heap x (heap_words shape later)) dropping.has (state_with_heap shape later later x refl behind) dropping.sound)
+  where
+    later : Words
+    later = words_behind shape p (takes_back gates) base
+
+    dropping : IsDropping shape (words_behind shape p (takes_back gates) base) s gates
+    dropping = droppings_keep shape base (words_behind shape p (takes_back gates) base) s gates (length (closing_plan gates [] [])) few has sound deferred
+        (λ a lt. inl (ap (λ es. (advance_all (start base) es).durable a) (sym (take_all (length (closing_plan gates [] [])) (closing_plan gates [] []) (omega arith)))))

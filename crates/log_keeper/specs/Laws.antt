@@ -1,10 +1,9 @@
 -- How the keeper goes on, as laws of its plain data.
-use Rattle.std.specs.Prelude.{◌≡◌, ◌≢◌, ℕ, ◌<◌, ◌≤◌, List, ◌∷◌, length, Some, slice_get}
+use Rattle.std.specs.Prelude.{◌≡◌, ◌≢◌, ℕ, ◌<◌, ◌≤◌, List, [], ◌∷◌, length, Some, slice_get}
 use Rattle.persist_model.specs.declared.event.Event.{Event}
 use Rattle.persist_model.specs.declared.event.Event.TheVariants.{Store, PStore, WriteBack, Fence}
 use Rattle.persist_model.specs.Region.{Words, Region, MayStand, after}
-use Rattle.persist_model.specs.Progress.{Reaches, AreSettledAt}
-use Rattle.persist_model.specs.Runs.{progress_at}
+use Rattle.persist_model.specs.Progress.{AreSettledAt}
 use Rattle.persist_model.specs.Records.{Record, Log, IsAmong}
 use Rattle.persist_model.specs.Shape.{Shape, heap, heap_words, log_words, words_of_shape}
 use Rattle.persist_model.specs.Chain.{view}
@@ -21,12 +20,13 @@ use Rattle.bucket_log.specs.Plans.{place_address}
 use Rattle.bucket_log.specs.Places.{IsNextPlace}
 use Rattle.bucket_log.specs.Appends.{chain_behind}
 use Rattle.log_clearing.specs.Closed.{AreGroups, IsListed}
+use Rattle.log_clearing.specs.Clearing.{AreDeferred}
 use Rattle.log_clearing.specs.Removals.{CanDrop, with_room, more_room}
 use Rattle.plan_records.specs.Appends.{with_record}
 use Rattle.plan_records.specs.Passing.{inserted}
-use Rattle.log_keeper.specs.Parts.{LogPart, rests, appends, closes, drops, words_behind, CanRun}
+use Rattle.log_keeper.specs.Parts.{LogPart, rests, appends, closes, takes_back, drops, Running, words_behind, CanRun}
 use Rattle.log_keeper.specs.Ledger.{Stage, Drawn, Stored, Settled, Noted, AreNewestFirst, IsUnsettled, settled_log, with_stage, left_open, without}
-use Rattle.log_keeper.specs.Logged.{Keeping, with_chain, advanced, ended, beginning, IsNone's, waiting, plan_in, IsLoggedAt, IsPassing, IsAlone}
+use Rattle.log_keeper.specs.Logged.{Keeping, with_chain, advanced, ended, beginning, waiting, plan_in, AreTracked, IsReached, IsLoggedAt, IsPassing, IsAlone}
 
 -- ---- events
 
@@ -85,11 +85,23 @@ GroupsSettle = (shape : Shape) (base : Words) (s : State) (chains : ℕ → List
     settled_log ledger ≡ left_open gates ends checkpoints (settled_log k.ledger) → IsLoggedAt shape base s chains k region →
     HasClosed shape (words_behind shape p (closes gates ends checkpoints) base) s chains (ended p ledger k) region (left_open gates ends checkpoints s.log)
 
+-- So it is where all events of a closing of deletions that are taken back are made.
+abbrev pub TakingsBackSettle : Type 0
+TakingsBackSettle = (shape : Shape) (base : Words) (s : State) (chains : ℕ → List ℕ) (k : Keeping) (region : Region) (p : ℕ) (gates : List ℕ) (ledger : List Noted) →
+    p < shape.partitions → (k.runs p).part ≡ takes_back gates → (k.runs p).made ≡ length (plan_in shape k p) →
+    settled_log ledger ≡ left_open gates [] [] (settled_log k.ledger) → IsLoggedAt shape base s chains k region →
+    HasClosed shape (words_behind shape p (takes_back gates) base) s chains (ended p ledger k) region (left_open gates [] [] s.log)
+
 -- The state behind a group is sound, where its records may be cleared with some heap words, as those of an image.
 abbrev pub GroupsStaySound : Type 0
 GroupsStaySound = (shape : Shape) (p : ℕ) (base h : Words) (s x : State) (gates ends checkpoints : List ℕ) → shape.partitions ≤ 3 → HasState shape base s → IsSoundState shape s →
     AreGroups s.log gates ends checkpoints → MayClear shape.policy s.log (heap_words shape h) (IsListed gates ends checkpoints) →
     HasState shape (words_behind shape p (closes gates ends checkpoints) base) x → IsSoundState shape x
+
+-- Nothing is asked of words where deletions are taken back.
+abbrev pub TakingsBackStaySound : Type 0
+TakingsBackStaySound = (shape : Shape) (p : ℕ) (base : Words) (s x : State) (gates : List ℕ) → shape.partitions ≤ 3 → HasState shape base s → IsSoundState shape s →
+    AreDeferred s.log gates → HasState shape (words_behind shape p (takes_back gates) base) x → IsSoundState shape x
 
 -- Where all events of a removal are made, its words are settled, with the cells of a bucket more room, and a chain without the bucket.
 pub record HasDropped (shape : Shape) (base : Words) (s : State) (chains : ℕ → List ℕ) (k : Keeping) (region : Region) (p : ℕ) : Type 0 where
@@ -112,14 +124,20 @@ RegionsStart = (shape : Shape) (base : Words) (s : State) (chains : ℕ → List
 
 -- ---- what a stop leaves
 
--- words of the header are base's, and of each partition's words those that its part has reached
-pub record IsReached (shape : Shape) (base : Words) (k : Keeping) (i : Words) : Type 0 where
-  pub header : (a : ℕ) → IsNone's shape a → i a ≡ base a
-  pub parts : (p : ℕ) → p < shape.partitions → Reaches (IsPartWord shape p) (progress_at base (plan_in shape k p) (k.runs p).made) i
+-- The keeper's region is tracked, for its own runs or others that are the same.
+abbrev pub KeepersTrack : Type 0
+KeepersTrack = (shape : Shape) (base : Words) (s : State) (chains : ℕ → List ℕ) (k : Keeping) (region : Region) (runs : ℕ → Running) →
+    ((p : ℕ) → p < shape.partitions → k.runs p ≡ runs p) → IsLoggedAt shape base s chains k region → AreTracked shape base runs (waiting k) region
 
+-- What a stop leaves of a tracked region is, in each partition, what its part has reached,
+abbrev pub TrackedImagesReach : Type 0
+TrackedImagesReach = (shape : Shape) (base : Words) (runs : ℕ → Running) (holder : ℕ → ℕ) (region : Region) (i : Words) → IsAllowed shape →
+    AreTracked shape base runs holder region → MayStand i region → IsReached shape base runs i
+
+-- and so what it leaves of the keeper's region.
 abbrev pub ImagesAreReached : Type 0
 ImagesAreReached = (shape : Shape) (base : Words) (s : State) (chains : ℕ → List ℕ) (k : Keeping) (region : Region) (i : Words) →
-    IsLoggedAt shape base s chains k region → MayStand i region → IsReached shape base k i
+    IsLoggedAt shape base s chains k region → MayStand i region → IsReached shape base k.runs i
 
 -- So whatever a stop leaves of a partition where nothing is under way is settled, and its list is at rest.
 pub record IsAtRestIn (shape : Shape) (base : Words) (chains : ℕ → List ℕ) (p : ℕ) (i : Words) : Type 0 where

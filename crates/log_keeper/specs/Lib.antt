@@ -2,7 +2,6 @@ pub mod Parts
 pub mod Ledger
 pub mod Logged
 pub mod Laws
-pub mod UnderWay
 pub mod Slots
 pub mod Fitting
 pub mod Noting

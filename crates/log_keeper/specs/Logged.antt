@@ -2,7 +2,7 @@
 use Rattle.std.specs.Prelude.{◌≡◌, ◌≢◌, ℕ, suc, ◌<◌, ◌==◌, if◌then◌else◌, List}
 use Rattle.persist_model.specs.declared.event.Event.{Event}
 use Rattle.persist_model.specs.Region.{Words, Region}
-use Rattle.persist_model.specs.Progress.{Tracks, AreSettledAt, IsAside}
+use Rattle.persist_model.specs.Progress.{Reaches, Tracks, AreSettledAt, IsAside}
 use Rattle.persist_model.specs.Runs.{progress_at}
 use Rattle.persist_model.specs.Shape.{Shape, log_words, words_of_shape}
 use Rattle.persist_model.specs.Chain.{view}
@@ -64,6 +64,21 @@ waiting k p = waits_for (k.runs p).part (k.holder p)
 -- how far a partition's part has come
 abbrev pub plan_in : Shape → Keeping → ℕ → List Event
 plan_in shape k p = plan_of shape p (k.runs p).part
+
+-- ---- a region and its images, for any runs
+
+-- A region in which the holder of each partition has made so much of its part, and others nothing in its words.
+pub record AreTracked (shape : Shape) (base : Words) (runs : ℕ → Running) (holder : ℕ → ℕ) (region : Region) : Type 0 where
+  pub size : region.size ≡ words_of_shape shape
+  pub header : AreSettledAt (IsNone's shape) base region
+  pub parts : (p : ℕ) → p < shape.partitions → Tracks (IsPartWord shape p) (holder p) (progress_at base (plan_of shape p (runs p).part) (runs p).made) region
+
+-- Words that may be found: those of the header that no partition has are base's, and of each partition's words those that its part has reached.
+pub record IsReached (shape : Shape) (base : Words) (runs : ℕ → Running) (i : Words) : Type 0 where
+  pub header : (a : ℕ) → a < 32 → ((p : ℕ) → p < shape.partitions → IsPartWord shape p a → ⊥) → i a ≡ base a
+  pub parts : (p : ℕ) → p < shape.partitions → Reaches (IsPartWord shape p) (progress_at base (plan_of shape p (runs p).part) (runs p).made) i
+
+-- ---- the keeper's region
 
 -- base is settled, with the state s, which has the settled records, and these chains. In the region each partition's holder has made so much of its
 -- part, and others nothing in its words.

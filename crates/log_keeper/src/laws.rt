@@ -8,14 +8,17 @@ ghost use Rattle.log_keeper.specs.Laws.{
   AppendsSettle,
   GroupsSettle,
   GroupsStaySound,
+  TakingsBackSettle,
+  TakingsBackStaySound,
   RemovalsSettle,
   RegionsStart,
+  KeepersTrack,
+  TrackedImagesReach,
   ImagesAreReached,
   RestingPartsAreSettled,
   RestingPartsAreRead,
   LedgersKeep,
 };
-ghost use Rattle.log_keeper.specs.UnderWay.{KeepersTrack};
 
 /// An event that names no word of the log, and is no fence that a partition waits for, changes nothing.
 pub fn events_pass()
@@ -57,6 +60,16 @@ pub fn groups_stay_sound()
     ensures { GroupsStaySound }
 {}
 
+/// Behind that of a closing of deletions that are taken back they lack these,
+pub fn takings_back_settle()
+    ensures { TakingsBackSettle }
+{}
+
+/// and their state is sound, whatever the heap's words;
+pub fn takings_back_stay_sound()
+    ensures { TakingsBackStaySound }
+{}
+
 /// behind that of a removal they have more room.
 pub fn removals_settle()
     ensures { RemovalsSettle }
@@ -67,7 +80,17 @@ pub fn regions_start()
     ensures { RegionsStart }
 {}
 
-/// What a stop leaves is, in each partition, what its part has reached;
+/// The keeper's region is tracked, as the histories of its images ask.
+pub fn keepers_track()
+    ensures { KeepersTrack }
+{}
+
+/// What a stop leaves of a tracked region is, in each partition, what its part has reached,
+pub fn tracked_images_reach()
+    ensures { TrackedImagesReach }
+{}
+
+/// and so what it leaves of the keeper's;
 pub fn images_are_reached()
     ensures { ImagesAreReached }
 {}
@@ -80,11 +103,6 @@ pub fn resting_parts_are_settled()
 /// So what is read there is so of the settled words.
 pub fn resting_parts_are_read()
     ensures { RestingPartsAreRead }
-{}
-
-/// The region is as the histories of its images ask.
-pub fn keepers_track()
-    ensures { KeepersTrack }
 {}
 
 /// The ledger has the settled records, as records are drawn, stored, settled and closed.
