@@ -7,7 +7,7 @@ pub mod laws;
 mod used;
 mod view;
 
-pub use events::{region_event, out_address};
+pub use events::{out_address, region_event};
 pub use gathering::merge;
 pub use used::UsedBuckets;
 pub use view::PartView;
