@@ -1,5 +1,6 @@
 pub mod RecordsOf
 pub mod Noting
+pub mod ReadKinds
 pub mod UndoPass
 pub mod Places
 pub mod Planned

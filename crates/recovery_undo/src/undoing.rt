@@ -18,7 +18,8 @@ use crate::held::Held;
 use crate::target::{Target, compensation_cell, plain_cell};
 use bucket_log::{Placed, part_of};
 use lane_traits::{Device, Done};
-use persist_model::format::{COMPENSATION, END, NO_OUTCOME, ROLLBACK, ROLLED_BACK, UPDATE};
+use persist_model::RecordKind;
+use persist_model::format::{END, NO_OUTCOME, ROLLBACK, ROLLED_BACK, UPDATE};
 use recovery_run::{fence, put_gate, store};
 use region_layout::{Cell, Layout};
 
@@ -153,13 +154,17 @@ fn turn<D: Device>(
         → Halts target start (seen (D.cells device.new) (D.counts device.new) (D.spare device.new)) }
     ensures counter { counter.new ≤ counter.old + 1 }
 {
-    match placed.cell.kind {
-        UPDATE => undo_update(device, target, placed, counter, held),
-        COMPENSATION => {
+    match RecordKind::read(placed.cell.kind) {
+        Some(RecordKind::Update) => undo_update(device, target, placed, counter, held),
+        Some(RecordKind::Compensation) => {
             *counter += 1;
             Done::Made
         }
-        _ => Done::Made,
+        Some(RecordKind::Rollback)
+        | Some(RecordKind::End)
+        | Some(RecordKind::Checkpoint)
+        | Some(RecordKind::Deletion) => Done::Made,
+        None => Done::Made,
     }
 }
 
