@@ -1,5 +1,5 @@
 -- The row of a way back to a savepoint.
-use Rattle.std.proofs.Common.{◌≡◌, ℕ, zero, suc, ◌+◌, ◌-◌, ◌<◌, ◌≤◌, List, [], ◌∷◌, ◌++◌, length, take, drop, map, get_or, refl, sym, ◌∙◌, ap, subst, arith, add-one, Option, Some, None}
+use Rattle.std.proofs.Common.{◌≡◌, ℕ, zero, suc, ◌+◌, ◌<◌, ◌≤◌, List, [], ◌∷◌, ◌++◌, length, take, drop, map, refl, sym, ◌∙◌, ap, subst, arith, None}
 use Rattle.std.proofs.Math.Seq.{drop-cons}
 use Rattle.std.proofs.lemmas.List.{take_more}
 use Rattle.std.specs.List.{filter}
@@ -8,7 +8,7 @@ use Rattle.lane_types.specs.declared.call.Phase.TheVariants.{Calling}
 use Rattle.lane_types.specs.declared.call.Reply.TheVariants.{RolledBack}
 use Rattle.lane_types.specs.declared.call.Stepped.TheVariants.{Answered}
 use Rattle.lane_types.specs.Deeds.{Deeds}
-use Rattle.lane_types.specs.Heaps.{Heap, Holding}
+use Rattle.lane_types.specs.Heaps.{Heap}
 use Rattle.lane_types.specs.LaneSteps.{LaneStep, rolled_back_face}
 use Rattle.lane_book.specs.declared.lane.Lane.{Lane}
 use Rattle.lane_book.specs.declared.lane.Point.{Point}
@@ -19,7 +19,7 @@ use Rattle.lane_book.specs.FacesOf.{lane_at, face_of, call_of, front, held_after
 use Rattle.lane_book.specs.Steps.{Steps, AreWithin, CanGoBack}
 use Rattle.lane_book.specs.Books.{IsLane}
 use Rattle.lane_book.proofs.Faces.{step_of_lane}
-use Rattle.lane_book.proofs.WordRows.{take_whole, words_are}
+use Rattle.lane_book.proofs.WordRows.{words_are}
 use Rattle.lane_book.proofs.BatchRows.{take_and_drop}
 use Rattle.lane_book.proofs.Keeps.{front_whole, within_last}
 

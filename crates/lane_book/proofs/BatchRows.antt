@@ -1,12 +1,10 @@
 -- The row of a batch that is answered.
-use Rattle.std.proofs.Common.{◌≡◌, ◌≢◌, ◌==◌, ◌||◌, ℕ, zero, suc, ◌+◌, ◌-◌, ◌<◌, ◌≤◌, Bool, true, false, ◌&&◌, if◌then◌else◌, List, [], ◌∷◌, ◌++◌, length, take, drop, refl, sym, ◌∙◌, ap, subst, arith, Option, Some, None}
-use Rattle.std.proofs.Math.ListN.{length-append}
+use Rattle.std.proofs.Common.{◌≡◌, ◌==◌, ℕ, zero, suc, ◌-◌, ◌<◌, ◌≤◌, Bool, true, false, if◌then◌else◌, List, [], ◌∷◌, ◌++◌, length, take, drop, refl, sym, ◌∙◌, ap, subst, arith, Option}
 use Rattle.std.specs.List.{filter}
 use Rattle.persist_model.specs.Region.{Words}
 use Rattle.lane_traits.specs.Space.{put_word}
 use Rattle.lane_traits.specs.Draft.{after_writes}
 use Rattle.lane_traits.specs.declared.draft.WordWrite.{WordWrite}
-use Rattle.lane_types.specs.declared.call.Call.{Call}
 use Rattle.lane_types.specs.declared.call.Phase.TheVariants.{Calling}
 use Rattle.lane_types.specs.declared.call.Reply.TheVariants.{Written}
 use Rattle.lane_types.specs.declared.call.Stepped.TheVariants.{Answered}
@@ -14,7 +12,7 @@ use Rattle.lane_types.specs.Deeds.{Deeds}
 use Rattle.lane_types.specs.Heaps.{Heap, Holding, is_data, block_of, is_owned, holding, owners_after, with_writes}
 use Rattle.lane_types.specs.Faces.{answered, with_words}
 use Rattle.lane_types.specs.Asks.{has_word, has_all}
-use Rattle.lane_types.specs.LaneSteps.{LaneStep, IsWriting, put_held, put_all_held}
+use Rattle.lane_types.specs.LaneSteps.{LaneStep, IsWriting, put_all_held}
 use Rattle.lane_book.specs.declared.lane.Lane.{Lane}
 use Rattle.lane_book.specs.declared.lane.Doing.{Doing}
 use Rattle.lane_book.specs.declared.book.Book.{Book}

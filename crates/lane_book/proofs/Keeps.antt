@@ -1,12 +1,11 @@
 -- What holds of the book between its calls is kept by each of them.
-use Rattle.std.proofs.Common.{◌≡◌, ◌≢◌, ◌⊎◌, inl, inr, ⊎_elim, ◌==◌, ℕ, zero, suc, ◌+◌, ◌-◌, ◌<◌, ◌≤◌, Bool, true, false, List, [], ◌∷◌, ◌++◌, length, take, refl, sym, ◌∙◌, ap, subst, arith, Option, Some, None}
+use Rattle.std.proofs.Common.{◌≡◌, ◌≢◌, ⊎_elim, ℕ, zero, suc, ◌+◌, ◌-◌, ◌<◌, ◌≤◌, List, [], ◌∷◌, ◌++◌, length, take, refl, sym, ◌∙◌, ap, subst, arith, Option, None}
 use Rattle.std.proofs.lemmas.Bool.Decides.{eqb_tells}
 use Rattle.std.proofs.Math.ListN.{length-append}
 use Rattle.lane_traits.specs.declared.draft.WordWrite.{WordWrite}
-use Rattle.lane_types.specs.declared.call.Phase.{Phase}
 use Rattle.lane_types.specs.declared.call.Phase.TheVariants.{Out, Calling}
 use Rattle.lane_types.specs.declared.call.Reply.{Reply}
-use Rattle.lane_types.specs.declared.call.Reply.TheVariants.{Word, Written, Block, Given, Begun, Saved, Checkpointed}
+use Rattle.lane_types.specs.declared.call.Reply.TheVariants.{Saved}
 use Rattle.lane_types.specs.declared.call.Stepped.{Stepped}
 use Rattle.lane_types.specs.declared.call.Call.{Call}
 use Rattle.lane_types.specs.declared.call.Refusal.{Refusal}

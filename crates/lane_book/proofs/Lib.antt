@@ -11,3 +11,5 @@ pub mod Pushing
 pub mod Keeps
 pub mod BatchRows
 pub mod BackRows
+pub mod Appending
+pub mod PushedCells

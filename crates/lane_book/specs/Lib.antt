@@ -7,3 +7,4 @@ pub mod Books
 pub mod Locks
 pub mod Refusals
 pub mod Reserved
+pub mod Appends

@@ -1,5 +1,5 @@
 -- The cells of the log that are reserved in a partition, and what a call needs there.
-use Rattle.std.specs.Prelude.{◌≡◌, ℕ, zero, suc, ◌+◌, ◌*◌, ◌%◌, Bool, true, false, not, ◌&&◌, ◌||◌, ◌==◌, if◌then◌else◌, length}
+use Rattle.std.specs.Prelude.{ℕ, zero, suc, ◌+◌, ◌*◌, ◌%◌, Bool, not, ◌&&◌, ◌||◌, ◌==◌, if◌then◌else◌, length}
 use Rattle.lane_types.specs.declared.call.Call.{Call}
 use Rattle.lane_types.specs.Asks.{is_logged}
 use Rattle.lane_book.specs.declared.lane.Lane.{Lane}

@@ -1,6 +1,7 @@
 //! What a world keeps of its lanes beside the region: their phases, structures, calls and tallies, and the history of commits.
 #![tactic(auto)]
 
+mod appends;
 mod asks;
 mod book;
 mod lane;

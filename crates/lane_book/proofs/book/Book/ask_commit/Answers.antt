@@ -1,4 +1,4 @@
-use Rattle.std.proofs.Common.{◌≡◌, [], ◌∙◌, ap, sym, refl, subst}
+use Rattle.std.proofs.Common.{[], ◌∙◌, ap, sym, refl, subst}
 use Rattle.lane_book.specs.declared.book.Book.{Book}
 use Rattle.lane_book.specs.Books.{IsBook}
 use Rattle.lane_types.specs.declared.call.Call.TheVariants as Call

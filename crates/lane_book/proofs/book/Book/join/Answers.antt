@@ -1,5 +1,5 @@
 use Rattle.lane_book.specs.FacesOf.{lane_at}
-use Rattle.std.proofs.Common.{◌≡◌, ◌∙◌, ap, sym, ◌++◌, ◌∷◌, [], None, Option}
+use Rattle.std.proofs.Common.{◌≡◌, ◌∙◌, ap, sym, ◌++◌, ◌∷◌, []}
 use Rattle.lane_types.specs.declared.face.Entry.{Entry}
 use Rattle.lane_book.specs.Stocked.{with_items}
 use Rattle.lane_book.specs.declared.lane.Lane.{Lane}

@@ -1,7 +1,6 @@
 use Rattle.std.proofs.Common.{None, subst}
 use Rattle.lane_book.specs.declared.lane.Doing.TheVariants as Doing
-use Rattle.lane_book.specs.Books.{IsAboutIt, IsEmptied, IsGiving}
-use Rattle.lane_traits.specs.declared.draft.WordWrite.{WordWrite}
+use Rattle.lane_book.specs.Books.{IsAboutIt}
 use Rattle.lane_book.specs.FacesOf.{lane_at}
 use Rattle.lane_types.specs.declared.call.Reply.TheVariants as Reply
 use Rattle.lane_types.specs.declared.call.Stepped.TheVariants as Stepped

@@ -1,4 +1,4 @@
-use Rattle.std.proofs.Common.{◌∙◌, ap, None, subst, sym, length}
+use Rattle.std.proofs.Common.{◌∙◌, ap, None}
 use Rattle.lane_types.specs.declared.call.Reply.TheVariants as Reply
 use Rattle.lane_types.specs.declared.call.Stepped.TheVariants as Stepped
 use Rattle.lane_book.specs.declared.lane.Lane.{Lane}

@@ -1,4 +1,4 @@
-use Rattle.std.proofs.Common.{◌≡◌, ◌-◌, ◌^◌, ℕ, min}
+use Rattle.std.proofs.Common.{◌≡◌, ◌-◌, ◌^◌, min}
 use Rattle.lane_book.specs.Reserved.{reserved_below}
 use Rattle.lane_book.proofs.book.Book.shares.Given as goal
 
