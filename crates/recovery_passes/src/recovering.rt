@@ -180,7 +180,7 @@ pub fn recover_read<D: Device>(
 /// its standing value, and the log is empty.
 ///
 /// It repairs the lists of buckets, stores again what ended transactions wrote and a stop may have lost, takes back what
-/// running ones wrote, and closes all records. It makes its events as lane 16, takes all its memory before the first of
+/// running ones wrote, and closes all records. It makes its events as `RECOVERY_LANE`, takes all its memory before the first of
 /// them, and never wants room in the log that the image doesn't have.
 pub fn recover_sound<D: Device>(
     alloc: Global,
