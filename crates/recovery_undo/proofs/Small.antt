@@ -2,7 +2,6 @@
 use Rattle.std.proofs.Common.{◌≡◌, ◌⊎◌, inl, inr, ℕ, zero, suc, true, ◌<◌, ◌≤◌, ◌==◌, if◌then◌else◌, List, [], ◌∷◌, ◌++◌, length, map, reverse, refl, sym, ap, ◌∙◌, subst, arith}
 use Rattle.std.specs.Prelude.{slice_index}
 use Rattle.std.specs.Vec.{vec_len, vec_capacity}
-use Rattle.std.proofs.lemmas.List.FromFn.{length-map-range_with_len, get_or-map-range_with_len}
 use Rattle.persist_model.specs.Region.{Words, Region, loaded, newest_words}
 use Rattle.persist_model.specs.Records.{Record, Log, IsAmong, Has, IsOf, IsEnd, IsCheckpoint, IsRunning, IsLoser, IsSkipped}
 use Rattle.persist_model.specs.Standing.{IsToUndo, Stands, undone, deleted, redone, kept}
@@ -31,21 +30,18 @@ use Rattle.recovery_run.proofs.Reaching.{read_newest, settled_begins, settled_re
 use Rattle.recovery_undo.specs.declared.held.Held.{Held}
 use Rattle.recovery_undo.specs.RecoveryAppends.{AreQuiet, KnowsRegion}
 use Rattle.recovery_undo.specs.Checkpoint.{CanCheckpoint}
-use Rattle.recovery_undo.specs.UndoRegions.{small, narrow, Pair, word_in, words_in, running, running_narrow, running_log, record_with, HasRunningGates, IsTested}
+use Rattle.test_regions.specs.Pairs.{Pair, word_in, words_in}
+use Rattle.test_regions.proofs.Regions.{words_long, word_at}
+use Rattle.recovery_undo.specs.UndoRegions.{small, narrow, running, running_narrow, running_log, record_with, HasRunningGates, IsTested}
 use Rattle.recovery_undo.specs.Undoing.{CanUndo, IsUndone}
 use Rattle.recovery_undo.proofs.Places.{logs_of}
 
 -- ---- the words
 
-pub words_long : (pairs : List Pair) (n : ℕ) → length (words_in pairs n) ≡ n
-unfolding words_in
-words_long pairs n = length-map-range_with_len (word_in pairs) 0 n
-
 read_word : (pairs : List Pair) (a : ℕ) → a < 832 → newest_at (loaded (words_in pairs 832)) a ≡ word_in pairs a
-unfolding words_in
 read_word pairs a lt =
     let size : length (words_in pairs 832) ≡ 832 = words_long pairs 832 in
-    read_newest (loaded (words_in pairs 832)) a (omega (arith, lt, size)) ∙ get_or-map-range_with_len (word_in pairs) 0 832 a a 0 lt (omega arith)
+    read_newest (loaded (words_in pairs 832)) a (omega (arith, lt, size)) ∙ word_at pairs 832 a lt
 
 -- ---- the two regions
 

@@ -1,11 +1,11 @@
 -- The regions of the tests under no-force, and one running transaction in the list's buckets: four buckets of 16 cells, and 34 of one cell.
-use Rattle.std.specs.Prelude.{◌≡◌, ◌⊎◌, ◌≤◌, ℕ, ◌==◌, if◌then◌else◌, List, [], ◌∷◌, map}
-use Rattle.std.specs.List.{range_with_len}
+use Rattle.std.specs.Prelude.{◌≡◌, ◌⊎◌, ◌≤◌, ℕ, List, [], ◌∷◌}
 use Rattle.std.specs.Vec.{vec_capacity}
-use Rattle.persist_model.specs.Region.{Words, Region, loaded}
+use Rattle.persist_model.specs.Region.{Region, loaded}
 use Rattle.persist_model.specs.Kinds.{NO_OUTCOME}
 use Rattle.persist_model.specs.Records.{Record, Log}
 use Rattle.persist_model.specs.Shape.{Shape, FIRST_MAGIC}
+use Rattle.test_regions.specs.Pairs.{Pair, words_in}
 use Rattle.recovery_run.specs.declared.gates.Gates.{Gates}
 
 abbrev pub small : Shape
@@ -13,19 +13,6 @@ small = record { policy = 2; cells = 16; buckets = 4; blocks = 16; structures = 
 
 abbrev pub narrow : Shape
 narrow = record { policy = 2; cells = 1; buckets = 34; blocks = 16; structures = 1; format = 1; partitions = 1 }
-
--- an address and what stands there
-abbrev pub Pair : Type 0
-Pair = ℕ × ℕ
-
--- what these pairs say of a word, 0 where they say nothing
-abbrev pub word_in : List Pair → Words
-word_in [] a = 0
-word_in (pair ∷ pairs) a = if a == pair.0 then pair.1 else word_in pairs a
-
--- so many words, as the pairs say
-unfoldable pub words_in : List Pair → ℕ → List ℕ
-words_in pairs size = map (word_in pairs) (range_with_len 0 size)
 
 -- An update of word 577, one of word 578, a compensation of the second, and a deletion of block 1, with closed cells between them; the
 -- owners of two blocks and the two words. Word 578 still has what was taken back.

@@ -6,7 +6,8 @@ ghost use Rattle.region_layout.specs.Layout.{layout_shape};
 ghost use Rattle.bucket_log.specs.Scans.{record_of_placed};
 ghost use Rattle.recovery_undo.specs.RecoveryAppends.{KnowsRegion};
 ghost use Rattle.recovery_undo.specs.Checkpoint.{CanCheckpoint};
-ghost use Rattle.recovery_undo.specs.UndoRegions.{small, narrow, word_in, words_in, running, running_narrow, record_with, HasRunningGates, IsTested};
+ghost use Rattle.test_regions.specs.Pairs.{words_in};
+ghost use Rattle.recovery_undo.specs.UndoRegions.{small, narrow, running, running_narrow, record_with, HasRunningGates, IsTested};
 
 use crate::{Held, append_checkpoint, undo};
 use bucket_log::Placed;
@@ -19,6 +20,7 @@ use region_layout::{Cell, Layout, Policy};
 use std::alloc::Global;
 use std::process::Abort;
 use std::test::Fail;
+use test_regions::words_of;
 use word_region::{Cut, PlainCells};
 
 fn small_layout() -> Layout
@@ -48,29 +50,6 @@ fn narrow_layout() -> Layout
         format: 1,
         partitions: 1,
     }
-}
-
-fn word_of(pairs: &[(u32, u64)], a: u32) -> u64
-    ensures { result ≡ word_in pairs.now a }
-{
-    for pair in pairs {
-        if a == pair.0 {
-            return pair.1;
-        }
-    }
-    0
-}
-
-// So many words, as the pairs say.
-fn words_of(alloc: Global, pairs: &[(u32, u64)], size: u32) -> Result<Vec<u64>, Fail>
-    ensures { IfOk result (λ words. words.items ≡ words_in pairs.now size) }
-{
-    let mut words = Vec::new(alloc);
-    for a in 0..size {
-        let word = word_of(pairs, a);
-        words.push(word)?;
-    }
-    Ok(words)
 }
 
 // A region of 832 words, with memory for the stores of an undo and of a checkpoint record.

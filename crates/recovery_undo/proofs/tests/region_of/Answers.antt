@@ -1,6 +1,6 @@
 use Rattle.std.proofs.Common.{◌∙◌, ap, length, arith}
 use Rattle.persist_model.specs.Region.{loaded}
-use Rattle.recovery_undo.proofs.Small.{words_long}
+use Rattle.test_regions.proofs.Regions.{words_long}
 use Rattle.recovery_undo.proofs.tests.region_of.Goals as goal
 
 pub load-requires : goal.load-requires

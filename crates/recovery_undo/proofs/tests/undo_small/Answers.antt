@@ -32,7 +32,7 @@ pub returns-clause-made : goal.returns-clause-made
 returns-clause-made g c = λ made. (
   state g c,
   _,
-  can_checkpoint c.args.layout c.args.held.now.gates c.undo.new.held (g.D.Device.cells c.args.device.now) (g.D.Device.cells c.undo.new.device) (runs g c) c.requires.gates c.requires.table
+  can_checkpoint c.args.layout c.args.held.now.gates c.undo.new.held (g.D.Device.cells c.args.device.now) (g.D.Device.cells c.undo.new.device) (runs g c) c.requires.gates
       (c.undo.ensures.made made (state g c) (state g c) (can g c)),
 )
 

@@ -1,6 +1,0 @@
-use Rattle.std.proofs.Common.{◌≡◌, drop}
-use Rattle.recovery_undo.specs.UndoRegions.{word_in}
-use Rattle.recovery_undo.proofs.tests.word_of.Given as goal
-
-abbrev pub invariant-loop-pair : goal.invariant-loop-pair
-invariant-loop-pair l = word_in l.pairs l.a ≡ word_in (drop l.pair-index l.pairs) l.a
