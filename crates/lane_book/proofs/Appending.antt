@@ -1,5 +1,5 @@
 -- A record of a call is in the log: no face sees it, and so many cells are let go.
-use Rattle.std.proofs.Common.{◌≡◌, ◌==◌, ◌||◌, ◌&&◌, not, ℕ, zero, suc, ◌+◌, ◌-◌, ◌*◌, ◌<◌, ◌≤◌, Bool, true, false, if◌then◌else◌, List, [], ◌∷◌, ◌++◌, length, take, refl, ◌∙◌, ap, arith, None}
+use Rattle.std.proofs.Common.{◌≡◌, ◌==◌, ◌||◌, ◌&&◌, not, ℕ, zero, suc, ◌+◌, ◌-◌, ◌*◌, ◌<◌, ◌≤◌, Bool, true, false, if◌then◌else◌, List, [], ◌∷◌, ◌++◌, length, take, refl, sym, ◌∙◌, ap, arith, None}
 use Rattle.std.proofs.Math.ListN.{length-append}
 use Rattle.std.proofs.lemmas.Bool.Decides.{nat_tests}
 use Rattle.region_layout.specs.declared.cell.Cell.{Cell}
@@ -13,6 +13,8 @@ use Rattle.lane_book.specs.declared.book.Book.{Book}
 use Rattle.lane_book.specs.Lanes.{moved, with_lane}
 use Rattle.lane_book.specs.FacesOf.{lane_at, face_of}
 use Rattle.lane_book.specs.Steps.{Steps}
+use Rattle.lane_book.specs.declared.lane.Doing.{Doing}
+use Rattle.lane_book.specs.Books.{ends, IsCounted}
 use Rattle.lane_book.specs.Reserved.{is_bound, undo_cells, reserved_by}
 use Rattle.lane_book.specs.Appends.{with_update, with_group, with_deletion, with_rollback, with_compensation, with_end, IsOpen, CanUpdate, CanGroup, CanDelete, CanRollBack, CanCompensate, CanEnd}
 use Rattle.lane_book.proofs.Faces.{step_of_lane}
@@ -25,7 +27,7 @@ logged_row deeds book l later lt calling face base =
 
 -- ---- a transaction that is bound
 
-bound_by : (h e : Bool) (promised : ℕ) → 1 ≤ promised → e ≡ false → ((h || not (promised == 0)) && not e) ≡ true
+pub bound_by : (h e : Bool) (promised : ℕ) → 1 ≤ promised → e ≡ false → ((h || not (promised == 0)) && not e) ≡ true
 bound_by true e promised some going = ap not going
 bound_by false e zero some going = absurd (omega (arith, some))
 bound_by false e (suc promised) some going = ap (λ (t : Bool). not t && not e) (some_is promised) ∙ ap not going
@@ -45,6 +47,20 @@ promised_cells lane some going = bound_cells lane (bound_by lane.has_records lan
 
 open_cells : {E : Type 0} (lane : Lane E) → IsOpen lane → reserved_by lane ≡ lane.promised + undo_cells lane
 open_cells lane is = bound_cells lane (bound_now lane.has_records lane.ended (not (lane.promised == 0)) is.records is.going)
+
+-- ---- what is counted of a lane
+
+-- a record is there, and what is promised falls
+pub logged_cells : {h r e : Bool} {u u' p : ℕ} {d : Doing} (n : ℕ) → IsCounted h r e u p d → IsCounted true r e u' (p - n) d
+logged_cells n cells = record { fresh = λ e. cc; going = cells.going; unpromised = λ e. let none = cells.unpromised e in omega (arith, none) }
+
+-- the undo of a transaction with a record goes on
+pub rolled_cells : {h r r' e : Bool} {u u' p : ℕ} {d : Doing} → h ≡ true → IsCounted h r e u p d → IsCounted h r' e u' p d
+rolled_cells has cells = record { fresh = λ e. let never : false ≡ true = sym e ∙ has in cc; going = cells.going; unpromised = cells.unpromised }
+
+-- its end is stored
+pub ended_cells : {h r e : Bool} {u p : ℕ} {d : Doing} → ends d ≡ true → IsCounted h r e u p d → IsCounted h r true u p d
+ended_cells ending cells = record { fresh = cells.fresh; going = λ e. let never : false ≡ true = sym e ∙ ending in cc; unpromised = cells.unpromised }
 
 -- ---- each record
 

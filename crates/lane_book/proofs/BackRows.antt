@@ -1,7 +1,7 @@
 -- The row of a way back to a savepoint.
-use Rattle.std.proofs.Common.{◌≡◌, ℕ, zero, suc, ◌+◌, ◌<◌, ◌≤◌, List, [], ◌∷◌, ◌++◌, length, take, drop, map, refl, sym, ◌∙◌, ap, subst, arith, None}
+use Rattle.std.proofs.Common.{◌≡◌, ℕ, zero, suc, ◌+◌, ◌<◌, ◌≤◌, List, [], ◌∷◌, ◌++◌, length, take, drop, map, refl, sym, ◌∙◌, ap, subst, arith, None, get_or, ◌-◌}
 use Rattle.std.proofs.Math.Seq.{drop-cons}
-use Rattle.std.proofs.lemmas.List.{take_more}
+use Rattle.std.proofs.lemmas.List.{take_more, get_or-take}
 use Rattle.std.specs.List.{filter}
 use Rattle.lane_traits.specs.declared.draft.WordWrite.{WordWrite}
 use Rattle.lane_types.specs.declared.call.Phase.TheVariants.{Calling}
@@ -15,13 +15,13 @@ use Rattle.lane_book.specs.declared.lane.Point.{Point}
 use Rattle.lane_book.specs.declared.lane.Doing.{Doing}
 use Rattle.lane_book.specs.declared.book.Book.{Book}
 use Rattle.lane_book.specs.Lanes.{point_at, no_point, rolled_back, with_lane}
-use Rattle.lane_book.specs.FacesOf.{lane_at, face_of, call_of, front, held_after, words_of, point_of, begun_heap, is_of}
+use Rattle.lane_book.specs.FacesOf.{waiting_writes, waiting_gives, standing_writes, standing_gives, lane_at, face_of, call_of, front, held_after, words_of, point_of, begun_heap, is_of}
 use Rattle.lane_book.specs.Steps.{Steps, AreWithin, CanGoBack}
-use Rattle.lane_book.specs.Books.{IsLane}
+use Rattle.lane_book.specs.Books.{AreRising, ends, IsLane}
 use Rattle.lane_book.proofs.Faces.{step_of_lane}
 use Rattle.lane_book.proofs.WordRows.{words_are}
-use Rattle.lane_book.proofs.BatchRows.{take_and_drop}
-use Rattle.lane_book.proofs.Keeps.{front_whole, within_last}
+use Rattle.lane_book.proofs.BatchRows.{take_and_drop, take_most}
+use Rattle.lane_book.proofs.Keeps.{front_whole, within_last, take_short}
 
 take_less : {X : Type 0} (q p : ℕ) (xs : List X) → q ≤ p → take q (take p xs) ≡ take q xs
 take_less zero p xs le = refl
@@ -115,8 +115,33 @@ back_row deeds book l n lt calling doing can base =
 
 -- ---- what it keeps
 
-pub back_keeps : {E : Type 0} (m n : ℕ) (lane : Lane E) → CanGoBack n lane → IsLane m lane → IsLane m (rolled_back n lane)
-back_keeps m n lane can is =
+-- some of the savepoints rise as all do
+rise_less : (m : ℕ) (points : List Point) → AreRising points → AreRising (take m points)
+rise_less m points rising n lt =
+    let some = take_most m points in
+    let short = take_short m points in
+    let within = rising n (omega (arith, lt, short)) in
+    subst (λ (ps : List Point). AreWithin (get_or (take m points) n no_point).writes (get_or (take m points) n no_point).gives ps)
+    (sym (take_less n m points (omega (arith, lt, some))))
+    (subst (λ (q : Point). AreWithin q.writes q.gives (take n points)) (sym (get_or-take m points n no_point (omega (arith, lt, some)))) within)
+
+within_at : (w g : ℕ) (points : List Point) (n : ℕ) → AreWithin w g points → n < length points → ((get_or points n no_point).writes ≤ w) × ((get_or points n no_point).gives ≤ g)
+within_at w g [] n within lt = absurd (omega (arith, lt))
+within_at w g (p ∷ points) zero within lt = (within.0, within.1)
+within_at w g (p ∷ points) (suc n) within lt = within_at w g points n within.2 (omega (arith, lt))
+
+-- the savepoint is there, and just its writes are stored
+pub can_back : {E : Type 0} (m n : ℕ) (lane : Lane E) → n < length lane.points.items → lane.stored ≡ (point_at n lane).writes → IsLane m lane → CanGoBack n lane
+can_back m n lane inside stored is =
+    let within = within_at (length (standing_writes lane)) (length (standing_gives lane)) lane.points.items n is.points inside in
+    let writes = within.0 in
+    let gives = within.1 in
+    let some = take_short (length lane.writes.items - waiting_writes lane.doing) lane.writes.items in
+    let given = take_short (length lane.gives.items - waiting_gives lane.doing) lane.gives.items in
+    record { inside = inside; below = is.rising n inside; writes = omega (arith, writes, some); gives = omega (arith, gives, given); stored = stored }
+
+pub back_keeps : {E : Type 0} (m n : ℕ) (lane : Lane E) → lane.doing ≡ Doing.RollbackTo n → CanGoBack n lane → IsLane m lane → IsLane m (rolled_back n lane)
+back_keeps m n lane doing can is =
     let w = take_long (point_at n lane).writes lane.writes.items can.writes in
     let g = take_long (point_at n lane).gives lane.gives.items can.gives in
     let ws = ap (λ (xs : List WordWrite). length xs) (front_whole (take (point_at n lane).writes lane.writes.items)) ∙ w in
@@ -125,9 +150,15 @@ back_keeps m n lane can is =
       behind = is.behind;
       points = subst (λ (a : ℕ). AreWithin a (length (front 0 (take (point_at n lane).gives lane.gives.items))) (take (n + 1) lane.points.items)) (sym ws)
           (subst (λ (a : ℕ). AreWithin (point_at n lane).writes a (take (n + 1) lane.points.items)) (sym gs) (within_up_to n lane can));
+      rising = rise_less (n + 1) lane.points.items is.rising;
       about = can.stored ∙ sym w;
+      cells = record {
+        fresh = λ e. let before = is.cells.fresh e in let none = before.0 in let short = take_short (point_at n lane).writes lane.updates.items in (omega (arith, none, short), before.1);
+        going = λ e. is.cells.going (ap ends doing);
+        unpromised = λ e. refl;
+      };
       out = λ e. cc;
     }
 
-pub back_inside : {E : Type 0} (n : ℕ) (read lane : Lane E) → read ≡ lane → CanGoBack n lane → n < length read.points.items
-back_inside n read lane is can = subst (λ (x : Lane _). n < length x.points.items) (sym is) can.inside
+pub back_inside : {E : Type 0} (n : ℕ) (read lane : Lane E) → read ≡ lane → n < length lane.points.items → n < length read.points.items
+back_inside n read lane is inside = subst (λ (x : Lane _). n < length x.points.items) (sym is) inside

@@ -19,12 +19,12 @@ use Rattle.lane_book.specs.declared.book.Book.{Book}
 use Rattle.lane_book.specs.Lanes.{closed, stored_all, with_lane}
 use Rattle.lane_book.specs.FacesOf.{lane_at, face_of, call_of, front, waiting_writes, waiting_gives, held_after, words_of, begun_heap, is_of, standing_writes, standing_gives, batch_of}
 use Rattle.lane_book.specs.Steps.{StepsIf, held_by}
-use Rattle.lane_book.specs.Books.{AreStoredBut, IsAboutIt, IsLane}
+use Rattle.lane_book.specs.Books.{ends, AreStoredBut, IsAboutIt, IsLane}
 use Rattle.lane_book.proofs.Faces.{step_of_lane}
 use Rattle.lane_book.proofs.Holdings.{has_at, values_put, owners_stay, is_true_left, is_true_right}
 use Rattle.lane_book.proofs.WordRows.{take_whole, words_are, held_is_data, both}
 use Rattle.lane_book.proofs.Pushing.{one_first}
-use Rattle.lane_book.proofs.Keeps.{within_more, front_short}
+use Rattle.lane_book.proofs.Keeps.{within_more, front_short, closed_cells}
 
 -- ---- values
 
@@ -121,7 +121,7 @@ take_and_drop zero xs = refl
 take_and_drop (suc m) [] = refl
 take_and_drop (suc m) (x ∷ xs) = ap (λ (ys : List _). x ∷ ys) (take_and_drop m xs)
 
-take_most : {X : Type 0} (m : ℕ) (xs : List X) → length (take m xs) ≤ m
+pub take_most : {X : Type 0} (m : ℕ) (xs : List X) → length (take m xs) ≤ m
 take_most zero xs = omega arith
 take_most (suc m) [] = omega arith
 take_most (suc m) (x ∷ xs) = let l = take_most m xs in omega (arith, l)
@@ -182,11 +182,13 @@ batch_row deeds book l n touched lt calling doing waits base has =
 pub waiting_of : {E : Type 0} (m : ℕ) (lane : Lane E) (n : ℕ) → lane.doing ≡ Doing.Batch n → IsLane m lane → AreStoredBut n lane.stored lane.writes.items
 waiting_of m lane n doing is = subst (IsAboutIt lane) doing is.about
 
-pub batched_keeps : {E : Type 0} (m : ℕ) (lane : Lane E) → IsLane m lane → IsLane m (closed Written (stored_all lane))
-batched_keeps m lane is = record {
+pub batched_keeps : {E : Type 0} (m : ℕ) (lane : Lane E) → ends lane.doing ≡ false → IsLane m lane → IsLane m (closed Written (stored_all lane))
+batched_keeps m lane calm is = record {
   behind = is.behind;
   points = within_more (length (standing_writes lane)) (length (front 0 lane.writes.items)) (length (standing_gives lane)) (length (front 0 lane.gives.items))
       lane.points.items (front_short (waiting_writes lane.doing) lane.writes.items) (front_short (waiting_gives lane.doing) lane.gives.items) is.points;
+  rising = is.rising;
   about = refl;
+  cells = closed_cells lane.doing lane.doing refl calm is.cells;
   out = λ e. cc;
 }

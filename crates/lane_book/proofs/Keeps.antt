@@ -1,7 +1,8 @@
 -- What holds of the book between its calls is kept by each of them.
-use Rattle.std.proofs.Common.{◌≡◌, ◌≢◌, ⊎_elim, ℕ, zero, suc, ◌+◌, ◌-◌, ◌<◌, ◌≤◌, List, [], ◌∷◌, ◌++◌, length, take, refl, sym, ◌∙◌, ap, subst, arith, Option, None}
+use Rattle.std.proofs.Common.{◌≡◌, ◌≢◌, ⊎_elim, ℕ, Bool, false, get_or, zero, suc, ◌+◌, ◌-◌, ◌<◌, ◌≤◌, List, [], ◌∷◌, ◌++◌, length, take, refl, sym, ◌∙◌, ap, subst, arith, Option, None}
 use Rattle.std.proofs.lemmas.Bool.Decides.{eqb_tells}
 use Rattle.std.proofs.Math.ListN.{length-append}
+use Rattle.std.proofs.lemmas.List.{get_or_append_left}
 use Rattle.lane_traits.specs.declared.draft.WordWrite.{WordWrite}
 use Rattle.lane_types.specs.declared.call.Phase.TheVariants.{Out, Calling}
 use Rattle.lane_types.specs.declared.call.Reply.{Reply}
@@ -17,11 +18,11 @@ use Rattle.lane_book.specs.declared.lane.Lane.{Lane}
 use Rattle.lane_book.specs.declared.lane.Point.{Point}
 use Rattle.lane_book.specs.declared.lane.Doing.{Doing}
 use Rattle.lane_book.specs.declared.book.Book.{Book}
-use Rattle.lane_book.specs.Lanes.{noted, moved, closed, stored_one, left, begun_lane, saved, entered_lane, refused_lane, IsRoomier, with_lane, with_history}
-use Rattle.lane_book.specs.FacesOf.{lane_at, idle_lane, front, waiting_writes, waiting_gives, standing_writes, standing_gives}
+use Rattle.lane_book.specs.Lanes.{no_point, noted, moved, closed, stored_one, left, begun_lane, saved, entered_lane, refused_lane, IsRoomier, with_lane, with_history}
+use Rattle.lane_book.specs.FacesOf.{call_of, lane_at, idle_lane, front, waiting_writes, waiting_gives, standing_writes, standing_gives}
 use Rattle.lane_book.specs.Steps.{AreWithin, AreStored, IsNextStored, IsCleared, IsReady, AsksFor, IsPlain}
-use Rattle.lane_book.specs.Books.{IsAbout, IsAboutIt, IsEmptied, IsLane, IsBook, AreStoredBut, IsLastOf, IsGiving}
-use Rattle.lane_book.proofs.Faces.{lane_at-same, lane_at-other}
+use Rattle.lane_book.specs.Books.{AreRising, ends, IsCounted, IsAbout, IsAboutIt, IsEmptied, IsLane, IsBook, AreStoredBut, IsLastOf, IsGiving}
+use Rattle.lane_book.proofs.Faces.{lane_at-same, lane_at-other, take_before}
 use Rattle.lane_book.proofs.WordRows.{take_whole}
 use Rattle.lane_book.proofs.Asking.{front_append}
 
@@ -44,12 +45,12 @@ keeps_lane book later l lane touched lt is whole step =
 
 -- nothing but the tally and the place in the plan
 pub noted_keeps : {E : Type 0} (n : ℕ) (answer : Stepped) (lane : Lane E) → IsLane n lane → IsLane n (noted answer lane)
-noted_keeps n answer lane is = record { behind = is.behind; points = is.points; about = is.about; out = is.out }
+noted_keeps n answer lane is = record { behind = is.behind; points = is.points; rising = is.rising; about = is.about; cells = is.cells; out = is.out }
 
 pub moved_keeps : {E : Type 0} (n part : ℕ) (lane : Lane E) → IsLane n lane → IsLane n (moved part lane)
-moved_keeps n part lane is = record { behind = is.behind; points = is.points; about = is.about; out = is.out }
+moved_keeps n part lane is = record { behind = is.behind; points = is.points; rising = is.rising; about = is.about; cells = is.cells; out = is.out }
 
-take_short : {X : Type 0} (m : ℕ) (xs : List X) → length (take m xs) ≤ length xs
+pub take_short : {X : Type 0} (m : ℕ) (xs : List X) → length (take m xs) ≤ length xs
 take_short zero xs = omega arith
 take_short (suc m) [] = omega arith
 take_short (suc m) (x ∷ xs) = let l = take_short m xs in omega (arith, l)
@@ -69,14 +70,26 @@ within_more w x g h (p ∷ points) less few within =
     let a = within.0 in let b = within.1 in
     (omega (arith, less, a), omega (arith, few, b), within_more w x g h points less few within.2)
 
+-- no cell is promised any more
+pub closed_cells : {h r e : Bool} {u p : ℕ} (d doing : Doing) → doing ≡ d → ends d ≡ false → IsCounted h r e u p doing → IsCounted h r e u 0 Doing.Nothing
+closed_cells d doing is calm cells = record { fresh = cells.fresh; going = λ e. cells.going (ap ends is ∙ calm); unpromised = λ e. refl }
+
+no_cells : (d : Doing) → IsCounted false false false 0 0 d
+no_cells d = record { fresh = λ e. (refl, refl); going = λ e. refl; unpromised = λ e. refl }
+
+none_rise : AreRising []
+none_rise n lt = absurd (omega (arith, lt))
+
 -- the call ends, and no write waits any more
-pub closed_keeps : {E : Type 0} (n : ℕ) (reply : Reply) (d : Doing) (lane : Lane E) → lane.doing ≡ d → IsLane n lane → AreStored lane →
+pub closed_keeps : {E : Type 0} (n : ℕ) (reply : Reply) (d : Doing) (lane : Lane E) → lane.doing ≡ d → ends d ≡ false → IsLane n lane → AreStored lane →
     (phase_after reply ≡ Out → IsEmptied lane) → IsLane n (closed reply lane)
-closed_keeps n reply d lane doing is stored out = record {
+closed_keeps n reply d lane doing calm is stored out = record {
   behind = is.behind;
   points = within_more (length (standing_writes lane)) (length (front 0 lane.writes.items)) (length (standing_gives lane)) (length (front 0 lane.gives.items))
       lane.points.items (front_short (waiting_writes lane.doing) lane.writes.items) (front_short (waiting_gives lane.doing) lane.gives.items) is.points;
+  rising = is.rising;
   about = stored;
+  cells = closed_cells d lane.doing doing calm is.cells;
   out = out;
 }
 
@@ -84,7 +97,9 @@ pub left_keeps : {E : Type 0} (n : ℕ) (reply : Reply) (lane : Lane E) → IsLa
 left_keeps n reply lane = record {
   behind = omega arith;
   points = tt;
+  rising = none_rise;
   about = refl;
+  cells = no_cells Doing.Nothing;
   out = λ e. record { writes_gone = refl; stored_gone = refl; gives_gone = refl; points_gone = refl };
 }
 
@@ -93,35 +108,72 @@ begun_keeps n number set lane doing is =
     let cleared : IsEmptied lane = subst (IsAboutIt lane) doing is.about in record {
       behind = omega arith;
       points = subst (AreWithin (length (front 0 lane.writes.items)) (length (front 0 lane.gives.items))) (sym cleared.points_gone) tt;
+      rising = is.rising;
       about = cleared.stored_gone ∙ sym (ap (λ (ws : List WordWrite). length ws) cleared.writes_gone);
+      cells = closed_cells (Doing.Begin set) lane.doing doing refl is.cells;
       out = λ e. cc;
     }
+
+ne_less : (n m : ℕ) → n ≤ m → n ≢ m → n < m
+ne_less zero zero le ne = absurd (ne refl)
+ne_less zero (suc m) le ne = omega arith
+ne_less (suc n) zero le ne = absurd (omega (arith, le))
+ne_less (suc n) (suc m) le ne = let below = ne_less n m (omega (arith, le)) (λ e. ne (ap (λ (k : ℕ). suc k) e)) in omega (arith, below)
 
 pub within_last : (w g : ℕ) (points : List Point) (p : Point) → AreWithin w g points → p.writes ≤ w → p.gives ≤ g → AreWithin w g (points ++ p ∷ [])
 within_last w g [] p within a b = (a, b, tt)
 within_last w g (q ∷ points) p within a b = (within.0, within.1, within_last w g points p within.2 a b)
 
+last_at : (ps : List Point) (q : Point) → get_or (ps ++ q ∷ []) (length ps) no_point ≡ q
+last_at [] q = refl
+last_at (x ∷ ps) q = last_at ps q
+
+pub rise_more : (points : List Point) (p : Point) → AreRising points → AreWithin p.writes p.gives points → AreRising (points ++ p ∷ [])
+rise_more points p rising within n lt = ⊎_elim (λ same. here same.1) (λ ne. there (less ne.1)) (eqb_tells n (length points))
+  where
+    long : length (points ++ p ∷ []) ≡ length points + 1
+    long = length-append points (p ∷ [])
+
+    less : n ≢ length points → n < length points
+    less ne = ne_less n (length points) (let l = long in omega (arith, lt, l)) ne
+
+    there : n < length points → AreWithin (get_or (points ++ p ∷ []) n no_point).writes (get_or (points ++ p ∷ []) n no_point).gives (take n (points ++ p ∷ []))
+    there lt = subst (λ (ps : List Point). AreWithin (get_or (points ++ p ∷ []) n no_point).writes (get_or (points ++ p ∷ []) n no_point).gives ps)
+        (sym (take_before n points (p ∷ []) (omega (arith, lt))))
+        (subst (λ (q : Point). AreWithin q.writes q.gives (take n points)) (sym (get_or_append_left points (p ∷ []) no_point n lt)) (rising n lt))
+
+    here : n ≡ length points → AreWithin (get_or (points ++ p ∷ []) n no_point).writes (get_or (points ++ p ∷ []) n no_point).gives (take n (points ++ p ∷ []))
+    here same = subst (λ (m : ℕ). AreWithin (get_or (points ++ p ∷ []) m no_point).writes (get_or (points ++ p ∷ []) m no_point).gives (take m (points ++ p ∷ []))) (sym same)
+        (subst (λ (ps : List Point). AreWithin (get_or (points ++ p ∷ []) (length points) no_point).writes (get_or (points ++ p ∷ []) (length points) no_point).gives ps)
+        (sym (take_before (length points) points (p ∷ []) (omega arith) ∙ take_whole (length points) points (omega arith)))
+        (subst (λ (q : Point). AreWithin q.writes q.gives points) (sym (last_at points p)) within))
+
 pub saved_keeps : {E : Type 0} (n : ℕ) (lane : Lane E) → lane.doing ≡ Doing.Savepoint → IsLane n lane → IsLane n (saved lane)
 saved_keeps n lane doing is =
-    let closed_lane = closed_keeps n (Saved (length lane.points.items)) Doing.Savepoint lane doing is (subst (IsAboutIt lane) doing is.about) (λ e. cc) in
+    let closed_lane = closed_keeps n (Saved (length lane.points.items)) Doing.Savepoint lane doing refl is (subst (IsAboutIt lane) doing is.about) (λ e. cc) in
     let ws = ap (λ (xs : List WordWrite). length xs) (front_whole lane.writes.items) in
     let gs = ap (λ (xs : List ℕ). length xs) (front_whole lane.gives.items) in
     record {
       behind = is.behind;
       points = within_last (length (front 0 lane.writes.items)) (length (front 0 lane.gives.items)) lane.points.items
           (record { writes = length lane.writes.items; gives = length lane.gives.items }) closed_lane.points (omega (arith, ws)) (omega (arith, gs));
+      rising = rise_more lane.points.items (record { writes = length lane.writes.items; gives = length lane.gives.items }) is.rising
+          (within_more _ _ _ _ lane.points.items (omega (arith, ws)) (omega (arith, gs)) closed_lane.points);
       about = closed_lane.about;
+      cells = closed_lane.cells;
       out = λ e. cc;
     }
 
 -- one write more is stored, the last
-pub stored_keeps : {E : Type 0} (n : ℕ) (reply : Reply) (lane : Lane E) (w : WordWrite) → IsNextStored lane w → (phase_after reply ≡ Out → ⊥) → IsLane n lane →
-    IsLane n (closed reply (stored_one lane))
-stored_keeps n reply lane w next stays is = record {
+pub stored_keeps : {E : Type 0} (n : ℕ) (reply : Reply) (lane : Lane E) (w : WordWrite) → IsNextStored lane w → (phase_after reply ≡ Out → ⊥) → ends lane.doing ≡ false →
+    IsLane n lane → IsLane n (closed reply (stored_one lane))
+stored_keeps n reply lane w next stays calm is = record {
   behind = is.behind;
   points = within_more (length (standing_writes lane)) (length (front 0 lane.writes.items)) (length (standing_gives lane)) (length (front 0 lane.gives.items))
       lane.points.items (front_short (waiting_writes lane.doing) lane.writes.items) (front_short (waiting_gives lane.doing) lane.gives.items) is.points;
+  rising = is.rising;
   about = next.stored;
+  cells = closed_cells lane.doing lane.doing refl calm is.cells;
   out = λ e. absurd (stays e);
 }
 
@@ -137,7 +189,7 @@ ready_of n lane nothing is = record {
 }
 
 pub refused_keeps : {E : Type 0} (n : ℕ) (call : Call E) (refusal : Refusal) (lane : Lane E) → IsLane n lane → IsLane n (refused_lane call refusal lane)
-refused_keeps n call refusal lane is = record { behind = is.behind; points = is.points; about = is.about; out = is.out }
+refused_keeps n call refusal lane is = record { behind = is.behind; points = is.points; rising = is.rising; about = is.about; cells = is.cells; out = is.out }
 
 module _ {E : Type 0} (n : ℕ) (lane later : Lane E) (call : Call E) (doing : Doing) (writes : List WordWrite) (gives : List ℕ) (promised : ℕ)
     (ready : IsReady lane) (asks : AsksFor lane call doing writes gives promised later) where
@@ -164,7 +216,14 @@ module _ {E : Type 0} (n : ℕ) (lane later : Lane E) (call : Call E) (doing : D
         (subst (λ (ws : List WordWrite). AreWithin (length ws) (length (front (waiting_gives doing) later.gives.items)) later.points.items) (sym standing)
         (subst (λ (gs : List ℕ). AreWithin (length lane.writes.items) (length gs) later.points.items) (sym given)
         (subst (AreWithin (length lane.writes.items) (length lane.gives.items)) (sym asks.points_stay) ready.points)));
+    rising = subst AreRising (sym asks.points_stay) is.rising;
     about = subst (IsAboutIt later) (sym doing_later) about;
+    cells = record {
+      fresh = λ e. let before = is.cells.fresh (sym (ap (λ (x : Lane _). x.has_records) asks.is) ∙ e) in
+          (ap (λ (us : List _). length us) asks.updates_stay ∙ before.0, ap (λ (x : Lane _). x.rolled) asks.is ∙ before.1);
+      going = λ e. ap (λ (x : Lane _). x.ended) asks.is ∙ is.cells.going (ap ends ready.nothing);
+      unpromised = λ e. let told = sym (ap (λ (d : Doing). call_of [] later.entry later.writes.items d) (sym doing_later ∙ e)) ∙ asks.told [] in cc;
+    };
     out = λ e. let calling : Calling ≡ Out = sym (ap (λ (x : Lane _). x.phase) asks.is) ∙ e in cc;
   }
 
@@ -220,11 +279,11 @@ keeps_begun book later l set lt is doing whole = subst (λ (b : Book _). IsBook 
 -- ---- an entry joins
 
 pub entered_keeps : {E : Type 0} (n : ℕ) (lane : Lane E) → IsLane n lane → IsLane n (entered_lane lane)
-entered_keeps n lane is = record { behind = is.behind; points = is.points; about = is.about; out = is.out }
+entered_keeps n lane is = record { behind = is.behind; points = is.points; rising = is.rising; about = is.about; cells = is.cells; out = is.out }
 
 -- the history has an entry more
 pub grown_keeps : {E : Type 0} (n : ℕ) (lane : Lane E) → IsLane n lane → IsLane (n + 1) lane
-grown_keeps n lane is = record { behind = let b = is.behind in omega (arith, b); points = is.points; about = is.about; out = is.out }
+grown_keeps n lane is = record { behind = let b = is.behind in omega (arith, b); points = is.points; rising = is.rising; about = is.about; cells = is.cells; out = is.out }
 
 pub keeps_entered : {E : Type 0} (book later : Book E) (l : ℕ) (lane : Lane E) (e : Entry E) → l < length book.lanes.items →
     later ≡ with_history (book.history.items ++ e ∷ []) (with_lane book l lane None) → IsBook book →
@@ -244,6 +303,9 @@ pub roomier_keeps : {E : Type 0} (n : ℕ) (lane later : Lane E) → IsRoomier l
 roomier_keeps n lane later roomier is = subst (IsLane n) (sym roomier.is) record {
   behind = is.behind;
   points = within_same roomier.writes roomier.gives roomier.points is.points;
+  rising = subst AreRising (sym roomier.points) is.rising;
+  cells = subst (λ (n : ℕ). IsCounted lane.has_records lane.rolled lane.ended n lane.promised lane.doing)
+      (sym (ap (λ (us : List _). length us) roomier.updates)) is.cells;
   about = subst (λ (ps : List Point). IsAbout lane.stored later.writes.items later.gives.items ps lane.doing) (sym roomier.points)
       (subst (λ (gs : List ℕ). IsAbout lane.stored later.writes.items gs lane.points.items lane.doing) (sym roomier.gives)
       (subst (λ (ws : List WordWrite). IsAbout lane.stored ws lane.gives.items lane.points.items lane.doing) (sym roomier.writes) is.about));
@@ -321,7 +383,9 @@ pub idle_is : {E : Type 0} (n : ℕ) → IsLane n (idle_lane {E = E})
 idle_is n = record {
   behind = omega arith;
   points = tt;
+  rising = none_rise;
   about = refl;
+  cells = no_cells Doing.Nothing;
   out = λ e. record { writes_gone = refl; stored_gone = refl; gives_gone = refl; points_gone = refl };
 }
 

@@ -12,4 +12,5 @@ pub mod Keeps
 pub mod BatchRows
 pub mod BackRows
 pub mod Appending
+pub mod Promising
 pub mod PushedCells

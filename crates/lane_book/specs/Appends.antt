@@ -7,6 +7,7 @@ use Rattle.lane_book.specs.declared.lane.Doing.{Doing}
 use Rattle.lane_book.specs.declared.book.Book.{Book}
 use Rattle.lane_book.specs.Stocked.{with_items}
 use Rattle.lane_book.specs.Lanes.{has_room}
+use Rattle.lane_book.specs.Books.{ends}
 use Rattle.lane_book.specs.Reserved.{reserved_in, needed_by}
 
 -- ---- a lane
@@ -66,12 +67,6 @@ abbrev pub undoes : Doing → Bool
 undoes Doing.Abort = true
 undoes (Doing.RollbackTo n) = true
 undoes _ = false
-
--- a call that ends the transaction
-abbrev pub ends : Doing → Bool
-ends Doing.Commit = true
-ends Doing.Abort = true
-ends _ = false
 
 -- the transaction's end isn't stored
 abbrev pub IsGoing : {E : Type 0} → Lane E → Type 0

@@ -1,5 +1,5 @@
 -- What holds of the book between its calls.
-use Rattle.std.specs.Prelude.{◌≡◌, ℕ, ◌+◌, ◌≤◌, List, [], ◌∷◌, ◌++◌, length}
+use Rattle.std.specs.Prelude.{◌≡◌, ℕ, ◌+◌, ◌<◌, ◌≤◌, Bool, true, false, List, [], ◌∷◌, ◌++◌, length, take, get_or}
 use Rattle.lane_traits.specs.declared.draft.WordWrite.{WordWrite}
 use Rattle.lane_types.specs.declared.call.Phase.TheVariants.{Out}
 use Rattle.lane_book.specs.declared.lane.Lane.{Lane}
@@ -7,6 +7,7 @@ use Rattle.lane_book.specs.declared.lane.Doing.{Doing}
 use Rattle.lane_book.specs.declared.lane.Point.{Point}
 use Rattle.lane_book.specs.declared.book.Book.{Book}
 use Rattle.lane_book.specs.FacesOf.{lane_at, front, standing_writes, standing_gives}
+use Rattle.lane_book.specs.Lanes.{no_point}
 use Rattle.lane_book.specs.Steps.{AreWithin}
 
 -- nothing is left of an earlier transaction
@@ -53,12 +54,31 @@ IsAboutIt lane doing = IsAbout lane.stored lane.writes.items lane.gives.items la
 abbrev pub IsEmptied : {E : Type 0} → Lane E → Type 0
 IsEmptied lane = AreEmptied lane.stored lane.writes.items lane.gives.items lane.points.items
 
--- The transaction began behind some of so many entries, its savepoints are of writes and gives that stand, and its lists are
--- as the call in progress has them. Outside of one they are empty.
+-- each savepoint is of no more than those behind it
+abbrev pub AreRising : List Point → Type 0
+AreRising points = (n : ℕ) → n < length points → AreWithin (get_or points n no_point).writes (get_or points n no_point).gives (take n points)
+
+-- a call that ends the transaction
+abbrev pub ends : Doing → Bool
+ends Doing.Commit = true
+ends Doing.Abort = true
+ends _ = false
+
+-- Without a record there is nothing to undo, only a call that ends the transaction has its end stored, and without a call no
+-- cell is promised.
+pub record IsCounted (has_records rolled ended : Bool) (updates promised : ℕ) (doing : Doing) : Type 0 where
+  pub fresh : has_records ≡ false → (updates ≡ 0) × (rolled ≡ false)
+  pub going : ends doing ≡ false → ended ≡ false
+  pub unpromised : doing ≡ Doing.Nothing → promised ≡ 0
+
+-- The transaction began behind some of so many entries, its savepoints rise and are of writes and gives that stand, its lists are
+-- as the call in progress has them, and so are the cells that it has reserved. Outside of one the lists are empty.
 pub record IsLane {E : Type 0} (entries : ℕ) (lane : Lane E) : Type 0 where
   pub behind : lane.joined ≤ entries
   pub points : AreWithin (length (standing_writes lane)) (length (standing_gives lane)) lane.points.items
+  pub rising : AreRising lane.points.items
   pub about : IsAboutIt lane lane.doing
+  pub cells : IsCounted lane.has_records lane.rolled lane.ended (length lane.updates.items) lane.promised lane.doing
   pub out : lane.phase ≡ Out → IsEmptied lane
 
 abbrev pub IsBook : {E : Type 0} → Book E → Type 0

@@ -24,7 +24,7 @@ use Rattle.lane_book.specs.Stocked.{Stocked, with_items}
 abbrev pub noted : {E : Type 0} → Stepped → Lane E → Lane E
 noted answer lane = record lane { tally = stepped_tally answer lane.tally }
 
--- the call ends with this reply
+-- the call ends with this reply, and no cell is promised to it any more
 abbrev pub closed : {E : Type 0} → Reply → Lane E → Lane E
 closed reply lane = record lane {
   tally = stepped_tally (Answered reply) lane.tally;
@@ -33,6 +33,7 @@ closed reply lane = record lane {
   doing = Doing.Nothing;
   part = 0;
   entered = false;
+  promised = 0;
 }
 
 -- the call goes on at this part of its plan
@@ -74,7 +75,6 @@ left reply lane = record (closed reply lane) {
   point = 0;
   entry = None;
   owed_stores = 0;
-  promised = 0;
 }
 
 -- the transaction with this number has begun, on these structures, behind so many entries

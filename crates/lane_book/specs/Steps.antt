@@ -127,6 +127,7 @@ pub record AsksFor {E : Type 0} (lane : Lane E) (call : Call E) (doing : Doing) 
   }
   pub writes_more : later.writes.items ≡ lane.writes.items ++ writes
   pub gives_more : later.gives.items ≡ lane.gives.items ++ gives
+  pub updates_stay : later.updates.items ≡ lane.updates.items
   pub points_stay : later.points.items ≡ lane.points.items
   pub waiting : waiting_writes doing ≡ length writes
   pub waiting_given : waiting_gives doing ≡ length gives

@@ -1,4 +1,4 @@
-ghost use Rattle.std.specs.Prelude.{◌≡◌, min, ◌-◌, ◌+◌, ◌*◌, ◌<◌, ◌≤◌, ◌^◌, [], ◌∷◌, ◌++◌, Some, None, length, map, slice_set, OnOk, OnErr, IfOk};
+ghost use Rattle.std.specs.Prelude.{◌≡◌, min, ◌-◌, ◌+◌, ◌*◌, ◌<◌, ◌≤◌, ◌^◌, [], ◌∷◌, ◌++◌, ℕ, Some, None, length, map, slice_set, OnOk, OnErr, IfOk};
 ghost use Rattle.offset_alloc.specs.declared.Standing.TheVariants as Standing;
 ghost use Rattle.lane_types.specs.Asks as Asks;
 ghost use Rattle.lane_book.specs.Lanes.{asked_lane, refused_lane, IsRoomier, HasRoom, has_room, with_more, with_lane};
@@ -6,6 +6,7 @@ ghost use Rattle.lane_book.specs.Entries.{entry_of, committing, disowned, writes
 ghost use Rattle.lane_book.specs.FacesOf.{lane_at};
 ghost use Rattle.lane_book.specs.Steps.{Asks, AsksFor, IsPlain};
 ghost use Rattle.lane_book.specs.Books.{IsBook};
+ghost use Rattle.lane_book.specs.Appends.{ReservesNeed};
 ghost use Rattle.lane_book.specs.declared.lane.Doing.TheVariants as Doing;
 ghost use Rattle.lane_types.specs.declared.call.Call.TheVariants as Call;
 
@@ -273,6 +274,7 @@ impl<E: Deed> Book<E> {
         requires plain { IsPlain call.now doing }
         requires phase { (lane_at self.old lane).phase ≡ Asks.wanted call.now }
         ensures ok { OnOk result (Asks (Asks.asked call.now) self.old self.new lane) }
+        ensures reserved { OnOk result ((k : ℕ) → ReservesNeed k call.now self.old self.new lane) }
         ensures err { OnErr result (Asks (λ face. face) self.old self.new lane) }
         ensures book { IsBook self.new }
     {
@@ -285,6 +287,7 @@ impl<E: Deed> Book<E> {
         requires nothing { (lane_at self.old lane).doing ≡ Doing.Nothing }
         requires book { IsBook self.old }
         ensures ok { OnOk result (Asks (Asks.asked (Call.Write a v)) self.old self.new lane) }
+        ensures reserved { OnOk result ((k : ℕ) → ReservesNeed k (Call.Write a v) self.old self.new lane) }
         ensures err { OnErr result (Asks (λ face. face) self.old self.new lane) }
         ensures book { IsBook self.new }
     {
@@ -297,6 +300,7 @@ impl<E: Deed> Book<E> {
         requires nothing { (lane_at self.old lane).doing ≡ Doing.Nothing }
         requires book { IsBook self.old }
         ensures ok { OnOk result (Asks (Asks.asked (Call.Give block)) self.old self.new lane) }
+        ensures reserved { OnOk result ((k : ℕ) → ReservesNeed k (Call.Give block) self.old self.new lane) }
         ensures err { OnErr result (Asks (λ face. face) self.old self.new lane) }
         ensures book { IsBook self.new }
     {
@@ -317,6 +321,7 @@ impl<E: Deed> Book<E> {
         requires structure { structure < 8 }
         requires block { block < length self.old.blocks }
         ensures ok { OnOk result (Asks (Asks.asked (Call.Take structure)) self.old self.new lane) }
+        ensures reserved { OnOk result ((k : ℕ) → ReservesNeed k (Call.Take structure) self.old self.new lane) }
         ensures err { OnErr result (Asks (λ face. face) self.old self.new lane) }
         ensures blocks { OnOk result (self.new.blocks ≡ slice_set self.old.blocks block (Standing.Owned structure)) }
         ensures stay { OnErr result (self.new.blocks ≡ self.old.blocks) }
@@ -346,6 +351,7 @@ impl<E: Deed> Book<E> {
         requires few { k ≤ 16 }
         requires short { length writes.now < 2 ^ 32 }
         ensures ok { OnOk result (Asks (Asks.asked call.now) self.old self.new lane) }
+        ensures reserved { OnOk result (1 ≤ k → ReservesNeed k call.now self.old self.new lane) }
         ensures err { OnErr result (Asks (λ face. face) self.old self.new lane) }
         ensures book { IsBook self.new }
     {
@@ -377,6 +383,7 @@ impl<E: Deed> Book<E> {
         requires begun { 1 ≤ (lane_at self.old lane).begun }
         ensures is { self.new ≡ with_lane self.old lane (committing lane deed writes (lane_at self.old lane)) self.old.touched }
         ensures ask { Asks (Asks.asked (Call.Commit deed)) self.old self.new lane }
+        ensures reserved { (k : ℕ) → ReservesNeed k (Call.Commit deed) self.old self.new lane }
         ensures book { IsBook self.new }
     {
         self.lanes[lane as usize].ask_commit(lane, deed, writes);

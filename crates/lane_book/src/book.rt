@@ -2,9 +2,9 @@ ghost use Rattle.std.specs.Prelude.{◌≡◌, ◌≢◌, ◌+◌, ◌-◌, ◌<
 ghost use Rattle.std.specs.List.{range_with_len};
 ghost use Rattle.lane_types.specs.declared.face.Entry.{Entry};
 ghost use Rattle.lane_types.specs.Asks.{has_word, has_all};
-ghost use Rattle.lane_book.specs.Lanes.{noted, closed, moved, stored_one, stored_all, rolled_back, left, saved, entered_lane, with_lane, with_history};
+ghost use Rattle.lane_book.specs.Lanes.{point_at, noted, closed, moved, stored_one, stored_all, rolled_back, left, saved, entered_lane, with_lane, with_history};
 ghost use Rattle.lane_book.specs.FacesOf.{lane_at, plain_face, batch_of};
-ghost use Rattle.lane_book.specs.Steps.{Steps, StepsIf, HasEntry, HasEntered, IsNextStored, AreStored, CanTake, CanGoBack, held_by};
+ghost use Rattle.lane_book.specs.Steps.{Steps, StepsIf, HasEntry, HasEntered, IsNextStored, AreStored, CanTake, held_by};
 ghost use Rattle.lane_book.specs.Books.{IsBook};
 ghost use Rattle.lane_book.specs.declared.lane.Doing.TheVariants as Doing;
 
@@ -253,12 +253,13 @@ impl<E: Deed> Book<E> {
         Stepped::Answered(Reply::Saved(number))
     }
 
-    /// A way back to a savepoint is answered, all of which is taken back.
+    /// A way back to a savepoint is answered: all that was written since is taken back in the device.
     pub fn rolled_back(&mut self, lane: u32, n: u64) -> Stepped
         requires lane { lane < length self.old.lanes.items }
         requires calling { (lane_at self.old lane).phase ≡ Phase.Calling }
         requires doing { (lane_at self.old lane).doing ≡ Doing.RollbackTo n }
-        requires back { CanGoBack n (lane_at self.old lane) }
+        requires inside { n < length (lane_at self.old lane).points.items }
+        requires stored { (lane_at self.old lane).stored ≡ (point_at n (lane_at self.old lane)).writes }
         requires book { IsBook self.old }
         ensures is { self.new ≡ with_lane self.old lane (rolled_back n (lane_at self.old lane)) None }
         ensures step { Steps E.meaning self.old self.new lane result }

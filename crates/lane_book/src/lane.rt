@@ -100,7 +100,7 @@ impl<E> Lane<E> {
         }
     }
 
-    /// The call ends with this reply.
+    /// The call ends with this reply, and no cell is promised to it any more.
     pub fn close(&mut self, reply: Reply)
         ensures { self.new ≡ closed reply self.old }
     {
@@ -110,6 +110,7 @@ impl<E> Lane<E> {
         self.doing = Doing::Nothing;
         self.part = 0;
         self.entered = false;
+        self.promised = 0;
     }
 
     /// The call goes on at this part of its plan.
@@ -210,7 +211,6 @@ impl<E: Drop> Lane<E> {
         self.point = 0;
         self.entry = None;
         self.owed_stores = 0;
-        self.promised = 0;
     }
 
     /// The entry of the commit is handed out, and the commit goes on.

@@ -1,8 +1,11 @@
 use Rattle.lane_book.specs.FacesOf.{lane_at}
-use Rattle.std.proofs.Common.{[]}
+use Rattle.std.proofs.Common.{[], sym, ap, arith}
 use Rattle.lane_book.proofs.Faces.{lane_read}
 use Rattle.lane_book.proofs.Asking.{on_ok, on_err, asked_book, roomier_book}
 use Rattle.lane_book.proofs.Keeps.{ready_of, by_result, keeps_asked, keeps_roomier, waits}
+use Rattle.lane_book.proofs.Promising.{logged_need}
+use Rattle.lane_types.specs.Asks.{is_logged}
+use Rattle.lane_book.specs.Reserved.{promised_by}
 use Rattle.lane_book.proofs.book.Book.ask_batch.Goals as goal
 
 pub returns-clause-ok : goal.returns-clause-ok
@@ -26,3 +29,9 @@ returns-clause-book g c =
     (λ ready here. waits 0 (lane_at book c.args.lane) _ _ _ _ [] _ ready here) asks)
     (λ roomier. keeps_roomier book c.args.lane c.index_mut.result.now _ book.touched c.requires.lane read c.requires.book roomier)
     c.ask_batch.ensures.ok c.ask_batch.ensures.err
+
+pub returns-clause-reserved : goal.returns-clause-reserved
+returns-clause-reserved g c =
+    let book = c.args.self.now in
+    on_ok c.ask_batch.result (λ asks some. logged_need c.args.k book c.args.lane c.index_mut.result.now _ book.touched c.args.call.now _ _ [] _ c.requires.lane
+    (lane_read book c.args.lane c.index_mut.result.now c.requires.lane c.index_mut.ensures.value) c.requires.nothing c.requires.book (ap is_logged c.requires.call) (sym (ap (promised_by c.args.k) c.requires.call)) (omega (arith, some)) asks) c.ask_batch.ensures.ok

@@ -10,6 +10,8 @@ use Rattle.lane_book.specs.FacesOf.{lane_at}
 use Rattle.lane_book.proofs.Faces.{lane_read}
 use Rattle.lane_book.proofs.Asking.{asks_at, ask_row, commit_asks}
 use Rattle.lane_book.proofs.Keeps.{ready_of, keeps_asked, plain_stored}
+use Rattle.lane_book.proofs.Promising.{free_need}
+use Rattle.lane_book.specs.Appends.{ReservesNeed}
 use Rattle.lane_book.proofs.book.Book.ask_commit.Goals as goal
 
 pub returns-clause-is : goal.returns-clause-is
@@ -38,3 +40,11 @@ returns-clause-book g c =
     (keeps_asked book c.args.lane lane (committing c.args.lane c.args.deed c.args.writes lane) book.touched (Call.Commit c.args.deed) _ [] [] 0 c.requires.lane
     refl c.requires.nothing c.requires.book (λ ready here. plain_stored lane _ _ _ [] 0 ready here)
     (commit_asks lane (entry_of c.args.lane c.args.deed c.args.writes lane)))
+
+pub returns-clause-reserved : goal.returns-clause-reserved
+returns-clause-reserved g c =
+    let book = c.args.self.now in
+    let lane = lane_at book c.args.lane in
+    λ k. subst (λ (b : Book _). ReservesNeed k (Call.Commit c.args.deed) book b c.args.lane) (sym (returns-clause-is g c))
+    (free_need k book c.args.lane lane (committing c.args.lane c.args.deed c.args.writes lane) book.touched (Call.Commit c.args.deed) _ [] [] c.requires.lane
+    refl c.requires.nothing c.requires.book refl (commit_asks lane (entry_of c.args.lane c.args.deed c.args.writes lane)))

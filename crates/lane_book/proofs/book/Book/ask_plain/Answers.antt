@@ -3,6 +3,7 @@ use Rattle.std.proofs.Common.{[]}
 use Rattle.lane_book.proofs.Faces.{lane_read}
 use Rattle.lane_book.proofs.Asking.{on_ok, on_err, asked_book, roomier_book}
 use Rattle.lane_book.proofs.Keeps.{ready_of, by_result, keeps_asked, keeps_roomier, plain_about}
+use Rattle.lane_book.proofs.Promising.{free_need, plain_free}
 use Rattle.lane_book.proofs.book.Book.ask_plain.Goals as goal
 
 pub returns-clause-ok : goal.returns-clause-ok
@@ -26,3 +27,10 @@ returns-clause-book g c =
     (λ ready here. plain_about _ (lane_at book c.args.lane) _ c.args.call.now c.args.doing 0 c.requires.plain c.requires.phase (c.requires.book c.args.lane) ready here) asks)
     (λ roomier. keeps_roomier book c.args.lane c.index_mut.result.now _ book.touched c.requires.lane read c.requires.book roomier)
     c.ask_plain.ensures.ok c.ask_plain.ensures.err
+
+pub returns-clause-reserved : goal.returns-clause-reserved
+returns-clause-reserved g c =
+    let book = c.args.self.now in
+    on_ok c.ask_plain.result (λ asks k. free_need k book c.args.lane c.index_mut.result.now _ book.touched c.args.call.now c.args.doing [] [] c.requires.lane
+    (lane_read book c.args.lane c.index_mut.result.now c.requires.lane c.index_mut.ensures.value) c.requires.nothing c.requires.book
+    (plain_free c.args.call.now c.args.doing c.requires.plain) asks) c.ask_plain.ensures.ok

@@ -1,9 +1,10 @@
 use Rattle.lane_book.specs.FacesOf.{lane_at}
-use Rattle.std.proofs.Common.{[]}
+use Rattle.std.proofs.Common.{[], refl, arith}
 use Rattle.lane_types.specs.declared.call.Call.TheVariants as Call
 use Rattle.lane_book.proofs.Faces.{lane_read}
 use Rattle.lane_book.proofs.Asking.{asked_book, roomier_book}
 use Rattle.lane_book.proofs.Keeps.{ready_of, keeps_asked, keeps_roomier, waits}
+use Rattle.lane_book.proofs.Promising.{logged_need}
 use Rattle.lane_book.proofs.book.Book.ask_take.Goals as goal
 
 pub returns-in-Ok-clause-ok : goal.returns-in-Ok-clause-ok
@@ -30,3 +31,9 @@ returns-in-Err-clause-book g c =
     let book = c.args.self.now in
     keeps_roomier book c.args.lane c.index_mut.result.now _ book.touched c.requires.lane
     (lane_read book c.args.lane c.index_mut.result.now c.requires.lane c.index_mut.ensures.value) c.requires.book c.in-Err.ensures.err
+
+pub returns-in-Ok-clause-reserved : goal.returns-in-Ok-clause-reserved
+returns-in-Ok-clause-reserved g c =
+    let book = c.args.self.now in
+    λ k. logged_need k book c.args.lane c.index_mut.result.now _ book.touched (Call.Take c.args.structure) _ _ [] 2 c.requires.lane
+    (lane_read book c.args.lane c.index_mut.result.now c.requires.lane c.index_mut.ensures.value) c.requires.nothing c.requires.book refl refl (omega arith) c.in-Ok.ensures.ok

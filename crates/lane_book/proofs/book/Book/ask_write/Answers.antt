@@ -1,9 +1,10 @@
 use Rattle.lane_book.specs.FacesOf.{lane_at}
-use Rattle.std.proofs.Common.{[]}
+use Rattle.std.proofs.Common.{[], refl, arith}
 use Rattle.lane_types.specs.declared.call.Call.TheVariants as Call
 use Rattle.lane_book.proofs.Faces.{lane_read}
 use Rattle.lane_book.proofs.Asking.{on_ok, on_err, asked_book, roomier_book}
 use Rattle.lane_book.proofs.Keeps.{ready_of, by_result, keeps_asked, keeps_roomier, write_about}
+use Rattle.lane_book.proofs.Promising.{logged_need}
 use Rattle.lane_book.proofs.book.Book.ask_write.Goals as goal
 
 pub returns-clause-ok : goal.returns-clause-ok
@@ -27,3 +28,9 @@ returns-clause-book g c =
     (λ ready here. write_about (lane_at book c.args.lane) _ _ _ _ 2 ready here) asks)
     (λ roomier. keeps_roomier book c.args.lane c.index_mut.result.now _ book.touched c.requires.lane read c.requires.book roomier)
     c.ask_write.ensures.ok c.ask_write.ensures.err
+
+pub returns-clause-reserved : goal.returns-clause-reserved
+returns-clause-reserved g c =
+    let book = c.args.self.now in
+    on_ok c.ask_write.result (λ asks k. logged_need k book c.args.lane c.index_mut.result.now _ book.touched (Call.Write c.args.a c.args.v) _ _ _ 2 c.requires.lane
+    (lane_read book c.args.lane c.index_mut.result.now c.requires.lane c.index_mut.ensures.value) c.requires.nothing c.requires.book refl refl (omega arith) asks) c.ask_write.ensures.ok

@@ -4,6 +4,7 @@ use Rattle.lane_types.specs.declared.call.Stepped.TheVariants as Stepped
 use Rattle.lane_book.specs.declared.lane.Lane.{Lane}
 use Rattle.lane_book.specs.Lanes.{closed, stored_all, with_lane}
 use Rattle.lane_book.specs.FacesOf.{lane_at}
+use Rattle.lane_book.specs.Books.{ends}
 use Rattle.lane_book.proofs.Faces.{lane_read}
 use Rattle.lane_book.proofs.Rows.{steps_if_at}
 use Rattle.lane_book.proofs.Keeps.{keeps_lane}
@@ -28,4 +29,4 @@ pub returns-clause-book : goal.returns-clause-book
 returns-clause-book g c =
     let book = c.args.self.now in
     keeps_lane book _ c.args.lane _ c.args.touched c.requires.lane (returns-clause-is g c) c.requires.book
-    (batched_keeps _ (lane_at book c.args.lane))
+    (batched_keeps _ (lane_at book c.args.lane) (ap ends c.requires.doing))

@@ -1,4 +1,4 @@
-use Rattle.std.proofs.Common.{None, subst, ◌∙◌, sym, ap, length, List}
+use Rattle.std.proofs.Common.{None, subst, ◌∙◌, sym, ap, length, List, refl}
 use Rattle.lane_book.specs.declared.lane.Doing.TheVariants as Doing
 use Rattle.lane_book.specs.Books.{IsAboutIt, IsEmptied}
 use Rattle.lane_traits.specs.declared.draft.WordWrite.{WordWrite}
@@ -17,4 +17,4 @@ pub returns-clause-book : goal.returns-clause-book
 returns-clause-book g c =
     let book = c.args.self.now in
     let lane = lane_at book c.args.lane in
-    keeps_lane book _ c.args.lane _ None c.requires.lane c.close.ensures c.requires.book (λ is. let cleared : IsEmptied lane = subst (IsAboutIt lane) c.requires.doing is.about in closed_keeps _ _ Doing.Checkpoint lane c.requires.doing is (cleared.stored_gone ∙ sym (ap (λ (ws : List WordWrite). length ws) cleared.writes_gone)) (λ e. cleared))
+    keeps_lane book _ c.args.lane _ None c.requires.lane c.close.ensures c.requires.book (λ is. let cleared : IsEmptied lane = subst (IsAboutIt lane) c.requires.doing is.about in closed_keeps _ _ Doing.Checkpoint lane c.requires.doing refl is (cleared.stored_gone ∙ sym (ap (λ (ws : List WordWrite). length ws) cleared.writes_gone)) (λ e. cleared))

@@ -8,7 +8,7 @@ use Rattle.lane_book.proofs.Faces.{lane_read}
 use Rattle.lane_book.proofs.Rows.{steps_at}
 use Rattle.lane_book.proofs.Keeps.{keeps_lane}
 use Rattle.lane_book.proofs.Reserving.{falls}
-use Rattle.lane_book.proofs.Appending.{logged_row, compensation_cells}
+use Rattle.lane_book.proofs.Appending.{rolled_cells, logged_row, compensation_cells}
 use Rattle.lane_book.proofs.book.Book.compensation_stored.Goals as goal
 
 pub log_compensation-requires : goal.log_compensation-requires
@@ -40,4 +40,4 @@ pub returns-clause-book : goal.returns-clause-book
 returns-clause-book g c =
     let book = c.args.self.now in
     keeps_lane book _ c.args.lane (moved c.args.part (with_compensation (lane_at book c.args.lane))) None c.requires.lane (returns-clause-is g c) c.requires.book
-    (λ is. record { behind = is.behind; points = is.points; about = is.about; out = is.out })
+    (λ is. record { behind = is.behind; points = is.points; rising = is.rising; about = is.about; cells = rolled_cells c.requires.compensation.is_open.records is.cells; out = is.out })

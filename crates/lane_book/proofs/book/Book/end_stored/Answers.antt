@@ -9,7 +9,7 @@ use Rattle.lane_book.proofs.Faces.{lane_read}
 use Rattle.lane_book.proofs.Rows.{steps_at}
 use Rattle.lane_book.proofs.Keeps.{keeps_lane}
 use Rattle.lane_book.proofs.Reserving.{falls}
-use Rattle.lane_book.proofs.Appending.{logged_row, end_cells}
+use Rattle.lane_book.proofs.Appending.{ended_cells, logged_row, end_cells}
 use Rattle.lane_book.proofs.book.Book.end_stored.Goals as goal
 
 pub returns-clause-is : goal.returns-clause-is
@@ -36,4 +36,4 @@ pub returns-clause-book : goal.returns-clause-book
 returns-clause-book g c =
     let book = c.args.self.now in
     keeps_lane book _ c.args.lane (moved c.args.part (with_end (lane_at book c.args.lane))) None c.requires.lane (returns-clause-is g c) c.requires.book
-    (λ is. record { behind = is.behind; points = is.points; about = is.about; out = is.out })
+    (λ is. record { behind = is.behind; points = is.points; rising = is.rising; about = is.about; cells = ended_cells c.requires.end.call is.cells; out = is.out })

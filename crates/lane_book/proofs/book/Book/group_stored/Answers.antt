@@ -8,7 +8,7 @@ use Rattle.lane_book.proofs.Faces.{lane_read}
 use Rattle.lane_book.proofs.Rows.{steps_at}
 use Rattle.lane_book.proofs.Keeps.{keeps_lane}
 use Rattle.lane_book.proofs.Reserving.{falls}
-use Rattle.lane_book.proofs.Appending.{logged_row, group_cells}
+use Rattle.lane_book.proofs.Appending.{logged_cells, logged_row, group_cells}
 use Rattle.lane_book.proofs.book.Book.group_stored.Goals as goal
 
 pub log_group-requires : goal.log_group-requires
@@ -40,4 +40,4 @@ pub returns-clause-book : goal.returns-clause-book
 returns-clause-book g c =
     let book = c.args.self.now in
     keeps_lane book _ c.args.lane (moved c.args.part (with_group c.args.updates.now c.args.spare (lane_at book c.args.lane))) None c.requires.lane (returns-clause-is g c) c.requires.book
-    (λ is. record { behind = is.behind; points = is.points; about = is.about; out = is.out })
+    (λ is. record { behind = is.behind; points = is.points; rising = is.rising; about = is.about; cells = logged_cells _ is.cells; out = is.out })

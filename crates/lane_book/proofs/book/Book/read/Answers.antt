@@ -1,4 +1,4 @@
-use Rattle.std.proofs.Common.{None, subst}
+use Rattle.std.proofs.Common.{None, subst, refl}
 use Rattle.lane_book.specs.declared.lane.Doing.TheVariants as Doing
 use Rattle.lane_book.specs.Books.{IsAboutIt}
 use Rattle.lane_book.specs.FacesOf.{lane_at}
@@ -16,4 +16,4 @@ pub returns-clause-book : goal.returns-clause-book
 returns-clause-book g c =
     let book = c.args.self.now in
     let lane = lane_at book c.args.lane in
-    keeps_lane book _ c.args.lane _ None c.requires.lane c.close.ensures c.requires.book (λ is. closed_keeps _ _ (Doing.Read c.args.a) lane c.requires.doing is (subst (IsAboutIt lane) c.requires.doing is.about) (λ e. cc))
+    keeps_lane book _ c.args.lane _ None c.requires.lane c.close.ensures c.requires.book (λ is. closed_keeps _ _ (Doing.Read c.args.a) lane c.requires.doing refl is (subst (IsAboutIt lane) c.requires.doing is.about) (λ e. cc))

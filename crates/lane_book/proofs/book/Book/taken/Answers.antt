@@ -1,7 +1,8 @@
-use Rattle.std.proofs.Common.{None}
+use Rattle.std.proofs.Common.{None, ap}
 use Rattle.lane_book.specs.FacesOf.{lane_at}
 use Rattle.lane_types.specs.declared.call.Reply.TheVariants as Reply
 use Rattle.lane_types.specs.declared.call.Stepped.TheVariants as Stepped
+use Rattle.lane_book.specs.Books.{ends}
 use Rattle.lane_book.proofs.Rows.{steps_if_at}
 use Rattle.lane_book.proofs.WordRows.{take_row}
 use Rattle.lane_book.proofs.Keeps.{keeps_lane, stored_keeps}
@@ -15,4 +16,4 @@ pub returns-clause-book : goal.returns-clause-book
 returns-clause-book g c =
     let book = c.args.self.now in
     let lane = lane_at book c.args.lane in
-    keeps_lane book _ c.args.lane _ None c.requires.lane c.store.ensures c.requires.book (stored_keeps _ _ lane _ c.requires.next (λ e. cc))
+    keeps_lane book _ c.args.lane _ None c.requires.lane c.store.ensures c.requires.book (stored_keeps _ _ lane _ c.requires.next (λ e. cc) (ap ends c.requires.doing))

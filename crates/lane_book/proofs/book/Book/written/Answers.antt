@@ -1,6 +1,8 @@
+use Rattle.std.proofs.Common.{ap}
 use Rattle.lane_book.specs.FacesOf.{lane_at}
 use Rattle.lane_types.specs.declared.call.Reply.TheVariants as Reply
 use Rattle.lane_types.specs.declared.call.Stepped.TheVariants as Stepped
+use Rattle.lane_book.specs.Books.{ends}
 use Rattle.lane_book.proofs.Rows.{steps_if_at}
 use Rattle.lane_book.proofs.WordRows.{written_row}
 use Rattle.lane_book.proofs.Keeps.{keeps_lane, stored_keeps, next_of}
@@ -14,4 +16,4 @@ pub returns-clause-book : goal.returns-clause-book
 returns-clause-book g c =
     let book = c.args.self.now in
     let lane = lane_at book c.args.lane in
-    keeps_lane book _ c.args.lane _ c.args.touched c.requires.lane c.store.ensures c.requires.book (stored_keeps _ _ lane _ (next_of _ (lane_at c.args.self.now c.args.lane) c.args.a c.args.v c.requires.doing (c.requires.book c.args.lane)) (λ e. cc))
+    keeps_lane book _ c.args.lane _ c.args.touched c.requires.lane c.store.ensures c.requires.book (stored_keeps _ _ lane _ (next_of _ (lane_at c.args.self.now c.args.lane) c.args.a c.args.v c.requires.doing (c.requires.book c.args.lane)) (λ e. cc) (ap ends c.requires.doing))
