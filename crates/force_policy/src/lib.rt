@@ -4,8 +4,6 @@
 mod ending;
 pub mod laws;
 mod naming;
-#[cfg(test)]
-mod tests;
 
 pub use ending::{abort_part, commit_part};
 pub use naming::{give_part, write_part};

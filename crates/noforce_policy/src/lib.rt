@@ -4,8 +4,6 @@
 mod calls;
 mod checkpoint;
 pub mod laws;
-#[cfg(test)]
-mod tests;
 
 pub use calls::{abort_part, commit_part, give_part, write_part};
 pub use checkpoint::{Sweep, checkpoint_part};

@@ -1,0 +1,9 @@
+//! The plans of both policies, event by event, on a small region.
+#![tactic(auto)]
+
+#[cfg(test)]
+mod events;
+#[cfg(test)]
+mod force_tests;
+#[cfg(test)]
+mod noforce_tests;
