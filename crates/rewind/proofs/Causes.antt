@@ -1,6 +1,5 @@
 -- Why a call ended with a status.
-use Rattle.std.proofs.Common.{◌≡◌, ◌≢◌, ◌⊎◌, inl, inr, ℕ, ◌<◌, List, length, refl, sym, ◌∙◌, ap, subst, arith, Option, Some, ◌++◌, IfSome}
-use Rattle.persist_model.specs.Region.{Region}
+use Rattle.std.proofs.Common.{◌≡◌, ◌≢◌, ◌⊎◌, inl, inr, ℕ, ◌<◌, List, length, refl, sym, ◌∙◌, ap, subst, arith, Some}
 use Rattle.persist_model.specs.ImageRules.{rule_number}
 use Rattle.image_text.specs.declared.image.Image.{Image}
 use Rattle.image_text.specs.Grammar.{IsTextOf}

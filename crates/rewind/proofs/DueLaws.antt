@@ -1,5 +1,5 @@
 -- Each input has one due status for each job.
-use Rattle.std.proofs.Common.{◌≡◌, ◌⊎◌, inl, inr, ⊎_elim, ℕ, ◌<◌, ◌≤◌, List, length, refl, sym, ◌∙◌, subst, arith, slice_index}
+use Rattle.std.proofs.Common.{◌≡◌, ◌⊎◌, inl, inr, ⊎_elim, ℕ, ◌<◌, ◌≤◌, List, length, sym, ◌∙◌, subst, arith, slice_index}
 use Rattle.std.proofs.lemmas.Bool.{cases_lt}
 use Rattle.persist_model.specs.Region.{Words}
 use Rattle.persist_model.specs.Shape.{Shape, shape_of, heap}
@@ -19,10 +19,9 @@ use Rattle.image_runner.proofs.Excluding.{refused_admitted, report_image}
 use Rattle.image_runner.proofs.Deciding.{rule_trial, LineTrial, fits, faulty, line_trial, standing_words, maps_or_broken}
 use Rattle.rewind.specs.declared.status.Status.{Status}
 use Rattle.rewind.specs.declared.status.Status.TheVariants as status
-use Rattle.rewind.specs.declared.words.Job.{Job}
 use Rattle.rewind.specs.declared.words.Job.TheVariants as job
 use Rattle.rewind.specs.Words.{IMAGE_LIMIT}
-use Rattle.rewind.specs.Due.{due, IsDue, long, misread, refused, broken, reported, imaged, IsDueOf, HasOneDue, HaveOneDue, HaveSameDue}
+use Rattle.rewind.specs.Due.{due, IsDue, long, misread, refused, broken, reported, imaged, HaveOneDue, HaveSameDue}
 use Rattle.rewind.proofs.Recoveries.{ok_same, refused_due, misread_due, broken_due, done_due}
 
 -- ---- one at most

@@ -1,5 +1,5 @@
 -- What the end of a recovery says of the status.
-use Rattle.std.proofs.Common.{◌≡◌, ◌⊎◌, inl, ℕ, ◌≤◌, List, length, sym, ◌∙◌, ap, subst, arith}
+use Rattle.std.proofs.Common.{◌≡◌, ◌⊎◌, inl, ℕ, ◌≤◌, List, length, sym, ap, subst, arith}
 use Rattle.persist_model.specs.Region.{Words, Region}
 use Rattle.persist_model.specs.Shape.{shape_of, heap}
 use Rattle.lane_traits.specs.Device.{Counts}

@@ -1,7 +1,7 @@
 -- What a call of the program did: what it took and wrote, the status with its cause, and what became of the region.
-use Rattle.std.specs.Prelude.{◌≡◌, ◌⊎◌, ℕ, ◌<◌, ◌≤◌, List, [], ◌++◌, length, Option, Some, None, Ok, Err, codes, decimal, IfSome, if◌then◌else◌, nat_lt}
+use Rattle.std.specs.Prelude.{◌≡◌, ◌⊎◌, ℕ, ◌<◌, ◌≤◌, List, [], ◌++◌, length, Option, Some, None, codes, decimal, IfSome}
 use Rattle.persist_model.specs.ImageRules.{MAP_RULE, rule_number}
-use Rattle.persist_model.specs.Region.{Words, Region}
+use Rattle.persist_model.specs.Region.{Region}
 use Rattle.lane_traits.specs.Stream.{HasRisen, TakesPart}
 use Rattle.lane_traits.specs.Device.{Counts, since_load}
 use Rattle.rewind.specs.declared.status.Status.{Status}
@@ -14,13 +14,8 @@ use Rattle.rewind.specs.declared.words.Job.TheVariants as job
 use Rattle.image_runner.specs.declared.runner.Wanted.{Wanted}
 use Rattle.image_runner.specs.declared.runner.Ended.{Ended}
 use Rattle.image_runner.specs.declared.runner.Ended.TheVariants as ended
-use Rattle.image_runner.specs.declared.runner.Wanted.TheVariants as want
-use Rattle.image_text.specs.declared.image.Image.{Image}
-use Rattle.image_text.specs.Grammar.{IsTextOf, BreaksAt}
-use Rattle.persist_model.specs.Shape.{shape_of, heap}
-use Rattle.image_runner.specs.Ends.{words_of, AreStanding, IsAdmitted, IsRefusedBy, IsEndOf}
-use Rattle.image_runner.specs.Maps.{AreMaps, IsFirstBroken}
-use Rattle.rewind.specs.Words.{AreRun, AreWordsOf, AreKnown, SCRIPT_LIMIT, IMAGE_LIMIT, limit_of}
+use Rattle.image_runner.specs.Ends.{IsEndOf}
+use Rattle.rewind.specs.Words.{AreRun, AreWordsOf, AreKnown, limit_of}
 use Rattle.rewind_script.specs.Grammar.{script as meaning_of_text}
 use Rattle.rewind.specs.declared.served.Wrong.{Wrong}
 use Rattle.rewind.specs.Served.{script as script_of_text, IsWrong, wrong_text, IsInLimits}
