@@ -46,12 +46,12 @@ either : (s t : Bool) → s || t ≡ true → (s ≡ true) ⊎ (t ≡ true)
 either true t h = inl refl
 either false t h = inr h
 
-in_told : (gates : List ℕ) (a : ℕ) → IsAmong gates a → is_in gates a ≡ true
+pub in_told : (gates : List ℕ) (a : ℕ) → IsAmong gates a → is_in gates a ≡ true
 in_told [] a m = absurd m
 in_told (b ∷ gates) a (inl e) = elim (eqb_tells b a) [ inl h ↦ either_left (b == a) (is_in gates a) h.0 | inr h ↦ absurd (h.1 (sym e)) ]
 in_told (b ∷ gates) a (inr m) = either_right (b == a) (is_in gates a) (in_told gates a m)
 
-in_found : (gates : List ℕ) (a : ℕ) → is_in gates a ≡ true → IsAmong gates a
+pub in_found : (gates : List ℕ) (a : ℕ) → is_in gates a ≡ true → IsAmong gates a
 in_found [] a h = absurd (cc)
 in_found (b ∷ gates) a h = elim (eqb_tells b a) [
   | inl e ↦ inl (sym e.1)

@@ -6,3 +6,5 @@ pub mod Ledgers
 pub mod Reading
 pub mod Noting
 pub mod Sounding
+pub mod Searching
+pub mod SlotLists

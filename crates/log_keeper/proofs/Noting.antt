@@ -1,9 +1,8 @@
 -- The code's ledger and the plain one.
-use Rattle.std.proofs.Common.{◌≡◌, ℕ, ◌==◌, ◌||◌, Bool, true, false, not, filter, if◌then◌else◌, List, [], ◌∷◌, ◌++◌, map, refl, sym, ap, ◌∙◌}
-use Rattle.std.specs.List.{list_any}
+use Rattle.std.proofs.Common.{◌≡◌, ℕ, ◌==◌, Bool, true, false, not, filter, if◌then◌else◌, List, [], ◌∷◌, ◌++◌, map, take, drop, length, arith, refl, sym, ap, ◌∙◌}
 use Rattle.log_keeper.specs.declared.ledger.Progress.{Progress}
 use Rattle.log_keeper.specs.declared.ledger.Entry.{Entry}
-use Rattle.log_keeper.specs.Ledger.{Stage, Noted, staged, with_stage, is_in, is_listed, without}
+use Rattle.log_keeper.specs.Ledger.{Stage, Noted, staged, with_stage, is_listed, without}
 use Rattle.log_keeper.specs.Noting.{stage_of, noted_of, ledger_of, staged_entry, is_kept}
 
 pub ledger-push : (entries : List Entry) (x : Entry) → ledger_of (entries ++ x ∷ []) ≡ noted_of x ∷ ledger_of entries
@@ -28,13 +27,8 @@ ledger-staged n stage (x ∷ entries) =
     ∙ ap (λ y. with_stage n (stage_of stage) (ledger_of entries) ++ y ∷ []) (one_staged n stage x)
     ∙ sym (with_stage-append n (stage_of stage) (ledger_of entries) (noted_of x ∷ []))
 
-any_in : (gates : List ℕ) (a : ℕ) → list_any (λ b. b == a) gates ≡ is_in gates a
-any_in [] a = refl
-any_in (b ∷ gates) a = ap (λ t. (b == a) || t) (any_in gates a)
-
 kept_is : (gates ends checkpoints : List ℕ) (x : Entry) → is_kept gates ends checkpoints x ≡ not (is_listed gates ends checkpoints (noted_of x).entry.at)
-kept_is gates ends checkpoints x = let e = any_in gates x.placed.at in let f = any_in ends x.placed.at in let g = any_in checkpoints x.placed.at in
-    λ i. not (e i || (f i || g i))
+kept_is gates ends checkpoints x = refl
 
 without-append : (gates ends checkpoints : List ℕ) (xs ys : List Noted) → without gates ends checkpoints (xs ++ ys) ≡ without gates ends checkpoints xs ++ without gates ends checkpoints ys
 without-append gates ends checkpoints [] ys = refl
@@ -63,3 +57,12 @@ ledger-kept gates ends checkpoints (x ∷ entries) =
     by true false e rest = ap (λ l. l ++ noted_of x ∷ []) rest
     by false true e rest = rest ∙ sym (append_none (without gates ends checkpoints (ledger_of entries)))
     by false false e rest = absurd (cc)
+
+-- a slice that was written whole
+whole : {X : Type 0} (xs ys : List X) → length ys ≡ length xs → take (length xs) (xs ++ drop (length xs) ys) ≡ xs
+whole [] ys e = refl
+whole (x ∷ xs) [] e = absurd (omega (arith, e))
+whole (x ∷ xs) (y ∷ ys) e = ap (λ (zs : List _). x ∷ zs) (whole xs ys (omega (arith, e)))
+
+pub written_whole : {X : Type 0} (xs ys : List X) (n : ℕ) → length ys ≡ length xs → n ≡ length xs → take n (xs ++ drop (length xs) ys) ≡ xs
+written_whole xs ys n same is = ap (λ (m : ℕ). take m (xs ++ drop (length xs) ys)) is ∙ whole xs ys same

@@ -6,3 +6,4 @@ pub mod Slots
 pub mod Fitting
 pub mod Noting
 pub mod Making
+pub mod Keeper

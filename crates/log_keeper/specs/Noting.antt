@@ -1,11 +1,10 @@
 -- The ledger that the code keeps, oldest first, as plain data.
-use Rattle.std.specs.Prelude.{ℕ, Bool, not, ◌==◌, ◌||◌, if◌then◌else◌, List, [], ◌∷◌, ◌++◌}
-use Rattle.std.specs.List.{list_any}
+use Rattle.std.specs.Prelude.{ℕ, Bool, not, ◌==◌, if◌then◌else◌, List, [], ◌∷◌, ◌++◌}
 use Rattle.bucket_log.specs.Scans.{record_of_placed}
 use Rattle.log_keeper.specs.declared.ledger.Progress.{Progress}
 use Rattle.log_keeper.specs.declared.ledger.Progress.TheVariants.{Drawn as IsDrawn, Stored as IsStored, Settled as IsSettled}
 use Rattle.log_keeper.specs.declared.ledger.Entry.{Entry}
-use Rattle.log_keeper.specs.Ledger.{Stage, Drawn, Stored, Settled, Noted}
+use Rattle.log_keeper.specs.Ledger.{Stage, Drawn, Stored, Settled, Noted, is_listed}
 
 abbrev pub stage_of : Progress → Stage
 stage_of IsDrawn = Drawn
@@ -26,4 +25,4 @@ staged_entry n stage x = record { lane = x.lane; placed = x.placed; stage = if x
 -- whether an entry's gate is none of these
 abbrev pub is_kept : List ℕ → List ℕ → List ℕ → Entry → Bool
 is_kept gates ends checkpoints x =
-    not (list_any (λ b. b == x.placed.at) gates || (list_any (λ b. b == x.placed.at) ends || list_any (λ b. b == x.placed.at) checkpoints))
+    not (is_listed gates ends checkpoints x.placed.at)

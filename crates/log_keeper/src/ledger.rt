@@ -1,11 +1,10 @@
 ghost use Rattle.std.specs.Prelude.{◌≡◌, ◌<◌, ◌≤◌, ◌+◌, ◌++◌, [], ◌∷◌, ◌==◌, map, filter};
-ghost use Rattle.std.specs.List.{list_any};
 ghost use Rattle.std.specs.Vec.{vec_len, vec_capacity};
-ghost use Rattle.log_keeper.specs.Ledger.{with_stage, without};
+ghost use Rattle.log_keeper.specs.Ledger.{with_stage, is_in, without};
+ghost use Rattle.log_keeper.specs.Slots.{AreAscending};
 ghost use Rattle.log_keeper.specs.Noting.{stage_of, noted_of, ledger_of, staged_entry, is_kept};
 
 use bucket_log::Placed;
-use log_clearing::ClearList;
 
 /// How far a record has come: its number is drawn, its gate is stored, or that is fenced.
 #[derive(Clone, Copy, Debug, PartialEq, Eq)]
@@ -50,10 +49,7 @@ fn put(ledger: &mut Vec<Entry>, entry: Entry)
     ensures len { vec_len ledger.new ≡ vec_len ledger.old + 1 }
     ensures capacity { vec_capacity ledger.old ≤ vec_capacity ledger.new }
 {
-    match ledger.push(entry) {
-        Ok(()) => {}
-        Err(_) => {}
-    }
+    ledger.push_reserved(entry);
 }
 
 /// A record is noted, in memory that was taken before.
@@ -67,41 +63,50 @@ pub fn note(ledger: &mut Vec<Entry>, entry: Entry)
 }
 
 /// The record of this number comes to a stage.
-pub fn come_to(ledger: &mut [Entry], number: u64, stage: Progress)
-    ensures { ledger_of ledger.new ≡ with_stage number (stage_of stage) (ledger_of ledger.old) }
+pub fn come_to(ledger: &mut Vec<Entry>, number: u64, stage: Progress)
+    ensures ledger { ledger_of ledger.new.items ≡ with_stage number (stage_of stage) (ledger_of ledger.old.items) }
+    ensures capacity { vec_capacity ledger.new ≡ vec_capacity ledger.old }
 {
-    stage_all(ledger, number, stage)
+    stage_all(ledger.as_mut_slice(), number, stage)
 }
 
-// Whether a is one of these gates.
+// Whether a is one of these gates, which ascend.
 fn is_gate(gates: &[u32], a: u32) -> bool
-    ensures { result ≡ list_any (λ b. b == a) gates.now }
+    requires { AreAscending gates.now }
+    ensures { result ≡ is_in gates.now a }
 {
-    gates.iter().any(|b| *b == a)
+    gates.binary_search(&a).is_ok()
 }
 
 // Whether the entry's gate is none of those that are closed.
-fn stays_open(list: &ClearList, entry: Entry) -> bool
-    ensures { result ≡ is_kept list.now.gates list.now.ends list.now.checkpoints entry }
+fn stays_open(gates: &[u32], ends: &[u32], checkpoints: &[u32], entry: Entry) -> bool
+    requires gates { AreAscending gates.now }
+    requires ends { AreAscending ends.now }
+    requires checkpoints { AreAscending checkpoints.now }
+    ensures { result ≡ is_kept gates.now ends.now checkpoints.now entry }
 {
     let a = entry.placed.at;
-    !(is_gate(list.gates.as_slice(), a)
-        || is_gate(list.ends.as_slice(), a)
-        || is_gate(list.checkpoints.as_slice(), a))
+    !(is_gate(gates, a) || is_gate(ends, a) || is_gate(checkpoints, a))
 }
 
 // The entries whose gates aren't closed.
-fn keep_open(ledger: &mut Vec<Entry>, list: &ClearList)
-    ensures items { ledger.new.items ≡ filter (is_kept list.now.gates list.now.ends list.now.checkpoints) ledger.old.items }
+fn keep_open(ledger: &mut Vec<Entry>, gates: &[u32], ends: &[u32], checkpoints: &[u32])
+    requires gates { AreAscending gates.now }
+    requires ends { AreAscending ends.now }
+    requires checkpoints { AreAscending checkpoints.now }
+    ensures items { ledger.new.items ≡ filter (is_kept gates.now ends.now checkpoints.now) ledger.old.items }
     ensures capacity { vec_capacity ledger.new ≡ vec_capacity ledger.old }
 {
-    ledger.retain(|entry| stays_open(list, *entry));
+    ledger.retain(|entry| stays_open(gates, ends, checkpoints, *entry));
 }
 
-/// The listed records are closed, and leave the ledger.
-pub fn close_listed(ledger: &mut Vec<Entry>, list: &ClearList)
-    ensures ledger { ledger_of ledger.new.items ≡ without list.now.gates list.now.ends list.now.checkpoints (ledger_of ledger.old.items) }
+/// The listed records are closed, and leave the ledger. Each list ascends, so that an entry is looked up in it.
+pub fn close_listed(ledger: &mut Vec<Entry>, gates: &[u32], ends: &[u32], checkpoints: &[u32])
+    requires gates { AreAscending gates.now }
+    requires ends { AreAscending ends.now }
+    requires checkpoints { AreAscending checkpoints.now }
+    ensures ledger { ledger_of ledger.new.items ≡ without gates.now ends.now checkpoints.now (ledger_of ledger.old.items) }
     ensures capacity { vec_capacity ledger.new ≡ vec_capacity ledger.old }
 {
-    keep_open(ledger, list)
+    keep_open(ledger, gates, ends, checkpoints)
 }

@@ -1,34 +1,40 @@
-ghost use Rattle.std.specs.Prelude.{◌≡◌, ◌<◌, ◌≤◌, ◌+◌, ◌^◌, IsTrue, option_map, slice_get};
+ghost use Rattle.std.specs.Prelude.{◌≡◌, ◌<◌, ◌≤◌, ◌+◌, ◌^◌, option_map, slice_get, length};
+ghost use Rattle.std.specs.Vec.{vec_capacity};
 ghost use Rattle.persist_model.specs.Chain.{out_event};
 ghost use Rattle.region_layout.specs.Layout.{layout_shape};
-ghost use Rattle.log_keeper.specs.Logged.{one_more, begun, resting};
-ghost use Rattle.log_keeper.specs.Parts.{plan_of};
-ghost use Rattle.log_keeper.specs.Slots.{part_with, run_with};
+ghost use Rattle.log_keeper.specs.Logged.{begun};
+ghost use Rattle.log_keeper.specs.Parts.{plan_of, closes, takes_back};
+ghost use Rattle.log_keeper.specs.Slots.{run_of_slot, with_part, HasRoomFor};
 ghost use Rattle.log_keeper.specs.Fitting.{FitsLayout};
+ghost use Rattle.log_keeper.specs.Making.{is_over};
 
+use crate::closing::{closing_event, gates_event};
 use atomic_list::{Remove, remove_event};
 use bucket_log::{Place, append_event};
-use log_clearing::{ClearList, clear_event};
 use log_partition::region_event;
 use persist_model::Event;
 use region_layout::{Cell, Layout};
 
-/// What is under way in a partition. The gates of a closing are the slot's.
+/// What is under way in a partition. The gates that are closed or taken back are the slot's.
 #[derive(Clone, Copy, Debug, PartialEq, Eq)]
 pub enum Part {
     Rest,
     Append(Place, Cell),
     Close,
+    TakeBack,
     Drop(Remove),
 }
 
 /// What the keeper has of a partition: who holds its latch, 17 where it is free, its part, and how many of its events were made.
+#[derive(Drop)]
 pub struct Slot {
     pub holder: u32,
     pub part: Part,
     pub made: u32,
-    /// The group that is being closed.
-    pub closing: ClearList,
+    /// The gates that are being closed of all but ends and checkpoint records, or that are taken back.
+    pub gates: Vec<u32>,
+    pub ends: Vec<u32>,
+    pub checkpoints: Vec<u32>,
 }
 
 // The region's event for one of the partition's view.
@@ -42,49 +48,91 @@ fn out_some(p: u32, e: Option<Event>) -> Option<Event>
     }
 }
 
+// The list gets these gates, in memory that was taken before.
+fn fill(list: &mut Vec<u32>, gates: &[u32])
+    requires { length gates.now ≤ vec_capacity list.old }
+    ensures { list.new.items ≡ gates.now }
+{
+    list.clear();
+    match list.extend_from_slice(gates) {
+        Ok(()) => {}
+        Err(_) => {}
+    }
+}
+
 impl Slot {
-    /// The next event of the partition's part, none behind its last.
-    pub fn next_event(&self, layout: Layout, p: u32) -> Option<Event>
+    /// Event i of the partition's part, none behind its last.
+    pub fn event_at(&self, layout: Layout, p: u32, i: u32) -> Option<Event>
         requires partition { p < 3 }
-        requires fits { FitsLayout layout self.now.part }
-        ensures { result ≡ slice_get (plan_of (layout_shape layout) p (part_with self.now.closing.gates self.now.closing.ends self.now.closing.checkpoints self.now.part)) self.now.made }
+        requires fits { FitsLayout layout (run_of_slot self.now).part }
+        ensures { result ≡ slice_get (plan_of (layout_shape layout) p (run_of_slot self.now).part) i }
     {
         match self.part {
             Part::Rest => None,
-            Part::Append(place, cell) => out_some(p, append_event(layout, place, &cell, self.made)),
-            Part::Close => clear_event(&self.closing, self.made as u64),
-            Part::Drop(r) => out_some(p, remove_event(r, self.made)),
+            Part::Append(place, cell) => out_some(p, append_event(layout, place, &cell, i)),
+            Part::Close => closing_event(
+                self.gates.as_slice(),
+                self.ends.as_slice(),
+                self.checkpoints.as_slice(),
+                i as u64,
+            ),
+            Part::TakeBack => gates_event(self.gates.as_slice(), i as u64),
+            Part::Drop(r) => out_some(p, remove_event(r, i)),
         }
+    }
+
+    /// The part has no more than i events.
+    pub fn is_over(&self, layout: Layout, p: u32, i: u32) -> bool
+        requires partition { p < 3 }
+        requires fits { FitsLayout layout (run_of_slot self.now).part }
+        ensures { result ≡ is_over (plan_of (layout_shape layout) p (run_of_slot self.now).part) i }
+    {
+        self.event_at(layout, p, i).is_none()
     }
 
     /// The next event was made.
     pub fn advance(&mut self)
         requires { self.now.made < 2 ^ 31 }
-        ensures run { run_with self.new.closing.gates self.new.closing.ends self.new.closing.checkpoints self.new.part self.new.made ≡ one_more (run_with self.old.closing.gates self.old.closing.ends self.old.closing.checkpoints self.old.part self.old.made) }
-        ensures holder { self.new.holder ≡ self.old.holder }
-        ensures closing { self.new.closing ≡ self.old.closing }
+        ensures { self.new ≡ with_part self.old.part (self.old.made + 1) self.old }
     {
         self.made += 1;
     }
 
-    /// A lane begins a part.
-    pub fn begin(&mut self, lane: u32, part: Part)
-        ensures run { run_with self.new.closing.gates self.new.closing.ends self.new.closing.checkpoints self.new.part self.new.made ≡ begun (part_with self.old.closing.gates self.old.closing.ends self.old.closing.checkpoints part) }
-        ensures holder { self.new.holder ≡ lane }
-        ensures closing { self.new.closing ≡ self.old.closing }
+    /// A part begins. A group begins by `begin_group`, as its gates are to be listed.
+    pub fn begin(&mut self, part: Part)
+        ensures { self.new ≡ with_part part 0 self.old }
     {
-        self.holder = lane;
         self.part = part;
         self.made = 0;
     }
 
-    /// The part's last event was made.
-    pub fn finish(&mut self)
-        ensures run { run_with self.new.closing.gates self.new.closing.ends self.new.closing.checkpoints self.new.part self.new.made ≡ resting }
+    /// The closing of these gates begins, in memory that was taken before.
+    pub fn begin_group(&mut self, gates: &[u32], ends: &[u32], checkpoints: &[u32])
+        requires { HasRoomFor self.old gates.now ends.now checkpoints.now }
+        ensures run { run_of_slot self.new ≡ begun (closes gates.now ends.now checkpoints.now) }
         ensures holder { self.new.holder ≡ self.old.holder }
-        ensures closing { self.new.closing ≡ self.old.closing }
+        ensures gates { self.new.gates.items ≡ gates.now }
+        ensures ends { self.new.ends.items ≡ ends.now }
+        ensures checkpoints { self.new.checkpoints.items ≡ checkpoints.now }
     {
-        self.part = Part::Rest;
+        fill(&mut self.gates, gates);
+        fill(&mut self.ends, ends);
+        fill(&mut self.checkpoints, checkpoints);
+        self.part = Part::Close;
+        self.made = 0;
+    }
+
+    /// The closing of these deletions, which are taken back, begins, in memory that was taken before.
+    pub fn begin_taking_back(&mut self, gates: &[u32])
+        requires { length gates.now ≤ vec_capacity self.old.gates }
+        ensures run { run_of_slot self.new ≡ begun (takes_back gates.now) }
+        ensures holder { self.new.holder ≡ self.old.holder }
+        ensures gates { self.new.gates.items ≡ gates.now }
+        ensures ends { self.new.ends.items ≡ self.old.ends.items }
+        ensures checkpoints { self.new.checkpoints.items ≡ self.old.checkpoints.items }
+    {
+        fill(&mut self.gates, gates);
+        self.part = Part::TakeBack;
         self.made = 0;
     }
 }

@@ -5,4 +5,4 @@ use Rattle.log_keeper.proofs.ledger.close_listed.Goals as goal
 
 pub returns-clause-ledger : goal.returns-clause-ledger
 returns-clause-ledger c = ap ledger_of c.keep_open.ensures.items
-    ∙ ledger-kept c.args.list.now.gates c.args.list.now.ends c.args.list.now.checkpoints c.args.ledger.now.items
+    ∙ ledger-kept c.args.gates.now c.args.ends.now c.args.checkpoints.now c.args.ledger.now.items

@@ -5,4 +5,4 @@ use Rattle.log_keeper.proofs.ledger.keep_open.Goals as goal
 
 pub returns-clause-items : goal.returns-clause-items
 returns-clause-items c =
-    filter_same _ (is_kept c.args.list.now.gates c.args.list.now.ends c.args.list.now.checkpoints) _ (λ x b f k. search rules) _ _ c.retain.ensures.filtered
+    filter_same _ (is_kept c.args.gates.now c.args.ends.now c.args.checkpoints.now) _ (λ x b f k. search rules) _ _ c.retain.ensures.filtered

@@ -2,8 +2,8 @@ use Rattle.std.proofs.Common.{ap, sym, ◌∙◌, option_map}
 use Rattle.std.proofs.lemmas.Option.{slice_get-map}
 use Rattle.persist_model.specs.Chain.{out_event}
 use Rattle.atomic_list.specs.Plans.{removal}
-use Rattle.log_keeper.proofs.slots.Slot.next_event.Goals as goal
+use Rattle.log_keeper.proofs.slots.Slot.event_at.Goals as goal
 
 pub returns-in-Drop : goal.returns-in-Drop
 returns-in-Drop c = rw c.in-Drop.is (c.out_some-in-Drop.ensures ∙ ap (option_map (out_event c.args.p)) c.remove_event.ensures
-    ∙ sym (slice_get-map (out_event c.args.p) (removal c.in-Drop.r) c.args.self.now.made))
+    ∙ sym (slice_get-map (out_event c.args.p) (removal c.in-Drop.r) c.args.i))

@@ -1,0 +1,195 @@
+ghost use Rattle.std.specs.Prelude.{◌≡◌, ◌<◌, ◌≤◌, ◌+◌, ◌==◌, ◌^◌, length, option_map, slice_get, IfOk, OnOk};
+ghost use Rattle.std.specs.Vec.{vec_len, vec_capacity};
+ghost use Rattle.region_layout.specs.Cell.{record_of};
+ghost use Rattle.region_layout.specs.Layout.{layout_shape};
+ghost use Rattle.bucket_log.specs.Plans.{place_address};
+ghost use Rattle.log_keeper.specs.Fitting.{FitsLayout};
+ghost use Rattle.log_keeper.specs.Parts.{rests, closes, takes_back, drops, plan_of};
+ghost use Rattle.log_keeper.specs.Logged.{plan_in};
+ghost use Rattle.log_keeper.specs.Noting.{ledger_of};
+ghost use Rattle.log_keeper.specs.Slots.{AreAscending, HasAscending, HasRoomFor, run_of_slot};
+ghost use Rattle.log_keeper.specs.Making.{settled_by, stored_if, made_part};
+ghost use Rattle.log_keeper.specs.Keeper.{keeping_of, EachAscends, HasListsFor, HasListFor, numbered, begun_in, appending, latched, latched_if};
+
+use crate::ledger::{Entry, Progress, close_listed, come_to, note};
+use crate::slots::{Part, Slot};
+use atomic_list::Remove;
+use bucket_log::{Place, Placed};
+use persist_model::Event;
+use region_layout::{Cell, Layout};
+
+/// The holder of a latch that is free.
+pub const NOBODY: u32 = 17;
+
+/// The log's keeper: the records of all lanes, what is under way in each partition and who holds its latch, and the next record's number.
+#[derive(Drop)]
+pub struct LogKeeper {
+    /// The records that have numbers and aren't closed, oldest first.
+    pub ledger: Vec<Entry>,
+    /// One for each partition.
+    pub slots: Vec<Slot>,
+    pub next_lsn: u64,
+}
+
+// The part is whole: what it leaves of the ledger.
+fn settle(ledger: &mut Vec<Entry>, slot: &Slot)
+    requires { HasAscending slot.now }
+    ensures ledger { ledger_of ledger.new.items ≡ settled_by (run_of_slot slot.now).part (ledger_of ledger.old.items) }
+    ensures capacity { vec_capacity ledger.new ≡ vec_capacity ledger.old }
+{
+    match slot.part {
+        Part::Rest => {}
+        Part::Append(_, cell) => come_to(ledger, cell.lsn, Progress::Settled),
+        Part::Close => close_listed(
+            ledger,
+            slot.gates.as_slice(),
+            slot.ends.as_slice(),
+            slot.checkpoints.as_slice(),
+        ),
+        Part::TakeBack => close_listed(ledger, slot.gates.as_slice(), &[], &[]),
+        Part::Drop(_) => {}
+    }
+}
+
+// The store of an append's gate was made, if that is the part's last event but one.
+fn store(ledger: &mut Vec<Entry>, slot: &Slot, last_but_one: bool)
+    ensures ledger { ledger_of ledger.new.items ≡ stored_if last_but_one (run_of_slot slot.now).part (ledger_of ledger.old.items) }
+    ensures capacity { vec_capacity ledger.new ≡ vec_capacity ledger.old }
+{
+    if !last_but_one {
+        return;
+    }
+    match slot.part {
+        Part::Append(_, cell) => come_to(ledger, cell.lsn, Progress::Stored),
+        Part::Rest | Part::Close | Part::TakeBack | Part::Drop(_) => {}
+    }
+}
+
+impl LogKeeper {
+    /// The next event of the partition's part, none where nothing is under way.
+    pub fn next_event(&self, layout: Layout, p: u32) -> Option<Event>
+        requires slot { p < length self.now.slots.items }
+        requires partition { p < 3 }
+        requires fits { FitsLayout layout ((keeping_of self.now).runs p).part }
+        ensures { result ≡ slice_get (plan_in (layout_shape layout) (keeping_of self.now) p) ((keeping_of self.now).runs p).made }
+    {
+        let slot = &self.slots[p as usize];
+        slot.event_at(layout, p, slot.made)
+    }
+
+    /// The next event of the partition's part was made. With the store of an append's gate its record is stored, and with the last event of a
+    /// part nothing is under way: an append's record is settled, and those of a closing leave the ledger.
+    pub fn made(&mut self, layout: Layout, p: u32)
+        requires slot { p < length self.old.slots.items }
+        requires partition { p < 3 }
+        requires fits { FitsLayout layout ((keeping_of self.old).runs p).part }
+        requires few { ((keeping_of self.old).runs p).made < 2 ^ 31 }
+        requires ascend { EachAscends self.old.slots.items }
+        ensures kept { keeping_of self.new ≡ made_part (layout_shape layout) p (keeping_of self.old) }
+        ensures number { self.new.next_lsn ≡ self.old.next_lsn }
+        ensures ascend { EachAscends self.new.slots.items }
+    {
+        let slot = &mut self.slots[p as usize];
+        if slot.is_over(layout, p, slot.made + 1) {
+            settle(&mut self.ledger, slot);
+            slot.begin(Part::Rest);
+        } else {
+            let last_but_one = slot.is_over(layout, p, slot.made + 2);
+            store(&mut self.ledger, slot, last_but_one);
+            slot.advance();
+        }
+    }
+
+    /// The holder of the partition's latch begins an append. The record gets the next number, and its entry goes to memory that was taken before.
+    pub fn begin_append(&mut self, p: u32, place: Place, cell: Cell)
+        requires slot { p < length self.old.slots.items }
+        requires place { (place.bucket < 1187872) × (place.cell < 2 ^ 16) }
+        requires room { vec_len self.old.ledger < vec_capacity self.old.ledger }
+        requires numbers { self.old.next_lsn < 2 ^ 63 }
+        ensures kept { keeping_of self.new ≡ appending p place (record_of (place_address place) (numbered self.old.next_lsn cell)) (keeping_of self.old) }
+        ensures number { self.new.next_lsn ≡ self.old.next_lsn + 1 }
+        ensures ascend { EachAscends self.old.slots.items → EachAscends self.new.slots.items }
+    {
+        let cell = Cell {
+            lsn: self.next_lsn,
+            ..cell
+        };
+        let slot = &mut self.slots[p as usize];
+        let at = place.bucket + 8 + 8 * place.cell;
+        let placed = Placed { at, cell };
+        note(
+            &mut self.ledger,
+            Entry {
+                lane: slot.holder,
+                placed,
+                stage: Progress::Drawn,
+            },
+        );
+        slot.begin(Part::Append(place, cell));
+        self.next_lsn += 1;
+    }
+
+    /// The holder of the partition's latch begins to close these gates, of which each list ascends. They are listed in memory that was taken before.
+    pub fn begin_group(&mut self, p: u32, gates: &[u32], ends: &[u32], checkpoints: &[u32])
+        requires slot { p < length self.old.slots.items }
+        requires room { HasListsFor self.old.slots.items p gates.now ends.now checkpoints.now }
+        requires gates { AreAscending gates.now }
+        requires ends { AreAscending ends.now }
+        requires checkpoints { AreAscending checkpoints.now }
+        ensures kept { keeping_of self.new ≡ begun_in p (closes gates.now ends.now checkpoints.now) (keeping_of self.old).ledger (keeping_of self.old) }
+        ensures number { self.new.next_lsn ≡ self.old.next_lsn }
+        ensures ascend { EachAscends self.old.slots.items → EachAscends self.new.slots.items }
+    {
+        self.slots[p as usize].begin_group(gates, ends, checkpoints);
+    }
+
+    /// The holder of the partition's latch begins to close the gates, which ascend, of deletions that its transaction takes back.
+    pub fn begin_taking_back(&mut self, p: u32, gates: &[u32])
+        requires slot { p < length self.old.slots.items }
+        requires room { HasListFor self.old.slots.items p gates.now }
+        requires gates { AreAscending gates.now }
+        ensures kept { keeping_of self.new ≡ begun_in p (takes_back gates.now) (keeping_of self.old).ledger (keeping_of self.old) }
+        ensures number { self.new.next_lsn ≡ self.old.next_lsn }
+        ensures ascend { EachAscends self.old.slots.items → EachAscends self.new.slots.items }
+    {
+        self.slots[p as usize].begin_taking_back(gates);
+    }
+
+    /// The holder of the partition's latch begins to take out a bucket.
+    pub fn begin_removal(&mut self, p: u32, r: Remove)
+        requires slot { p < length self.old.slots.items }
+        ensures kept { keeping_of self.new ≡ begun_in p (drops r) (keeping_of self.old).ledger (keeping_of self.old) }
+        ensures number { self.new.next_lsn ≡ self.old.next_lsn }
+        ensures ascend { EachAscends self.old.slots.items → EachAscends self.new.slots.items }
+    {
+        self.slots[p as usize].begin(Part::Drop(r));
+    }
+
+    /// The lane takes the partition's latch, if it is free.
+    pub fn take_latch(&mut self, p: u32, lane: u32) -> bool
+        requires { p < length self.old.slots.items }
+        ensures result { result ≡ ((keeping_of self.old).holder p == 17) }
+        ensures kept { keeping_of self.new ≡ latched_if result p lane (keeping_of self.old) }
+        ensures number { self.new.next_lsn ≡ self.old.next_lsn }
+        ensures ascend { EachAscends self.old.slots.items → EachAscends self.new.slots.items }
+    {
+        let slot = &mut self.slots[p as usize];
+        if slot.holder == NOBODY {
+            slot.holder = lane;
+            true
+        } else {
+            false
+        }
+    }
+
+    /// The partition's latch is let go, where nothing is under way.
+    pub fn release_latch(&mut self, p: u32)
+        requires slot { p < length self.old.slots.items }
+        requires rests { ((keeping_of self.old).runs p).part ≡ rests }
+        ensures kept { keeping_of self.new ≡ latched p 17 (keeping_of self.old) }
+        ensures number { self.new.next_lsn ≡ self.old.next_lsn }
+        ensures ascend { EachAscends self.old.slots.items → EachAscends self.new.slots.items }
+    {
+        self.slots[p as usize].holder = NOBODY;
+    }
+}
