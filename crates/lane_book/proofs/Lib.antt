@@ -13,4 +13,5 @@ pub mod BatchRows
 pub mod BackRows
 pub mod Appending
 pub mod Promising
+pub mod StoreRows
 pub mod PushedCells

@@ -1,5 +1,5 @@
 -- What an ask reserves is what the call needed before it.
-use Rattle.std.proofs.Common.{◌≡◌, ◌==◌, ◌||◌, ◌&&◌, not, ℕ, ◌+◌, ◌<◌, ◌≤◌, Bool, true, false, if◌then◌else◌, List, [], ◌∷◌, length, refl, sym, ◌∙◌, ap, subst, arith, Option}
+use Rattle.std.proofs.Common.{◌≡◌, ◌==◌, ◌||◌, ◌&&◌, not, ℕ, ◌+◌, ◌<◌, ◌≤◌, Bool, true, false, if◌then◌else◌, List, length, refl, sym, ◌∙◌, ap, subst, arith, Option}
 use Rattle.region_layout.specs.declared.cell.Cell.{Cell}
 use Rattle.lane_traits.specs.declared.draft.WordWrite.{WordWrite}
 use Rattle.lane_types.specs.declared.call.Call.{Call}
@@ -10,7 +10,7 @@ use Rattle.lane_book.specs.declared.book.Book.{Book}
 use Rattle.lane_book.specs.Lanes.{with_lane}
 use Rattle.lane_book.specs.FacesOf.{lane_at}
 use Rattle.lane_book.specs.Steps.{AsksFor, IsPlain}
-use Rattle.lane_book.specs.Books.{ends, IsCounted, IsBook}
+use Rattle.lane_book.specs.Books.{IsCounted, IsBook}
 use Rattle.lane_book.specs.Reserved.{is_bound, undo_cells, reserved_by, promised_by, added_by}
 use Rattle.lane_book.specs.Appends.{ReservesNeed}
 use Rattle.lane_book.proofs.Reserving.{reserves}

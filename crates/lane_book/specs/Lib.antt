@@ -8,3 +8,4 @@ pub mod Locks
 pub mod Refusals
 pub mod Reserved
 pub mod Appends
+pub mod Stores

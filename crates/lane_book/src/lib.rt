@@ -9,6 +9,7 @@ mod locks;
 mod refusals;
 mod reserved;
 mod stock;
+mod stores;
 
 pub use book::Book;
 pub use lane::{Doing, Lane, Point};
