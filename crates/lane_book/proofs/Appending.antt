@@ -16,7 +16,7 @@ use Rattle.lane_book.specs.Steps.{Steps}
 use Rattle.lane_book.specs.declared.lane.Doing.{Doing}
 use Rattle.lane_book.specs.Books.{ends, IsCounted}
 use Rattle.lane_book.specs.Reserved.{is_bound, undo_cells, reserved_by}
-use Rattle.lane_book.specs.Appends.{with_update, with_group, with_deletion, with_rollback, with_compensation, with_end, IsOpen, CanUpdate, CanGroup, CanDelete, CanRollBack, CanCompensate, CanEnd}
+use Rattle.lane_book.specs.Appends.{with_update, with_group, with_deletion, with_rollback, with_compensation, with_end, IsOpen, CanUpdate, CanGroup, CanDelete, CanRollBack, CanCompensate, CanEnd, writes_one, is_batch, gives_one}
 use Rattle.lane_book.proofs.Faces.{step_of_lane}
 
 pub logged_row : {E : Type 0} (deeds : Deeds E) (book : Book E) (l : ℕ) (later : Lane E) → l < length book.lanes.items → (lane_at book l).phase ≡ Calling →
@@ -62,6 +62,50 @@ rolled_cells has cells = record { fresh = λ e. let never : false ≡ true = sym
 pub ended_cells : {h r e : Bool} {u p : ℕ} {d : Doing} → ends d ≡ true → IsCounted h r e u p d → IsCounted h r true u p d
 ended_cells ending cells = record { fresh = cells.fresh; going = λ e. let never : false ≡ true = sym e ∙ ending in cc; unpromised = cells.unpromised }
 
+-- ---- the calls that append don't end the transaction
+
+pub write_goes_on : (d : Doing) → writes_one d ≡ true → ends d ≡ false
+write_goes_on Doing.Nothing e = cc
+write_goes_on (Doing.Begin set) e = cc
+write_goes_on (Doing.Read a) e = cc
+write_goes_on (Doing.Write a v) e = refl
+write_goes_on (Doing.Take s b) e = refl
+write_goes_on (Doing.Give b) e = cc
+write_goes_on Doing.Commit e = cc
+write_goes_on Doing.Abort e = cc
+write_goes_on Doing.Checkpoint e = cc
+write_goes_on (Doing.Batch n) e = cc
+write_goes_on Doing.Savepoint e = cc
+write_goes_on (Doing.RollbackTo n) e = cc
+
+pub batch_goes_on : (d : Doing) → is_batch d ≡ true → ends d ≡ false
+batch_goes_on Doing.Nothing e = cc
+batch_goes_on (Doing.Begin set) e = cc
+batch_goes_on (Doing.Read a) e = cc
+batch_goes_on (Doing.Write a v) e = cc
+batch_goes_on (Doing.Take s b) e = cc
+batch_goes_on (Doing.Give b) e = cc
+batch_goes_on Doing.Commit e = cc
+batch_goes_on Doing.Abort e = cc
+batch_goes_on Doing.Checkpoint e = cc
+batch_goes_on (Doing.Batch n) e = refl
+batch_goes_on Doing.Savepoint e = cc
+batch_goes_on (Doing.RollbackTo n) e = cc
+
+pub give_goes_on : (d : Doing) → gives_one d ≡ true → ends d ≡ false
+give_goes_on Doing.Nothing e = cc
+give_goes_on (Doing.Begin set) e = cc
+give_goes_on (Doing.Read a) e = cc
+give_goes_on (Doing.Write a v) e = cc
+give_goes_on (Doing.Take s b) e = cc
+give_goes_on (Doing.Give b) e = refl
+give_goes_on Doing.Commit e = cc
+give_goes_on Doing.Abort e = cc
+give_goes_on Doing.Checkpoint e = cc
+give_goes_on (Doing.Batch n) e = cc
+give_goes_on Doing.Savepoint e = cc
+give_goes_on (Doing.RollbackTo n) e = cc
+
 -- ---- each record
 
 sum_group : (promised n spare updates frame later before long : ℕ) → 2 * n + spare ≤ promised → long ≡ updates + n →
@@ -79,17 +123,17 @@ grouped lane updates spare part going some cells =
     (open_cells (moved part (with_group updates spare lane)) (record { records = refl; going = going }))
     (promised_cells lane (omega (arith, some, cells)) going)
 
-pub group_cells : {E : Type 0} (lane : Lane E) (updates : List Cell) (spare part : ℕ) → CanGroup (length updates) spare lane →
+pub group_cells : {E : Type 0} (lane : Lane E) (updates : List Cell) (spare part : ℕ) → CanGroup (length updates) spare lane → lane.ended ≡ false →
     reserved_by (moved part (with_group updates spare lane)) + (length updates + spare) ≡ reserved_by lane
-group_cells lane updates spare part can = grouped lane updates spare part can.going can.some can.cells
+group_cells lane updates spare part can going = grouped lane updates spare part going can.some can.cells
 
-pub update_cells : {E : Type 0} (lane : Lane E) (update : Cell) (part : ℕ) → CanUpdate lane → reserved_by (moved part (with_update update lane)) + 1 ≡ reserved_by lane
-update_cells lane update part can = grouped lane (update ∷ []) 0 part can.going (omega arith) can.cells
+pub update_cells : {E : Type 0} (lane : Lane E) (update : Cell) (part : ℕ) → CanUpdate lane → lane.ended ≡ false → reserved_by (moved part (with_update update lane)) + 1 ≡ reserved_by lane
+update_cells lane update part can going = grouped lane (update ∷ []) 0 part going (omega arith) can.cells
 
-pub deletion_cells : {E : Type 0} (lane : Lane E) (gate part : ℕ) → CanDelete lane → reserved_by (moved part (with_deletion gate lane)) + 1 ≡ reserved_by lane
-deletion_cells lane gate part can = sum_less lane.promised 1 (undo_cells lane) _ _ can.cells
-    (open_cells (moved part (with_deletion gate lane)) (record { records = refl; going = can.going }))
-    (promised_cells lane can.cells can.going)
+pub deletion_cells : {E : Type 0} (lane : Lane E) (gate part : ℕ) → CanDelete lane → lane.ended ≡ false → reserved_by (moved part (with_deletion gate lane)) + 1 ≡ reserved_by lane
+deletion_cells lane gate part can going = sum_less lane.promised 1 (undo_cells lane) _ _ can.cells
+    (open_cells (moved part (with_deletion gate lane)) (record { records = refl; going = going }))
+    (promised_cells lane can.cells going)
 
 pub rollback_cells : {E : Type 0} (lane : Lane E) (part : ℕ) → CanRollBack lane → reserved_by (moved part (with_rollback lane)) + 1 ≡ reserved_by lane
 rollback_cells lane part can = sum_one lane.promised (length lane.updates.items) _ _

@@ -68,34 +68,27 @@ undoes Doing.Abort = true
 undoes (Doing.RollbackTo n) = true
 undoes _ = false
 
--- the transaction's end isn't stored
-abbrev pub IsGoing : {E : Type 0} → Lane E → Type 0
-IsGoing lane = lane.ended ≡ false
-
 pub record CanUpdate {E : Type 0} (lane : Lane E) : Type 0 where
   pub call : writes_one lane.doing ≡ true
-  pub going : IsGoing lane
   pub cells : 2 ≤ lane.promised
   pub room : has_room 1 lane.updates
 
 -- The group has an update at least, and with those let go no more cells than are promised.
 pub record CanGroup {E : Type 0} (count spare : ℕ) (lane : Lane E) : Type 0 where
   pub call : is_batch lane.doing ≡ true
-  pub going : IsGoing lane
   pub some : 1 ≤ count
   pub cells : 2 * count + spare ≤ lane.promised
   pub room : has_room count lane.updates
 
 pub record CanDelete {E : Type 0} (lane : Lane E) : Type 0 where
   pub call : gives_one lane.doing ≡ true
-  pub going : IsGoing lane
   pub cells : 1 ≤ lane.promised
   pub room : has_room 1 lane.gates
 
 -- the transaction has a record, and its end isn't stored
 pub record IsOpen {E : Type 0} (lane : Lane E) : Type 0 where
   pub records : lane.has_records ≡ true
-  pub going : IsGoing lane
+  pub going : lane.ended ≡ false
 
 pub record CanRollBack {E : Type 0} (lane : Lane E) : Type 0 where
   pub call : lane.doing ≡ Doing.Abort

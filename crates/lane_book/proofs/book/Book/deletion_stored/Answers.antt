@@ -8,7 +8,7 @@ use Rattle.lane_book.proofs.Faces.{lane_read}
 use Rattle.lane_book.proofs.Rows.{steps_at}
 use Rattle.lane_book.proofs.Keeps.{keeps_lane}
 use Rattle.lane_book.proofs.Reserving.{falls}
-use Rattle.lane_book.proofs.Appending.{logged_cells, logged_row, deletion_cells}
+use Rattle.lane_book.proofs.Appending.{give_goes_on, logged_cells, logged_row, deletion_cells}
 use Rattle.lane_book.proofs.book.Book.deletion_stored.Goals as goal
 
 pub log_deletion-requires : goal.log_deletion-requires
@@ -34,7 +34,8 @@ pub returns-clause-reserved : goal.returns-clause-reserved
 returns-clause-reserved g c =
     let book = c.args.self.now in
     let lane = lane_at book c.args.lane in
-    falls book _ c.args.lane (moved c.args.part (with_deletion c.args.gate lane)) None 1 c.requires.lane (returns-clause-is g c) (deletion_cells lane c.args.gate c.args.part c.requires.deletion)
+    falls book _ c.args.lane (moved c.args.part (with_deletion c.args.gate lane)) None 1 c.requires.lane (returns-clause-is g c) (deletion_cells lane c.args.gate c.args.part c.requires.deletion
+    ((c.requires.book c.args.lane).cells.going (give_goes_on lane.doing c.requires.deletion.call)))
 
 pub returns-clause-book : goal.returns-clause-book
 returns-clause-book g c =

@@ -8,7 +8,7 @@ use Rattle.lane_book.proofs.Faces.{lane_read}
 use Rattle.lane_book.proofs.Rows.{steps_at}
 use Rattle.lane_book.proofs.Keeps.{keeps_lane}
 use Rattle.lane_book.proofs.Reserving.{falls}
-use Rattle.lane_book.proofs.Appending.{logged_cells, logged_row, group_cells}
+use Rattle.lane_book.proofs.Appending.{batch_goes_on, logged_cells, logged_row, group_cells}
 use Rattle.lane_book.proofs.book.Book.group_stored.Goals as goal
 
 pub log_group-requires : goal.log_group-requires
@@ -34,7 +34,8 @@ pub returns-clause-reserved : goal.returns-clause-reserved
 returns-clause-reserved g c =
     let book = c.args.self.now in
     let lane = lane_at book c.args.lane in
-    falls book _ c.args.lane (moved c.args.part (with_group c.args.updates.now c.args.spare lane)) None (length c.args.updates.now + c.args.spare) c.requires.lane (returns-clause-is g c) (group_cells lane c.args.updates.now c.args.spare c.args.part c.requires.group)
+    falls book _ c.args.lane (moved c.args.part (with_group c.args.updates.now c.args.spare lane)) None (length c.args.updates.now + c.args.spare) c.requires.lane (returns-clause-is g c) (group_cells lane c.args.updates.now c.args.spare c.args.part c.requires.group
+    ((c.requires.book c.args.lane).cells.going (batch_goes_on lane.doing c.requires.group.call)))
 
 pub returns-clause-book : goal.returns-clause-book
 returns-clause-book g c =
