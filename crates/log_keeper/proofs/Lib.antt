@@ -8,3 +8,4 @@ pub mod Noting
 pub mod Sounding
 pub mod Searching
 pub mod SlotLists
+pub mod Steps

@@ -1,8 +1,9 @@
 -- One slot is changed.
-use Rattle.std.proofs.Common.{◌≡◌, ◌≢◌, inl, inr, ℕ, zero, suc, ◌+◌, ◌*◌, ◌<◌, ◌==◌, Bool, true, false, not, nat_lt, if◌then◌else◌, List, [], ◌∷◌, length, get_or, set, Option, slice_get, refl, sym, ap, ◌∙◌, subst, arith}
+use Rattle.std.proofs.Common.{◌≡◌, ◌≢◌, inl, inr, ℕ, zero, suc, ◌+◌, ◌*◌, ◌<◌, ◌==◌, Bool, true, false, not, nat_lt, if◌then◌else◌, List, [], ◌∷◌, length, get_or, set, Option, slice_get, refl, sym, ap, ◌∙◌, subst, arith, map, ◌≤◌}
 use Rattle.std.specs.Prelude.{is_some}
 use Rattle.persist_model.specs.declared.event.Event.{Event}
 use Rattle.std.proofs.lemmas.Bool.Decides.{eqb_tells, nat_tests}
+use Rattle.std.proofs.lemmas.Bool.{cases_lt}
 use Rattle.std.proofs.lemmas.Option.{slice_get_cases}
 use Rattle.persist_model.specs.Shape.{Shape}
 use Rattle.persist_model.specs.ImageRecords.{cell_address}
@@ -15,9 +16,9 @@ use Rattle.log_keeper.specs.Parts.{LogPart, Running, plan_of}
 use Rattle.log_keeper.specs.Ledger.{Noted, Drawn}
 use Rattle.log_keeper.specs.Noting.{ledger_of}
 use Rattle.log_keeper.specs.Slots.{run_of_slot, with_part, AreAscending, HasAscending}
-use Rattle.log_keeper.specs.Logged.{with_run, resting, begun, one_more, ended}
+use Rattle.log_keeper.specs.Logged.{with_run, resting, begun, one_more, ended, latched}
 use Rattle.log_keeper.specs.Making.{is_over, settled_by, stored_if, gone_on, made_of_run, made_part}
-use Rattle.log_keeper.specs.Keeper.{at_slot, holder_of, plain_of, EachAscends, begun_in, latched}
+use Rattle.log_keeper.specs.Keeper.{at_slot, holder_of, plain_of, EachAscends, begun_in, held_by, all_latched}
 use Rattle.log_keeper.proofs.Progressing.{by_part}
 
 pub read_slot : {A : Type 0} (f : Slot → A) (d : A) (xs : List Slot) (p : ℕ) (x : Slot) → p < length xs → x ≡ get_or xs p x → at_slot f d xs p ≡ f x
@@ -161,3 +162,45 @@ drawn_is later xs p x bucket place cell ledger lt is e =
 
 pub add_one : (n : ℕ) → n + 1 ≡ suc n
 add_one n = omega arith
+
+-- all latches are one lane's
+runs_held : (lane : ℕ) (xs : List Slot) (q : ℕ) → at_slot run_of_slot resting (map (held_by lane) xs) q ≡ at_slot run_of_slot resting xs q
+runs_held lane [] q = refl
+runs_held lane (x ∷ xs) zero = refl
+runs_held lane (x ∷ xs) (suc q) = runs_held lane xs q
+
+holders_in : (lane : ℕ) (xs : List Slot) (q : ℕ) → q < length xs → at_slot holder_of 17 (map (held_by lane) xs) q ≡ lane
+holders_in lane [] q lt = absurd (omega (arith, lt))
+holders_in lane (x ∷ xs) zero lt = refl
+holders_in lane (x ∷ xs) (suc q) lt = holders_in lane xs q (omega (arith, lt))
+
+holders_past : (lane : ℕ) (xs : List Slot) (q : ℕ) → length xs ≤ q → at_slot holder_of 17 (map (held_by lane) xs) q ≡ at_slot holder_of 17 xs q
+holders_past lane [] q le = refl
+holders_past lane (x ∷ xs) zero le = absurd (omega (arith, le))
+holders_past lane (x ∷ xs) (suc q) le = holders_past lane xs q (omega (arith, le))
+
+holders_held : (lane : ℕ) (xs : List Slot) (q : ℕ) → at_slot holder_of 17 (map (held_by lane) xs) q ≡ (if nat_lt q (length xs) then lane else at_slot holder_of 17 xs q)
+holders_held lane xs q = elim (cases_lt q (length xs)) [
+  | inl lt ↦ (let on : nat_lt q (length xs) ≡ true = grind (arith, nat_tests, lt) in rw on (holders_in lane xs q lt))
+  | inr le ↦ (let off : nat_lt q (length xs) ≡ false = grind (arith, nat_tests, le) in rw off (holders_past lane xs q le))
+]
+
+pub all_held : (entries : List Entry) (xs later : List Slot) (lane : ℕ) → later ≡ map (held_by lane) xs → plain_of entries later ≡ all_latched lane (length xs) (plain_of entries xs)
+all_held entries xs later lane is = ap (plain_of entries) is ∙ (λ i. record {
+  ledger = ledger_of entries;
+  runs = λ q. runs_held lane xs q i;
+  holder = λ q. holders_held lane xs q i;
+})
+
+pub ascends_held : (lane : ℕ) (xs : List Slot) → EachAscends xs → EachAscends (map (held_by lane) xs)
+ascends_held lane [] each = each
+ascends_held lane (x ∷ xs) each = (each.0, ascends_held lane xs each.1)
+
+-- nothing that is told of slots has changed
+pub slot_stays : (entries : List Entry) (xs : List Slot) (p : ℕ) (x y : Slot) → p < length xs → x ≡ get_or xs p x → run_of_slot y ≡ run_of_slot x → y.holder ≡ x.holder →
+    plain_of entries (set xs p y) ≡ plain_of entries xs
+slot_stays entries xs p x y lt is e h = λ i. record {
+  ledger = ledger_of entries;
+  runs = λ q. same_slot run_of_slot resting xs p x y lt is e q i;
+  holder = λ q. same_slot holder_of 17 xs p x y lt is h q i;
+}

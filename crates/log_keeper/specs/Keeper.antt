@@ -1,5 +1,5 @@
 -- The keeper's fields as plain data, and what its calls do with it.
-use Rattle.std.specs.Prelude.{◌≡◌, ℕ, zero, suc, ◌≤◌, Bool, if◌then◌else◌, List, [], ◌∷◌, length, get_or}
+use Rattle.std.specs.Prelude.{◌≡◌, ℕ, zero, suc, ◌≤◌, Bool, if◌then◌else◌, List, [], ◌∷◌, length, get_or, not, ◌==◌, nat_lt}
 use Rattle.std.specs.Vec.{vec_capacity}
 use Rattle.persist_model.specs.Records.{Record}
 use Rattle.region_layout.specs.declared.cell.Cell.{Cell}
@@ -10,8 +10,8 @@ use Rattle.log_keeper.specs.declared.keeper.LogKeeper.{LogKeeper}
 use Rattle.log_keeper.specs.Parts.{LogPart, appends}
 use Rattle.log_keeper.specs.Ledger.{Drawn, Noted}
 use Rattle.log_keeper.specs.Noting.{ledger_of}
-use Rattle.log_keeper.specs.Slots.{run_of_slot, HasAscending, HasRoomFor}
-use Rattle.log_keeper.specs.Logged.{Keeping, with_holder, resting, beginning}
+use Rattle.log_keeper.specs.Slots.{run_of_slot, HasAscending, HasRoomFor, HasRoomOf}
+use Rattle.log_keeper.specs.Logged.{Keeping, resting, beginning, latched}
 
 -- a value of the slot with this number, and another past the last
 abbrev pub at_slot : {A : Type 0} → (Slot → A) → A → List Slot → ℕ → A
@@ -45,10 +45,7 @@ begun_in p part ledger k = beginning p (k.holder p) part ledger k
 abbrev pub appending : ℕ → Place → Record → Keeping → Keeping
 appending p place r k = begun_in p (appends place r) (record { lane = k.holder p; entry = r; stage = Drawn } ∷ k.ledger) k
 
--- another holder of the partition's latch, 17 where it is let go
-abbrev pub latched : ℕ → ℕ → Keeping → Keeping
-latched p lane k = record { ledger = k.ledger; runs = k.runs; holder = with_holder p lane k.holder }
-
+-- the latch is taken if it is free
 abbrev pub latched_if : Bool → ℕ → ℕ → Keeping → Keeping
 latched_if free p lane k = if free then latched p lane k else k
 
@@ -58,3 +55,20 @@ HasListsFor slots p gates ends checkpoints = (x : Slot) → x ≡ get_or slots p
 
 abbrev pub HasListFor : List Slot → ℕ → List ℕ → Type 0
 HasListFor slots p gates = (x : Slot) → x ≡ get_or slots p x → length gates ≤ vec_capacity x.gates
+
+abbrev pub HasRoomIn : List Slot → ℕ → ℕ → Type 0
+HasRoomIn slots p n = (x : Slot) → x ≡ get_or slots p x → HasRoomOf x n
+
+-- somebody holds the slot's latch
+abbrev pub is_held : Slot → Bool
+is_held slot = not (slot.holder == 17)
+
+abbrev pub held_by : ℕ → Slot → Slot
+held_by lane slot = record slot { holder = lane }
+
+-- one lane holds the latches of all n partitions
+abbrev pub all_latched : ℕ → ℕ → Keeping → Keeping
+all_latched lane n k = record { ledger = k.ledger; runs = k.runs; holder = λ q. if nat_lt q n then lane else k.holder q }
+
+abbrev pub all_latched_if : Bool → ℕ → ℕ → Keeping → Keeping
+all_latched_if free lane n k = if free then all_latched lane n k else k

@@ -1,5 +1,5 @@
 -- How the keeper goes on, as laws of its plain data.
-use Rattle.std.specs.Prelude.{◌≡◌, ◌≢◌, ℕ, ◌<◌, ◌≤◌, List, [], ◌∷◌, length, Some, slice_get}
+use Rattle.std.specs.Prelude.{◌≡◌, ◌≢◌, ℕ, ◌+◌, ◌<◌, ◌≤◌, List, [], ◌∷◌, length, Some, slice_get}
 use Rattle.persist_model.specs.declared.event.Event.{Event}
 use Rattle.persist_model.specs.declared.event.Event.TheVariants.{Store, PStore, WriteBack, Fence}
 use Rattle.persist_model.specs.Region.{Words, Region, MayStand, after}
@@ -26,7 +26,8 @@ use Rattle.plan_records.specs.Appends.{with_record}
 use Rattle.plan_records.specs.Passing.{inserted}
 use Rattle.log_keeper.specs.Parts.{LogPart, rests, appends, closes, takes_back, drops, Running, words_behind, CanRun}
 use Rattle.log_keeper.specs.Ledger.{Stage, Drawn, Stored, Settled, Noted, AreNewestFirst, IsUnsettled, settled_log, with_stage, left_open, without}
-use Rattle.log_keeper.specs.Logged.{Keeping, with_chain, advanced, ended, beginning, waiting, plan_in, AreTracked, IsReached, IsLoggedAt, IsPassing, IsAlone}
+use Rattle.log_keeper.specs.Making.{settled_by, made_part}
+use Rattle.log_keeper.specs.Logged.{Keeping, with_chain, advanced, ended, beginning, latched, waiting, plan_in, AreTracked, IsReached, IsLoggedAt, IsPassing, IsAlone}
 
 -- ---- events
 
@@ -62,6 +63,20 @@ abbrev pub PartsBegin : Type 0
 PartsBegin = (shape : Shape) (base : Words) (s : State) (chains : ℕ → List ℕ) (k : Keeping) (region : Region) (p lane : ℕ) (part : LogPart) (ledger : List Noted) →
     p < shape.partitions → (k.runs p).part ≡ rests → CanRun shape p base s (chains p) part → settled_log ledger ≡ settled_log k.ledger →
     IsLoggedAt shape base s chains k region → IsLoggedAt shape base s chains (beginning p lane part ledger k) region
+
+-- A latch is taken or let go where nothing is under way.
+abbrev pub LatchesPass : Type 0
+LatchesPass = (shape : Shape) (base : Words) (s : State) (chains : ℕ → List ℕ) (k : Keeping) (region : Region) (p lane : ℕ) →
+    (k.runs p).part ≡ rests → IsLoggedAt shape base s chains k region → IsLoggedAt shape base s chains (latched p lane k) region
+
+-- Behind a part's last event, which is made as any other, its words settle, and so the keeper's one step does both.
+pub record LastEventEnds (shape : Shape) (k : Keeping) (p : ℕ) : Type 0 where
+  pub part : ((advanced p k).runs p).part ≡ (k.runs p).part
+  pub whole : ((advanced p k).runs p).made ≡ length (plan_in shape (advanced p k) p)
+  pub kept : made_part shape p k ≡ ended p (settled_by (k.runs p).part k.ledger) (advanced p k)
+
+abbrev pub LastEventsEnd : Type 0
+LastEventsEnd = (shape : Shape) (k : Keeping) (p : ℕ) → (k.runs p).made + 1 ≡ length (plan_in shape k p) → LastEventEnds shape k p
 
 -- Where all events of an append are made, its words are settled, with the record, and the chain behind it.
 abbrev pub AppendsSettle : Type 0

@@ -53,6 +53,10 @@ ended p ledger k = record { ledger = ledger; runs = with_run p resting k.runs; h
 abbrev pub beginning : ℕ → ℕ → LogPart → List Noted → Keeping → Keeping
 beginning p lane part ledger k = record { ledger = ledger; runs = with_run p (begun part) k.runs; holder = with_holder p lane k.holder }
 
+-- another holder of the partition's latch, 17 where it is let go
+abbrev pub latched : ℕ → ℕ → Keeping → Keeping
+latched p lane k = record { ledger = k.ledger; runs = k.runs; holder = with_holder p lane k.holder }
+
 -- a is a word of the header that no partition has
 abbrev pub IsNone's : Shape → ℕ → Type 0
 IsNone's shape a = (a < 32) × ((p : ℕ) → p < shape.partitions → IsPartWord shape p a → ⊥)

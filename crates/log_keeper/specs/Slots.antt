@@ -34,3 +34,7 @@ AreAscending gates = (i j : ℕ) → i ≤ j → j < length gates → get_or gat
 
 abbrev pub HasAscending : Slot → Type 0
 HasAscending slot = AreAscending slot.gates.items × AreAscending slot.ends.items × AreAscending slot.checkpoints.items
+
+-- its lists have memory for so many gates each
+abbrev pub HasRoomOf : Slot → ℕ → Type 0
+HasRoomOf slot n = (n ≤ vec_capacity slot.gates) × (n ≤ vec_capacity slot.ends) × (n ≤ vec_capacity slot.checkpoints)

@@ -1,21 +1,22 @@
-ghost use Rattle.std.specs.Prelude.{◌≡◌, ◌<◌, ◌≤◌, ◌+◌, ◌==◌, ◌^◌, length, option_map, slice_get, IfOk, OnOk};
+ghost use Rattle.std.specs.Prelude.{◌≡◌, ◌<◌, ◌≤◌, ◌+◌, ◌==◌, ◌^◌, length, map, not, slice_get, OnOk};
+ghost use Rattle.std.specs.List.{list_any};
 ghost use Rattle.std.specs.Vec.{vec_len, vec_capacity};
 ghost use Rattle.region_layout.specs.Cell.{record_of};
 ghost use Rattle.region_layout.specs.Layout.{layout_shape};
 ghost use Rattle.bucket_log.specs.Plans.{place_address};
 ghost use Rattle.log_keeper.specs.Fitting.{FitsLayout};
 ghost use Rattle.log_keeper.specs.Parts.{rests, closes, takes_back, drops, plan_of};
-ghost use Rattle.log_keeper.specs.Logged.{plan_in};
+ghost use Rattle.log_keeper.specs.Logged.{plan_in, latched};
 ghost use Rattle.log_keeper.specs.Noting.{ledger_of};
 ghost use Rattle.log_keeper.specs.Slots.{AreAscending, HasAscending, HasRoomFor, run_of_slot};
 ghost use Rattle.log_keeper.specs.Making.{settled_by, stored_if, made_part};
-ghost use Rattle.log_keeper.specs.Keeper.{keeping_of, EachAscends, HasListsFor, HasListFor, numbered, begun_in, appending, latched, latched_if};
+ghost use Rattle.log_keeper.specs.Keeper.{keeping_of, EachAscends, HasListsFor, HasListFor, numbered, begun_in, appending, latched_if, held_by, is_held, all_latched_if, HasRoomIn};
 
 use crate::ledger::{Entry, Progress, close_listed, come_to, note};
 use crate::slots::{Part, Slot};
 use atomic_list::Remove;
 use bucket_log::{Place, Placed};
-use persist_model::Event;
+use persist_model::{Event, NoMemory};
 use region_layout::{Cell, Layout};
 
 /// The holder of a latch that is free.
@@ -29,6 +30,22 @@ pub struct LogKeeper {
     /// One for each partition.
     pub slots: Vec<Slot>,
     pub next_lsn: u64,
+}
+
+// Somebody holds a latch.
+fn any_held(slots: &[Slot]) -> bool
+    ensures { result ≡ list_any is_held slots.now }
+{
+    slots.iter().any(|slot| slot.holder != NOBODY)
+}
+
+// Each latch is the lane's.
+fn latch_all(slots: &mut [Slot], lane: u32)
+    ensures { slots.new ≡ map (held_by lane) slots.old }
+{
+    for slot in slots.iter_mut() {
+        slot.holder = lane;
+    }
 }
 
 // The part is whole: what it leaves of the ledger.
@@ -191,5 +208,42 @@ impl LogKeeper {
         ensures ascend { EachAscends self.old.slots.items → EachAscends self.new.slots.items }
     {
         self.slots[p as usize].holder = NOBODY;
+    }
+
+    /// The lane takes the latches of all partitions, as a checkpoint does, or none where one is held.
+    pub fn take_latches(&mut self, lane: u32) -> bool
+        ensures result { result ≡ not (list_any is_held self.old.slots.items) }
+        ensures kept { keeping_of self.new ≡ all_latched_if result lane (length self.old.slots.items) (keeping_of self.old) }
+        ensures number { self.new.next_lsn ≡ self.old.next_lsn }
+        ensures ascend { EachAscends self.old.slots.items → EachAscends self.new.slots.items }
+    {
+        if any_held(self.slots.as_slice()) {
+            return false;
+        }
+        latch_all(self.slots.as_mut_slice(), lane);
+        true
+    }
+
+    /// Takes memory for so many more records. Nothing else changes.
+    pub fn reserve(&mut self, more: usize) -> Result<(), NoMemory>
+        ensures kept { keeping_of self.new ≡ keeping_of self.old }
+        ensures number { self.new.next_lsn ≡ self.old.next_lsn }
+        ensures slots { self.new.slots ≡ self.old.slots }
+        ensures room { OnOk result (vec_len self.new.ledger + more ≤ vec_capacity self.new.ledger) }
+    {
+        self.ledger.reserve(more)?;
+        Ok(())
+    }
+
+    /// Takes memory for so many gates in each list of the partition. Nothing else changes.
+    pub fn reserve_lists(&mut self, p: u32, gates: usize) -> Result<(), NoMemory>
+        requires { p < length self.old.slots.items }
+        ensures kept { keeping_of self.new ≡ keeping_of self.old }
+        ensures number { self.new.next_lsn ≡ self.old.next_lsn }
+        ensures ledger { self.new.ledger ≡ self.old.ledger }
+        ensures room { OnOk result (HasRoomIn self.new.slots.items p gates) }
+        ensures ascend { EachAscends self.old.slots.items → EachAscends self.new.slots.items }
+    {
+        self.slots[p as usize].reserve(gates)
     }
 }

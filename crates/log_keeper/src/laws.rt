@@ -5,6 +5,8 @@ ghost use Rattle.log_keeper.specs.Laws.{
   FencesPass,
   PartsGoOn,
   PartsBegin,
+  LatchesPass,
+  LastEventsEnd,
   AppendsSettle,
   GroupsSettle,
   GroupsStaySound,
@@ -43,6 +45,16 @@ pub fn parts_go_on()
 /// A part begins where nothing is under way.
 pub fn parts_begin()
     ensures { PartsBegin }
+{}
+
+/// A latch is taken or let go where nothing is under way.
+pub fn latches_pass()
+    ensures { LatchesPass }
+{}
+
+/// The keeper's step behind a part's last event is that event, and what settles behind it.
+pub fn last_events_end()
+    ensures { LastEventsEnd }
 {}
 
 /// Behind the last event of an append the settled words have its record,

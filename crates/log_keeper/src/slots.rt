@@ -1,10 +1,10 @@
-ghost use Rattle.std.specs.Prelude.{◌≡◌, ◌<◌, ◌≤◌, ◌+◌, ◌^◌, option_map, slice_get, length};
+ghost use Rattle.std.specs.Prelude.{◌≡◌, ◌<◌, ◌≤◌, ◌+◌, ◌^◌, option_map, slice_get, length, OnOk};
 ghost use Rattle.std.specs.Vec.{vec_capacity};
 ghost use Rattle.persist_model.specs.Chain.{out_event};
 ghost use Rattle.region_layout.specs.Layout.{layout_shape};
 ghost use Rattle.log_keeper.specs.Logged.{begun};
 ghost use Rattle.log_keeper.specs.Parts.{plan_of, closes, takes_back};
-ghost use Rattle.log_keeper.specs.Slots.{run_of_slot, with_part, HasRoomFor};
+ghost use Rattle.log_keeper.specs.Slots.{run_of_slot, with_part, HasRoomFor, HasRoomOf, HasAscending};
 ghost use Rattle.log_keeper.specs.Fitting.{FitsLayout};
 ghost use Rattle.log_keeper.specs.Making.{is_over};
 
@@ -12,7 +12,7 @@ use crate::closing::{closing_event, gates_event};
 use atomic_list::{Remove, remove_event};
 use bucket_log::{Place, append_event};
 use log_partition::region_event;
-use persist_model::Event;
+use persist_model::{Event, NoMemory};
 use region_layout::{Cell, Layout};
 
 /// What is under way in a partition. The gates that are closed or taken back are the slot's.
@@ -134,5 +134,18 @@ impl Slot {
         fill(&mut self.gates, gates);
         self.part = Part::TakeBack;
         self.made = 0;
+    }
+
+    /// Takes memory for so many gates in each list. Nothing else changes.
+    pub fn reserve(&mut self, gates: usize) -> Result<(), NoMemory>
+        ensures run { run_of_slot self.new ≡ run_of_slot self.old }
+        ensures holder { self.new.holder ≡ self.old.holder }
+        ensures ascend { HasAscending self.old → HasAscending self.new }
+        ensures room { OnOk result (HasRoomOf self.new gates) }
+    {
+        self.gates.reserve(gates)?;
+        self.ends.reserve(gates)?;
+        self.checkpoints.reserve(gates)?;
+        Ok(())
     }
 }
