@@ -2,6 +2,7 @@
 use Rattle.std.proofs.Common.{◌≡◌, ◌≢◌, ◌⊎◌, inl, inr, ℕ, ◌<◌, true, List, refl, sym, ap, ◌∙◌, subst, arith}
 use Rattle.persist_model.specs.Region.{Words}
 use Rattle.persist_model.specs.Progress.{latest}
+use Rattle.persist_model.specs.Kinds.{CHECKPOINT, COMMITTED, END}
 use Rattle.persist_model.specs.Records.{Record, Log, IsAmong, Has, HasNo, IsOf, IsEnd, IsRunning}
 use Rattle.persist_model.specs.Standing.{Stands}
 use Rattle.persist_model.specs.Shape.{Shape, part_of, IsHeapWord, heap_words}
@@ -61,14 +62,14 @@ append_leaves shape p w v x chain place number made (a_commit_end t) may can mee
 -- the record is a commit's end, with the transaction in flight, and the words stand as it wrote them
 pub record EndsCommit (shape : Shape) (v : Words) (s : State) (h : Words) (flight : List Entry) (x y : State) (r : Record) : Type 0 where
   pub end : IsEnd r
-  pub one : r.outcome ≡ 1
+  pub one : r.outcome ≡ COMMITTED
   pub going : IsInFlight s.log h flight r.transaction
   pub commits : Commits shape v x r.transaction y
 
 -- or it isn't, and they stand as before
 pub left_by : (shape : Shape) (v : Words) (s : State) (h : Words) (flight : List Entry) (heap : Words) (x y : State) (place : Place) (number : ℕ) (added : Added) →
     let r = appended place number (cell_of added) in
-    Serves shape s h flight heap r added → Leaves shape v x y added → ((IsEnd r → r.outcome ≡ 1 → ⊥) × Keeps shape v x y) ⊎ EndsCommit shape v s h flight x y r
+    Serves shape s h flight heap r added → Leaves shape v x y added → ((IsEnd r → r.outcome ≡ COMMITTED → ⊥) × Keeps shape v x y) ⊎ EndsCommit shape v s h flight x y r
 left_by shape v s h flight heap x y place number (an_update u) serves k = inl ((λ four one. omega (arith, four)), k)
 left_by shape v s h flight heap x y place number (a_deletion g) serves k = inl ((λ four one. omega (arith, four)), k)
 left_by shape v s h flight heap x y place number (a_rollback t) serves k = inl ((λ four one. omega (arith, four)), k)
@@ -79,7 +80,7 @@ left_by shape v s h flight heap x y place number (a_commit_end t) serves k = inr
 -- ---- from the settled state
 
 module _ (shape : Shape) (under : ℕ → UnderWay) (n : ℕ) (s x : State) (c : IsChosen shape under n s x) (place : Place) (number : ℕ) where
-  pub can_there : (added : Added) → let r = appended place number (cell_of added) in part_of shape r.at ≡ n → r.kind ≢ 5 → IsOfRunning shape s.log r →
+  pub can_there : (added : Added) → let r = appended place number (cell_of added) in part_of shape r.at ≡ n → r.kind ≢ CHECKPOINT → IsOfRunning shape s.log r →
       ((q : ℕ) (y : Record) → q < n → IsAddedIn shape q (under q) y → IsBeside s.log r y) → CanAdd shape s r added → CanAdd shape x r added
   can_there (an_update u) place_is plain running beside can = updates_there shape under n s x c _ place_is plain running beside refl can
   can_there (a_deletion g) place_is plain running beside can = deletions_there shape under n s x c _ place_is plain running beside refl can
@@ -89,7 +90,7 @@ module _ (shape : Shape) (under : ℕ → UnderWay) (n : ℕ) (s x : State) (c :
   can_there (a_commit_end t) place_is plain running beside can = commit_ends_there shape under n s x c _ place_is plain running beside can
 
   pub meets_there : (h : Words) (flight : List Entry) (heap : Words) (added : Added) → let r = appended place number (cell_of added) in
-      part_of shape r.at ≡ n → r.kind ≢ 5 → IsOfRunning shape s.log r → ((q : ℕ) (y : Record) → q < n → IsAddedIn shape q (under q) y → IsBeside s.log r y) →
+      part_of shape r.at ≡ n → r.kind ≢ CHECKPOINT → IsOfRunning shape s.log r → ((q : ℕ) (y : Record) → q < n → IsAddedIn shape q (under q) y → IsBeside s.log r y) →
       IsSoundState shape x → ((a : ℕ) → IsHeapWord shape a → Stands shape.policy x.log heap a (value_behind (kept_of x.log flight) a (h a))) →
       CanAdd shape x r added → Serves shape s h flight heap r added → HeapMeets shape x heap r added
   meets_there h flight heap (an_update u) place_is plain running beside sound standing can serves =
@@ -103,7 +104,7 @@ module _ (shape : Shape) (under : ℕ → UnderWay) (n : ℕ) (s x : State) (c :
 -- ---- the cell that recovery's checkpoint record wants
 
 -- a record that isn't skipped leaves the log open
-pub opened : (x : State) (r : Record) → r.kind ≢ 5 → Passes x.log r → IsRunning x.log r.transaction → HasOpen (inserted r x.log)
+pub opened : (x : State) (r : Record) → r.kind ≢ CHECKPOINT → Passes x.log r → IsRunning x.log r.transaction → HasOpen (inserted r x.log)
 opened x r plain passes running = (
   r,
   inserted_in r x.log r (inl refl),
@@ -141,7 +142,7 @@ decide_deletion_by t a r = elim (decide_equal r.kind 6) [
 
 -- With the end of a commit each word stands at its value behind the commits in flight that are there now.
 module _ (shape : Shape) (under : ℕ → UnderWay) (n : ℕ) (s x : State) (c : IsChosen shape under n s x) (v : Words) (h : Words) (flight : List Entry) (t : ℕ) (r : Record)
-    (own : r.transaction ≡ t) (end : r.kind ≡ 4) (one : r.outcome ≡ 1) (running : IsRunning s.log t) (none : (q : ℕ) (y : Record) → q < n → IsUnderWayIn shape s.log q (under q) y → IsOf t y → ⊥)
+    (own : r.transaction ≡ t) (end : r.kind ≡ END) (one : r.outcome ≡ COMMITTED) (running : IsRunning s.log t) (none : (q : ℕ) (y : Record) → q < n → IsUnderWayIn shape s.log q (under q) y → IsOf t y → ⊥)
     (going : IsInFlight s.log h flight t) (k : Commits shape v x t (with_record n x r)) where
   abbrev later : Log
   later = inserted r x.log

@@ -1,6 +1,7 @@
 -- What an append and a closing ask, in a state that other partitions made: it follows from the settled state.
 use Rattle.std.proofs.Common.{◌≡◌, ◌≢◌, inl, inr, ℕ, ◌<◌, ◌≤◌, if◌then◌else◌, List, refl, sym, ◌∙◌, subst, arith}
 use Rattle.persist_model.specs.Region.{Words}
+use Rattle.persist_model.specs.Kinds.{CHECKPOINT}
 use Rattle.persist_model.specs.Records.{Record, Log, IsAmong, HasNo, IsOf, IsUpdate, IsDeletion, NamesWord, IsRunning}
 use Rattle.persist_model.specs.Standing.{IsToUndo, IsToDelete, Stands, redone, kept}
 use Rattle.persist_model.specs.Order.{Bars}
@@ -27,10 +28,10 @@ use Rattle.history_laws.proofs.Owning.{own_back, own_forth, own_running, own_has
 
 -- ---- the record of an append
 
-pub added_plain : (x : Adding) → (record_of_adding x).kind ≢ 5
+pub added_plain : (x : Adding) → (record_of_adding x).kind ≢ CHECKPOINT
 added_plain x = by x.added
   where
-    by : (added : Added) → (appended x.place x.number (cell_of added)).kind ≢ 5
+    by : (added : Added) → (appended x.place x.number (cell_of added)).kind ≢ CHECKPOINT
     by (an_update u) = λ e. omega (arith, e)
     by (a_deletion g) = λ e. omega (arith, e)
     by (a_rollback t) = λ e. omega (arith, e)
@@ -47,7 +48,7 @@ added_runs shape s r (an_undone_end t) can = can.open_one.running
 added_runs shape s r (a_commit_end t) can = can.running
 
 -- a record that bars is no checkpoint record
-names_plain : (y : Record) → NamesWord y → y.kind ≢ 5
+names_plain : (y : Record) → NamesWord y → y.kind ≢ CHECKPOINT
 names_plain y (inl (inl one)) = λ five. omega (arith, one, five)
 names_plain y (inl (inr two)) = λ five. omega (arith, two, five)
 names_plain y (inr six) = λ five. omega (arith, six, five)
@@ -59,7 +60,7 @@ bars_names log y (inr k) = inr k.0
 -- what is known of the records under way in the partitions that have been gone through
 pub record IsBeside (log : Log) (r y : Record) : Type 0 where
   pub together : AreTogether r y
-  pub plain : y.kind ≢ 5
+  pub plain : y.kind ≢ CHECKPOINT
   pub runs : IsRunning log y.transaction
 
 -- the records that bar others in x did so in s
@@ -77,7 +78,7 @@ bars_back shape under n s x c runs y ms mx (inr k) = elim (c.from k.1.0 k.1.1) [
   | inr h ↦ inl (inr k.0, subst (λ t. IsRunning s.log t) k.1.2.0.1 (runs h.0 k.1.0 h.1 h.2))
 ]
 
-module _ (shape : Shape) (under : ℕ → UnderWay) (n : ℕ) (s x : State) (c : IsChosen shape under n s x) (r : Record) (place_is : part_of shape r.at ≡ n) (plain : r.kind ≢ 5)
+module _ (shape : Shape) (under : ℕ → UnderWay) (n : ℕ) (s x : State) (c : IsChosen shape under n s x) (r : Record) (place_is : part_of shape r.at ≡ n) (plain : r.kind ≢ CHECKPOINT)
     (running : IsOfRunning shape s.log r) (beside : (q : ℕ) (y : Record) → q < n → IsAddedIn shape q (under q) y → IsBeside s.log r y) where
   -- nothing of its transaction is under way in other partitions
   others : (q : ℕ) (y : Record) → q < n → IsUnderWayIn shape s.log q (under q) y → IsOf r.transaction y → ⊥

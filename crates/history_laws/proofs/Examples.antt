@@ -7,6 +7,7 @@ use Rattle.std.proofs.lemmas.Bool.Decides.{nat_tests, eqb_tells}
 use Rattle.persist_model.specs.Region.{Words}
 use Rattle.persist_model.specs.Progress.{write, latest}
 use Rattle.persist_model.specs.Runs.{progress_at}
+use Rattle.persist_model.specs.Kinds.{END, UPDATE}
 use Rattle.persist_model.specs.Records.{Record, IsAmong, NamesWord, IsRunning}
 use Rattle.persist_model.specs.Shape.{Shape, part_of, log_words, heap_words}
 use Rattle.persist_model.specs.Standing.{Stands, undone, deleted, redone, kept}
@@ -144,7 +145,7 @@ is_five : (x : Record) → IsAmong settled.log x → x ≡ five
 is_five x (inl e) = e
 is_five x (inr m) = absurd m
 
-kind_five : (x : Record) → IsAmong settled.log x → x.kind ≡ 1
+kind_five : (x : Record) → IsAmong settled.log x → x.kind ≡ UPDATE
 kind_five x m = ap (λ (r : Record). r.kind) (is_five x m)
 
 owner_five : (x : Record) → IsAmong settled.log x → x.transaction ≡ 1
@@ -314,13 +315,13 @@ runs_by (suc zero) lt = appending_beside
 runs_by (suc (suc p)) lt = absurd (omega (arith, lt))
 
 -- the one is number 7 of transaction 1 and an end, the other number 6 of transaction 2
-added_end : (r : Record) → IsAddedIn shape 0 (under 0) r → (r.lsn ≡ 7) × (r.transaction ≡ 1) × (r.kind ≡ 4)
+added_end : (r : Record) → IsAddedIn shape 0 (under 0) r → (r.lsn ≡ 7) × (r.transaction ≡ 1) × (r.kind ≡ END)
 added_end r a = (ap (λ (x : Record). x.lsn) a.1, ap (λ (x : Record). x.transaction) a.1, ap (λ (x : Record). x.kind) a.1)
 
 added_beside : (r : Record) → IsAddedIn shape 1 (under 1) r → (r.lsn ≡ 6) × (r.transaction ≡ 2)
 added_beside r a = (ap (λ (x : Record). x.lsn) a.1, ap (λ (x : Record). x.transaction) a.1)
 
-no_end : (r : Record) → NamesWord r → r.kind ≢ 4
+no_end : (r : Record) → NamesWord r → r.kind ≢ END
 no_end r (inl (inl one)) = λ four. omega (arith, one, four)
 no_end r (inl (inr two)) = λ four. omega (arith, two, four)
 no_end r (inr six) = λ four. omega (arith, six, four)

@@ -2,6 +2,7 @@
 use Rattle.std.proofs.Common.{◌≡◌, ◌⊎◌, inl, inr, ℕ, Bool, true, false, if◌then◌else◌, List, [], ◌∷◌, ◌++◌, refl, sym, ap, ◌∙◌, subst}
 use Rattle.std.proofs.lemmas.Bool.Decides.{eqb_tells}
 use Rattle.persist_model.specs.Progress.{latest}
+use Rattle.persist_model.specs.Kinds.{COMMITTED}
 use Rattle.persist_model.specs.Records.{Record, Log, IsAmong, IsEndOf, IsCommitted}
 use Rattle.history_laws.specs.Histories.{Entry, value_behind, LeavesWord}
 use Rattle.history_laws.specs.Stands.{is_commit_of, has_commit, kept_of}
@@ -15,7 +16,7 @@ value_append (e ∷ xs) ys a u = value_append xs ys a (latest e.writes a u)
 -- ---- commits
 
 abbrev pub IsCommitEndOf : ℕ → Record → Type 0
-IsCommitEndOf t r = IsEndOf t r × (r.outcome ≡ 1)
+IsCommitEndOf t r = IsEndOf t r × (r.outcome ≡ COMMITTED)
 
 abbrev Tells : ℕ → Record → Type 0
 Tells t r = ((is_commit_of t r ≡ true) × IsCommitEndOf t r) ⊎ ((is_commit_of t r ≡ false) × (IsCommitEndOf t r → ⊥))

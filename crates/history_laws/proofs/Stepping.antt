@@ -2,6 +2,7 @@
 use Rattle.std.proofs.Common.{◌≡◌, ◌≢◌, ◌⊎◌, inl, inr, ℕ, suc, ◌+◌, ◌<◌, ◌≤◌, ◌==◌, true, false, if◌then◌else◌, List, [], length, refl, sym, ap, ◌∙◌, subst, arith}
 use Rattle.std.proofs.lemmas.Bool.Decides.{eqb_tells}
 use Rattle.persist_model.specs.Region.{Words}
+use Rattle.persist_model.specs.Kinds.{CHECKPOINT, COMMITTED}
 use Rattle.persist_model.specs.Records.{Record, Log, IsAmong, Has, HasNo, IsOf, IsEnd, IsDeletion, IsRunning, IsEnded, IsCommitted}
 use Rattle.persist_model.specs.Standing.{IsToUndo, Stands, undone, deleted, redone, kept}
 use Rattle.persist_model.specs.Need.{need_in}
@@ -49,12 +50,12 @@ module _ (shape : Shape) (base : Words) (s : State) (h : Words) (flight : List E
   Choice k w = HasChoice shape under s h flight found k w
 
   -- an added record of one of the first n partitions
-  ready_in : (q : ℕ) (u : UnderWay) (y : Record) → IsRunningIn shape base s h flight found q u → IsAddedIn shape q u y → (y.kind ≢ 5) × IsOfRunning shape s.log y
+  ready_in : (q : ℕ) (u : UnderWay) (y : Record) → IsRunningIn shape base s h flight found q u → IsAddedIn shape q u y → (y.kind ≢ CHECKPOINT) × IsOfRunning shape s.log y
   ready_in q nothing y runs added = absurd added
   ready_in q (appends a made) y runs added =
       let plain = added_plain a in
       let running = added_runs shape s (record_of_adding a) a.added (runs.ready added.0).can in
-      (subst (λ (z : Record). z.kind ≢ 5) (sym added.1) plain, subst (λ (z : Record). IsOfRunning shape s.log z) (sym added.1) running)
+      (subst (λ (z : Record). z.kind ≢ CHECKPOINT) (sym added.1) plain, subst (λ (z : Record). IsOfRunning shape s.log z) (sym added.1) running)
   ready_in q (closes gates ends made) y runs added = absurd added
   ready_in q (takes_back gates made) y runs added = absurd added
   ready_in q (drops r made) y runs added = absurd added
@@ -273,7 +274,7 @@ module _ (shape : Shape) (base : Words) (s : State) (h : Words) (flight : List E
         standing = λ a u st. st;
       })
 
-      module _ (can : CanAppend shape n (view n (log_words shape before)) chain place r) (plain : r.kind ≢ 5) (there : IsAddedIn shape n (under n) r)
+      module _ (can : CanAppend shape n (view n (log_words shape before)) chain place r) (plain : r.kind ≢ CHECKPOINT) (there : IsAddedIn shape n (under n) r)
           (passes : Passes s.log r) (fits : CanAdd shape s r added) (serves : Serves shape s h flight found r added) where
         of_running : IsOfRunning shape s.log r
         of_running = added_runs shape s r added fits
@@ -323,10 +324,10 @@ module _ (shape : Shape) (base : Words) (s : State) (h : Words) (flight : List E
         chosen : part_of shape r.at ≡ n → IsSoundState shape (seen shape w (with_record n x r)) → IsChosen shape under (suc n) s (seen shape w (with_record n x r))
         chosen here sound = chosen_added shape under n s x choice.chosen (heap_words shape w) r there here (passes_now here) running (in_part here) (spare here sound)
 
-        keeps_record : part_of shape r.at ≡ n → (IsEnd r → r.outcome ≡ 1 → ⊥) → Keeps shape w x (with_record n x r) → Choice (suc n) w
+        keeps_record : part_of shape r.at ≡ n → (IsEnd r → r.outcome ≡ COMMITTED → ⊥) → Keeps shape w x (with_record n x r) → Choice (suc n) w
         keeps_record here never k = keeps (with_record n x r) k (λ e me. commits_beside e.transaction r x.log (λ c. never c.0.0 c.1)) (chosen here k.sound)
 
-        commits_record : part_of shape r.at ≡ n → (t : ℕ) → r.transaction ≡ t → IsEnd r → r.outcome ≡ 1 → IsInFlight s.log h flight t → Commits shape w x t (with_record n x r) → Choice (suc n) w
+        commits_record : part_of shape r.at ≡ n → (t : ℕ) → r.transaction ≡ t → IsEnd r → r.outcome ≡ COMMITTED → IsInFlight s.log h flight t → Commits shape w x t (with_record n x r) → Choice (suc n) w
         commits_record here t own end one going k = record {
           state = seen shape w (with_record n x r);
           has = k.has;
@@ -345,7 +346,7 @@ module _ (shape : Shape) (base : Words) (s : State) (h : Words) (flight : List E
       ]
 
       -- the gate is stored
-      pub step_stored : CanAppend shape n (view n (log_words shape before)) chain place r → IsAddedIn shape n (under n) r → r.kind ≢ 5 → Passes s.log r →
+      pub step_stored : CanAppend shape n (view n (log_words shape before)) chain place r → IsAddedIn shape n (under n) r → r.kind ≢ CHECKPOINT → Passes s.log r →
           CanAdd shape s r added → Serves shape s h flight found r added → MayStandAt shape before (region_append shape n place r) made w → Choice (suc n) w
       step_stored can there plain passes fits serves reached = elim (append_leaves shape n before w x chain place number made added now fits_now meets_now reached) [
         | inl k ↦ stays k
