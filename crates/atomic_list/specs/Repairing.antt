@@ -1,5 +1,6 @@
 -- The repair of an image in which a bucket is being put behind or taken out. w are the words of partition p's view.
 use Rattle.std.specs.Prelude.{◌≡◌, ◌≢◌, ℕ, ◌<◌, List, []}
+use Rattle.persist_model.specs.declared.format.TheConstants.{MAX_WORDS}
 use Rattle.persist_model.specs.Region.{Words, Region, MayStand, AreInside}
 use Rattle.persist_model.specs.Progress.{Progress, Reaches, AreSettledAt}
 use Rattle.persist_model.specs.Runs.{progress_at, Run}
@@ -16,8 +17,8 @@ use Rattle.atomic_list.specs.ListPlans.{IsListPlan}
 -- the buckets whose PREV it may store to are within any region
 abbrev pub CanRepair : Repair → Type 0
 CanRepair Nothing = Unit {0}
-CanRepair (Append a) = a.node < 1187872
-CanRepair (TakeOut r) = r.next < 1187872
+CanRepair (Append a) = a.node < MAX_WORDS
+CanRepair (TakeOut r) = r.next < MAX_WORDS
 
 -- how far the repair that w asks for has come with its first k events
 abbrev pub repaired : Words → ℕ → Progress

@@ -6,8 +6,6 @@ mod plans;
 mod reads;
 mod repairing;
 
-pub use plans::{
-    HEAD, Insert, LAST_TAIL, Remove, TAIL, TO_APPEND, TO_REMOVE, insert_event, remove_event,
-};
+pub use plans::{Insert, Remove, insert_event, remove_event};
 pub use reads::next_bucket;
 pub use repairing::{Repair, repair_event, repair_of};

@@ -1,24 +1,11 @@
 // The plans of an insertion and of a removal.
 ghost use Rattle.std.specs.Prelude.{◌≡◌, ◌<◌, slice_get};
+ghost use Rattle.persist_model.specs.declared.format.TheConstants.{MAX_WORDS};
 ghost use Rattle.persist_model.specs.Chain.{word_behind, word_before};
 ghost use Rattle.atomic_list.specs.Plans.{insertion, removal};
 
 use persist_model::Event;
-
-/// The word that names the first bucket.
-pub const HEAD: u32 = 8;
-
-/// The word that names the last bucket.
-pub const TAIL: u32 = 9;
-
-/// The recovery word that names a bucket that is being put behind.
-pub const TO_APPEND: u32 = 10;
-
-/// The last bucket before that one.
-pub const LAST_TAIL: u32 = 11;
-
-/// The recovery word that names a bucket that is being taken out.
-pub const TO_REMOVE: u32 = 12;
+use persist_model::format::{HEAD, LAST_TAIL, TAIL, TO_APPEND, TO_REMOVE};
 
 /// A bucket to be put behind the list's last, or into the empty list for a tail of 0.
 #[derive(Clone, Copy, Debug, PartialEq, Eq)]
@@ -44,7 +31,7 @@ pub fn link_behind(bucket: u32) -> u32
 
 /// The word that names the bucket before this one: TAIL for 0.
 pub fn link_before(bucket: u32) -> u32
-    requires { bucket < 1187872 }
+    requires { bucket < MAX_WORDS }
     ensures { result ≡ word_before bucket }
 {
     if bucket == 0 { TAIL } else { bucket + 1 }
@@ -52,7 +39,7 @@ pub fn link_before(bucket: u32) -> u32
 
 /// Event i of the insertion, of 11.
 pub fn insert_event(a: Insert, i: u32) -> Option<Event>
-    requires { a.node < 1187872 }
+    requires { a.node < MAX_WORDS }
     ensures { result ≡ slice_get (insertion a) i }
 {
     let node = u64::from(a.node);
@@ -73,7 +60,7 @@ pub fn insert_event(a: Insert, i: u32) -> Option<Event>
 
 /// Event i of the removal, of 7.
 pub fn remove_event(r: Remove, i: u32) -> Option<Event>
-    requires { r.next < 1187872 }
+    requires { r.next < MAX_WORDS }
     ensures { result ≡ slice_get (removal r) i }
 {
     let event = match i {

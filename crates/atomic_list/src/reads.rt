@@ -5,8 +5,9 @@ ghost use Rattle.persist_model.specs.Shape.{shape_of};
 ghost use Rattle.atomic_list.specs.Reads.{HasList, SameLog, IsInChain, IsLinkedOn, next_in};
 ghost use Rattle.atomic_list.specs.Walk.{chain_of};
 
-use crate::plans::{LAST_TAIL, TO_APPEND, TO_REMOVE, link_behind};
+use crate::plans::link_behind;
 use persist_model::Look;
+use persist_model::format::{LAST_TAIL, TO_APPEND, TO_REMOVE};
 
 // The bucket that a word names.
 pub(crate) fn bucket_at<W: Look>(words: &W, a: u32) -> u32

@@ -5,8 +5,9 @@ ghost use Rattle.atomic_list.specs.Plans.{repair_plan, repair_asked};
 ghost use Rattle.atomic_list.specs.Repairing.{CanRepair};
 ghost use Rattle.atomic_list.specs.Reads.{HasList, SameLog};
 
-use crate::plans::{Insert, LAST_TAIL, Remove, TO_APPEND, TO_REMOVE, insert_event, remove_event};
+use crate::plans::{Insert, Remove, insert_event, remove_event};
 use crate::reads::bucket_at;
+use persist_model::format::{LAST_TAIL, TO_APPEND, TO_REMOVE};
 use persist_model::{Event, Look};
 
 /// What the recovery words ask for.

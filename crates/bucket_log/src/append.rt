@@ -1,4 +1,5 @@
 ghost use Rattle.std.specs.Prelude.{◌≡◌, ◌<◌, ◌^◌, true, slice_get};
+ghost use Rattle.persist_model.specs.declared.format.TheConstants.{MAX_WORDS};
 ghost use Rattle.region_layout.specs.Cell.{record_of};
 ghost use Rattle.bucket_log.specs.Plans.{append_plan, cell_plan, place_address};
 
@@ -44,7 +45,7 @@ fn cell_event(at: u32, cell: &Cell, i: u32) -> Option<Event>
 
 // Event i of an append in a fresh bucket.
 fn fresh_event(layout: Layout, place: Place, cell: &Cell, i: u32) -> Option<Event>
-    requires bucket { place.bucket < 1187872 }
+    requires bucket { place.bucket < MAX_WORDS }
     requires below { place.cell < layout.cells }
     requires fresh { place.fresh ≡ true }
     ensures { result ≡ slice_get (append_plan layout.cells place (record_of (place_address place) cell.now)) i }
@@ -66,7 +67,7 @@ fn fresh_event(layout: Layout, place: Place, cell: &Cell, i: u32) -> Option<Even
 /// Event i of the append of a cell, with the addresses of the partition's view: 21 and the cells of a bucket for a fresh bucket,
 /// 10 for another.
 pub fn append_event(layout: Layout, place: Place, cell: &Cell, i: u32) -> Option<Event>
-    requires bucket { place.bucket < 1187872 }
+    requires bucket { place.bucket < MAX_WORDS }
     requires below { place.cell < layout.cells }
     ensures { result ≡ slice_get (append_plan layout.cells place (record_of (place_address place) cell.now)) i }
 {

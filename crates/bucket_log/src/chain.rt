@@ -5,8 +5,9 @@ ghost use Rattle.atomic_list.specs.Walk.{chain_of};
 ghost use Rattle.region_layout.specs.Layout.{layout_shape};
 ghost use Rattle.bucket_log.specs.Reads.{IsLogOf, count_to};
 
-use atomic_list::{TAIL, TO_APPEND, TO_REMOVE, next_bucket};
+use atomic_list::next_bucket;
 use persist_model::Look;
+use persist_model::format::{TAIL, TO_APPEND, TO_REMOVE};
 use region_layout::Layout;
 
 /// The end of a chain: its last bucket, or 0, and how many there are.

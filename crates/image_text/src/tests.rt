@@ -1,29 +1,8 @@
 //! Worked texts.
-ghost use Rattle.std.specs.Prelude.{◌<◌, ◌^◌, length};
-
 use crate::{TextFault, read_image, write_image};
-use persist_model::Look;
 use region_layout::Kind;
 use std::test::Fail;
-
-/// A row of words in memory.
-#[derive(Drop)]
-struct Row {
-    words: Vec<u64>,
-    ghost small: { length words.items < 2 ^ 32 },
-}
-
-impl Look for Row {
-    ghost words = { λ row. row.words.items };
-
-    fn size(&self) -> u32 {
-        self.words.len() as u32
-    }
-
-    fn word(&self, a: u32) -> u64 {
-        self.words[a as usize]
-    }
-}
+use test_regions::Row;
 
 /// A region with one cells map, into which the put of 7 at key 3 has come as far as its word.
 const HALF_PUT: &[u8] =
@@ -40,7 +19,7 @@ fn an_image_is_written_as_it_was_read(rt: HostRuntime) -> Result<(), Fail> {
     let words = Vec::from_slice(rt.alloc(), image.words.as_slice())?;
     assert!(rt; words.len() < 1000);
     assert_eq!(rt; words.len(), 352);
-    let text = write_image(rt.alloc(), &Row { words }, image.kinds.as_slice())?;
+    let text = write_image(rt.alloc(), &Row::new(words), image.kinds.as_slice())?;
     assert_eq!(rt; text.as_slice(), HALF_PUT);
     Ok(())
 }
@@ -53,7 +32,7 @@ fn digits_are_read_in_either_case_and_written_in_one(rt: HostRuntime) -> Result<
     )?;
     let words = Vec::from_slice(rt.alloc(), image.words.as_slice())?;
     assert!(rt; words.len() < 1000);
-    let text = write_image(rt.alloc(), &Row { words }, image.kinds.as_slice())?;
+    let text = write_image(rt.alloc(), &Row::new(words), image.kinds.as_slice())?;
     assert_eq!(rt;
         text.as_slice(),
         b"image 11\nmap tree\nmap hash\n10 00ffaa0123456789\nend\n".as_slice()

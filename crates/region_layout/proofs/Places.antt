@@ -3,6 +3,7 @@ use Rattle.std.proofs.Common.{◌≡◌, ◌⊎◌, ℕ, suc, ◌+◌, ◌-◌, 
 use Rattle.std.proofs.lemmas.Nat.{div-mul-add}
 use Rattle.std.proofs.lemmas.Bool.{cases_lt}
 use Rattle.std.proofs.Math.Nat.{mul-le-mul, mul-le-mul_right, div-mul-le_self, lt-div-mul-add}
+use Rattle.persist_model.specs.declared.format.TheConstants.{MAX_WORDS}
 use Rattle.persist_model.specs.Shape.{Shape, bucket_size, heap, words_of_shape}
 use Rattle.region_layout.specs.Apart.{IsHeaderWord, IsWordOfBucket, IsWordOfBlock, WordsAreApart, SizesAreBounded}
 
@@ -55,7 +56,7 @@ words_apart shape allowed = record {
 }
 
 -- the most that buckets and blocks take
-most : (b n k : ℕ) → b ≤ 1024 → n ≤ 65536 → k ≤ 136 → 32 + b * k + 16 * n ≤ 1187872
+most : (b n k : ℕ) → b ≤ 1024 → n ≤ 65536 → k ≤ 136 → 32 + b * k + 16 * n ≤ MAX_WORDS
 most b n k few blocks small = omega (arith, mul-le-mul {n₁ = b} {m₁ = k} {n₂ = 1024} {m₂ = 136} few small)
 
 pub sizes_bounded : SizesAreBounded

@@ -12,7 +12,9 @@ pub use cell::{Cell, cell_word, read_cell};
 pub use fresh::{format, number_of_kind, number_of_policy};
 pub use layout::{Buckets, Kind, Layout, Policy};
 pub use reading::{ImageFault, read_layout};
-pub use record_cells::{checkpoint_cell, compensation_cell, end_cell, numbered, rollback_cell};
+pub use record_cells::{
+    checkpoint_cell, compensation_cell, end_cell, numbered, plain_cell, rollback_cell,
+};
 
 #[cfg(test)]
 mod tests;

@@ -30,8 +30,8 @@ pub fn compensation_cell(update: &Cell) -> Cell
     }
 }
 
-// A record without a word.
-fn plain_cell(transaction: u64, kind: RecordKind, outcome: u64) -> Cell
+/// A record that names no word.
+pub fn plain_cell(transaction: u64, kind: RecordKind, outcome: u64) -> Cell
     ensures { result ≡ plain transaction (kind_number kind) outcome }
 {
     Cell {

@@ -6,25 +6,7 @@ use persist_model::format::FIRST_MAGIC;
 use persist_model::{ImageRule, Look};
 use std::alloc::Global;
 use std::test::Fail;
-
-/// A row of words in memory.
-#[derive(Drop)]
-struct Row {
-    words: Vec<u64>,
-    ghost small: { length words.items < 2 ^ 32 },
-}
-
-impl Look for Row {
-    ghost words = { λ row. row.words.items };
-
-    fn size(&self) -> u32 {
-        self.words.len() as u32
-    }
-
-    fn word(&self, a: u32) -> u64 {
-        self.words[a as usize]
-    }
-}
+use test_regions::Row;
 
 /// A layout with one cells map.
 fn smallest(format: u32) -> Layout
@@ -50,7 +32,7 @@ fn changed(alloc: Global, address: usize, value: u64) -> Result<Option<Row>, Fai
     let mut words = Vec::from_slice(alloc, fresh.as_slice())?;
     if address < words.len() && words.len() < 1000 {
         words[address] = value;
-        return Ok(Some(Row { words }));
+        return Ok(Some(Row::new(words)));
     }
     Ok(None)
 }

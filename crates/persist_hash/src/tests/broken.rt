@@ -1,36 +1,32 @@
-ghost use Rattle.std.specs.Prelude.{◌<◌, ◌^◌, length};
-
 use crate::{Broken, sound};
 use persist_model::Look;
 use region_layout::{Layout, Policy};
 use std::alloc::Global;
 use std::process::Abort;
 use std::test::Fail;
+use test_regions::Row;
 
-#[derive(Drop)]
-struct Row {
-    words: Vec<u64>,
-    ghost small: { length words.items < 2 ^ 32 },
-}
+// A region with one hash: the root block stands at 96, a directory block at 112, and in it chain 39 with key 1 at 128 and key
+// 56 at 144.
+const HASH: &[(u32, u64)] = &[
+    (96, 1),
+    (101, 112),
+    (112, 1),
+    (120, 128),
+    (128, 1),
+    (129, 1),
+    (130, 10),
+    (131, 144),
+    (144, 1),
+    (145, 56),
+    (146, 20),
+];
 
-impl Look for Row {
-    ghost words = { λ row. row.words.items };
-
-    fn size(&self) -> u32 {
-        self.words.len() as u32
-    }
-
-    fn word(&self, a: u32) -> u64 {
-        self.words[a as usize]
-    }
-}
-
-// The words of a region with one hash, of which some are then changed: the root block stands at 96, a directory block at
-// 112, and in it chain 39 with key 1 at 128 and key 56 at 144.
+// What the check says of that region with some of its words changed.
 fn verdict(
     rt: &impl Abort,
     alloc: Global,
-    changes: &[(usize, u64)],
+    changes: &[(u32, u64)],
 ) -> Result<Result<(), Broken>, Fail> {
     let layout = Layout {
         policy: Policy::Force,
@@ -41,27 +37,13 @@ fn verdict(
         format: 1,
         partitions: 1,
     };
-    let mut words = vec![in alloc; 0; 352]?;
-    let hash = [
-        (96, 1),
-        (101, 112),
-        (112, 1),
-        (120, 128),
-        (128, 1),
-        (129, 1),
-        (130, 10),
-        (131, 144),
-        (144, 1),
-        (145, 56),
-        (146, 20),
-    ];
-    for (address, value) in hash.iter().chain(changes) {
-        if *address < words.len() {
-            words[*address] = *value;
-        }
+    let mut pairs = Vec::from_slice(alloc, changes)?;
+    for pair in HASH {
+        pairs.push(*pair)?;
     }
-    assert_eq!(rt; words.len(), 352);
-    Ok(sound(alloc, &Row { words }, layout, 0))
+    let row = Row::of(alloc, pairs.as_slice(), 352)?;
+    assert_eq!(rt; row.size(), 352);
+    Ok(sound(alloc, &row, layout, 0))
 }
 
 #[test]
@@ -75,7 +57,7 @@ fn each_kind_of_broken_map(rt: HostRuntime) -> Result<(), Fail> {
         verdict(&rt, rt.alloc(), &[(120, 0), (128, 0), (144, 0)])?,
         Ok(())
     );
-    let broken: [(&str, &[(usize, u64)]); 20] = [
+    let broken: [(&str, &[(u32, u64)]); 20] = [
         ("the root is another's", &[(96, 2)]),
         ("a directory block is another's", &[(112, 2)]),
         ("a directory block is nobody's", &[(112, 0)]),

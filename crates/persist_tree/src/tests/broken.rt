@@ -1,36 +1,32 @@
-ghost use Rattle.std.specs.Prelude.{◌<◌, ◌^◌, length};
-
 use crate::{Broken, sound};
 use persist_model::Look;
 use region_layout::{Layout, Policy};
 use std::alloc::Global;
 use std::process::Abort;
 use std::test::Fail;
+use test_regions::Row;
 
-#[derive(Drop)]
-struct Row {
-    words: Vec<u64>,
-    ghost small: { length words.items < 2 ^ 32 },
-}
+// A region with one tree: the root block stands at 96, the top node with key 5 at 112, and on its left the node with key 3 at
+// 128.
+const TREE: &[(u32, u64)] = &[
+    (96, 1),
+    (97, 112),
+    (112, 1),
+    (113, 5),
+    (114, 50),
+    (115, 128),
+    (117, 2),
+    (128, 1),
+    (129, 3),
+    (130, 30),
+    (133, 1),
+];
 
-impl Look for Row {
-    ghost words = { λ row. row.words.items };
-
-    fn size(&self) -> u32 {
-        self.words.len() as u32
-    }
-
-    fn word(&self, a: u32) -> u64 {
-        self.words[a as usize]
-    }
-}
-
-// The words of a region with one tree, of which some are then changed: the root block stands at 96, the top node with
-// key 5 at 112, and on its left the node with key 3 at 128.
+// What the check says of that region with some of its words changed.
 fn verdict(
     rt: &impl Abort,
     alloc: Global,
-    changes: &[(usize, u64)],
+    changes: &[(u32, u64)],
 ) -> Result<Result<(), Broken>, Fail> {
     let layout = Layout {
         policy: Policy::Force,
@@ -41,27 +37,13 @@ fn verdict(
         format: 1,
         partitions: 1,
     };
-    let mut words = vec![in alloc; 0; 352]?;
-    let tree = [
-        (96, 1),
-        (97, 112),
-        (112, 1),
-        (113, 5),
-        (114, 50),
-        (115, 128),
-        (117, 2),
-        (128, 1),
-        (129, 3),
-        (130, 30),
-        (133, 1),
-    ];
-    for (address, value) in tree.iter().chain(changes) {
-        if *address < words.len() {
-            words[*address] = *value;
-        }
+    let mut pairs = Vec::from_slice(alloc, changes)?;
+    for pair in TREE {
+        pairs.push(*pair)?;
     }
-    assert_eq!(rt; words.len(), 352);
-    Ok(sound(&Row { words }, layout, 0))
+    let row = Row::of(alloc, pairs.as_slice(), 352)?;
+    assert_eq!(rt; row.size(), 352);
+    Ok(sound(&row, layout, 0))
 }
 
 #[test]
@@ -71,7 +53,7 @@ fn each_kind_of_broken_map(rt: HostRuntime) -> Result<(), Fail> {
         verdict(&rt, rt.alloc(), &[(97, 0), (112, 0), (128, 0)])?,
         Ok(())
     );
-    let broken: [(&str, &[(usize, u64)]); 17] = [
+    let broken: [(&str, &[(u32, u64)]); 17] = [
         ("the root is another's", &[(96, 2)]),
         ("a node is another's", &[(128, 2)]),
         ("a node is nobody's", &[(112, 0)]),
