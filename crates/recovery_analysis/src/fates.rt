@@ -9,6 +9,7 @@ ghost use Rattle.recovery_analysis.specs.Fates.{IsNewestCheckpoint};
 
 use crate::grouping::Transaction;
 use bucket_log::Placed;
+use persist_model::RecordKind;
 use persist_model::format::{CHECKPOINT, COMMITTED, COMPENSATION, END, ROLLBACK, UPDATE};
 use region_layout::Cell;
 
@@ -79,14 +80,18 @@ pub fn newest_checkpoint(merged: &[Placed]) -> u64
 }
 
 // How many updates wait to be undone with one record more: a compensation closes the newest.
-fn waiting_with(waiting: usize, kind: u64) -> usize
+fn waiting_with(waiting: usize, cell: Cell) -> usize
     requires { waiting + 1 < 2 ^ 64 }
-    ensures { result ≡ (if kind == UPDATE then waiting + 1 else (if kind == COMPENSATION then waiting - 1 else waiting)) }
+    ensures { result ≡ (if cell.kind == UPDATE then waiting + 1 else (if cell.kind == COMPENSATION then waiting - 1 else waiting)) }
 {
-    match kind {
-        UPDATE => waiting + 1,
-        COMPENSATION => waiting.saturating_sub(1),
-        _ => waiting,
+    match cell.record_kind() {
+        Some(RecordKind::Update) => waiting + 1,
+        Some(RecordKind::Compensation) => waiting.saturating_sub(1),
+        Some(RecordKind::Rollback)
+        | Some(RecordKind::End)
+        | Some(RecordKind::Checkpoint)
+        | Some(RecordKind::Deletion) => waiting,
+        None => waiting,
     }
 }
 
@@ -98,7 +103,7 @@ fn waiting_updates(records: &[Placed]) -> usize
 {
     let mut waiting = 0;
     for placed in records {
-        waiting = waiting_with(waiting, placed.cell.kind);
+        waiting = waiting_with(waiting, placed.cell);
     }
     waiting
 }

@@ -20,6 +20,7 @@ use region_layout::laws::layouts_are_allowed;
 use region_layout::{Cell, Kind, Layout, Policy, format};
 use std::alloc::Global;
 use std::test::Fail;
+use test_regions::Row;
 
 /// A record with this number, whose values tell it from others. An end is that of a commit.
 fn record(lsn: u32, transaction: u64, kind: u64, address: u32) -> Placed
@@ -148,25 +149,6 @@ fn lists_the_gates_by_their_group(rt: HostRuntime) -> Result<(), Fail> {
     Ok(())
 }
 
-/// A row of words in memory.
-#[derive(Drop)]
-struct Row {
-    words: Vec<u64>,
-    ghost small: { length words.items < 2 ^ 32 },
-}
-
-impl Look for Row {
-    ghost words = { λ row. row.words.items };
-
-    fn size(&self) -> u32 {
-        self.words.len() as u32
-    }
-
-    fn word(&self, a: u32) -> u64 {
-        self.words[a as usize]
-    }
-}
-
 fn smallest() -> Layout
     ensures { result.structures ≡ 1 }
 {
@@ -184,18 +166,16 @@ fn smallest() -> Layout
 /// A region without records.
 fn empty(alloc: Global, layout: Layout) -> Result<Row, Fail>
     requires { layout.structures ≡ 1 }
-    ensures { IfOk result (λ row. IsSoundImage layout (length row.words.items) (slice_index row.words.items)) }
+    ensures { IfOk result (λ row. IsSoundImage layout (length (⟦<Row as Look>⟧.words row)) (slice_index (⟦<Row as Look>⟧.words row))) }
 {
     layouts_are_allowed(&layout);
     let fresh = format(alloc, layout, &[Kind::Cells])?;
-    Ok(Row {
-        words: fresh.into_vec(),
-    })
+    Ok(Row::new(fresh.into_vec()))
 }
 
 /// What is to be done to recover a sound image.
 fn work_of_image(alloc: Global, row: &Row, layout: Layout) -> Result<Work, Fail>
-    requires { IsSoundImage layout (length row.now.words.items) (slice_index row.now.words.items) }
+    requires { IsSoundImage layout (length (⟦<Row as Look>⟧.words row.now)) (slice_index (⟦<Row as Look>⟧.words row.now)) }
 {
     let merged = merge(alloc, row, layout)?;
     let work = work_of(alloc, merged.as_slice(), layout)?;

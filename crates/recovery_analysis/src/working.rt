@@ -20,7 +20,7 @@ use crate::grouping::{Transaction, transactions};
 use crate::picking::{losers_of, unskipped_of, winners_of};
 use bucket_log::Placed;
 use persist_model::format::{CHECKPOINT, END};
-use persist_model::{List, NoMemory};
+use persist_model::{List, NoMemory, RecordKind};
 use recovery_run::{Gates, put_gate};
 use region_layout::{Layout, Policy};
 use std::alloc::Global;
@@ -98,10 +98,14 @@ fn put_gate_of(gates: &mut Gates, placed: Placed)
     ensures checkpoints { gates.new.checkpoints.items ≡ gates.old.checkpoints.items ++ (if placed.cell.kind == CHECKPOINT then placed.at ∷ [] else []) }
     ensures spare { (more ends checkpoints : ℕ) → HasSpare gates.old (more + 1) (ends + 1) (checkpoints + 1) → HasSpare gates.new more ends checkpoints }
 {
-    match placed.cell.kind {
-        END => put_gate(&mut gates.ends, placed.at),
-        CHECKPOINT => put_gate(&mut gates.checkpoints, placed.at),
-        _ => put_gate(&mut gates.gates, placed.at),
+    match placed.cell.record_kind() {
+        Some(RecordKind::End) => put_gate(&mut gates.ends, placed.at),
+        Some(RecordKind::Checkpoint) => put_gate(&mut gates.checkpoints, placed.at),
+        Some(RecordKind::Update)
+        | Some(RecordKind::Compensation)
+        | Some(RecordKind::Rollback)
+        | Some(RecordKind::Deletion) => put_gate(&mut gates.gates, placed.at),
+        None => put_gate(&mut gates.gates, placed.at),
     }
 }
 

@@ -2,6 +2,7 @@
 use Rattle.std.proofs.Common.{◌≡◌, ◌≢◌, inl, inr, ℕ, ◌+◌, ◌*◌, ◌<◌, ◌≤◌, ◌==◌, Bool, true, false, if◌then◌else◌, List, refl, sym, ◌∙◌, arith}
 use Rattle.std.proofs.Math.Nat.{mul-le-mul_right}
 use Rattle.std.proofs.lemmas.Bool.Decides.{nat_tests}
+use Rattle.persist_model.specs.declared.format.TheConstants.{MAX_WORDS}
 use Rattle.persist_model.specs.Region.{Words}
 use Rattle.persist_model.specs.Shape.{Shape, IsBucketOf, heap, list_words}
 use Rattle.persist_model.specs.Chain.{IsLink, ListRules}
@@ -23,10 +24,10 @@ some_of : (n : ℕ) → (n == 0) ≡ false → n ≢ 0
 some_of n e z = grind (arith, nat_tests)
 
 -- the buckets of a repair are within any region
-can_of : (bucket : ℕ → Type 0) (w : Words) (chain : List ℕ) → ((b : ℕ) → bucket b → b < 1187872) → ListRules bucket w chain → CanRepair (repair_asked w)
+can_of : (bucket : ℕ → Type 0) (w : Words) (chain : List ℕ) → ((b : ℕ) → bucket b → b < MAX_WORDS) → ListRules bucket w chain → CanRepair (repair_asked w)
 can_of bucket w chain small rules = by (w 10 == 0) (w 12 == 0) (some_of (w 12))
   where
-    small_link : (b : ℕ) → IsLink bucket b → b < 1187872
+    small_link : (b : ℕ) → IsLink bucket b → b < MAX_WORDS
     small_link b (inl e) = omega (arith, e)
     small_link b (inr is) = small b is
 
@@ -55,7 +56,7 @@ heap_small shape ok = let most = ok.buckets.1 in elim ok.cells [ inl e ↦ rows 
         omega (arith, a, b)
 
 -- a bucket is within any region
-pub bucket_small : (shape : Shape) → IsAllowed shape → (p : ℕ) → p < shape.partitions → (b : ℕ) → IsBucketOf shape p b → b < 1187872
+pub bucket_small : (shape : Shape) → IsAllowed shape → (p : ℕ) → p < shape.partitions → (b : ℕ) → IsBucketOf shape p b → b < MAX_WORDS
 bucket_small shape ok p inside b is =
     let below : b < heap shape = bucket_word_below shape p b ok inside (b, is, omega arith, omega arith) in
     let few = heap_small shape ok in

@@ -1,5 +1,6 @@
 -- What the removal of a closed bucket leaves of the lists.
 use Rattle.std.proofs.Common.{◌≡◌, ◌≢◌, inl, inr, ℕ, ◌+◌, ◌<◌, ◌≤◌, List, [], ◌∷◌, ◌++◌, length, refl, ap, sym, subst, arith, length-append}
+use Rattle.persist_model.specs.declared.format.TheConstants.{MAX_WORDS}
 use Rattle.persist_model.specs.Region.{Words}
 use Rattle.persist_model.specs.Progress.{Wrote, Reaches}
 use Rattle.persist_model.specs.Runs.{progress_at}
@@ -51,10 +52,10 @@ module _ (shape : Shape) (ok : IsAllowed shape) (p : ℕ) (inside : p < shape.pa
       let m : length shorter ≡ length can.front + length can.rest = length-append can.front can.rest in
       omega (arith, l, m)
 
-  pub next_small : r.next < 1187872
-  next_small = subst (λ n. n < 1187872) (sym can.can_remove.next) (by can.rest (λ b m. Each-among (IsBucketOf shape p) longer b can.can_remove.at_rest.buckets (among_right can.front (r.node ∷ can.rest) b (inr m))))
+  pub next_small : r.next < MAX_WORDS
+  next_small = subst (λ n. n < MAX_WORDS) (sym can.can_remove.next) (by can.rest (λ b m. Each-among (IsBucketOf shape p) longer b can.can_remove.at_rest.buckets (among_right can.front (r.node ∷ can.rest) b (inr m))))
     where
-      by : (rest : List ℕ) → ((b : ℕ) → IsAmong rest b → IsBucketOf shape p b) → first_or 0 rest < 1187872
+      by : (rest : List ℕ) → ((b : ℕ) → IsAmong rest b → IsBucketOf shape p b) → first_or 0 rest < MAX_WORDS
       by [] each = omega arith
       by (x ∷ rest) each = bucket_small shape ok p inside x (each x (inl refl))
 

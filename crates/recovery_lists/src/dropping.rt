@@ -1,5 +1,6 @@
 // The buckets that are taken out of a partition's chain.
 ghost use Rattle.std.specs.Prelude.{◌≡◌, ◌≤◌, ◌<◌, ◌+◌, ◌*◌, ℕ, [], length};
+ghost use Rattle.persist_model.specs.declared.format.TheConstants.{MAX_WORDS};
 ghost use Rattle.persist_model.specs.Shape.{count_buckets};
 ghost use Rattle.persist_model.specs.State.{State, IsSoundState};
 ghost use Rattle.log_laws.specs.Parts.{EachKeeps};
@@ -26,7 +27,7 @@ struct RemovalPlan {
     p: u32,
     removal: Remove,
     ghost partition_within: { p < 3 },
-    ghost next_within: { removal.next < 1187872 },
+    ghost next_within: { removal.next < MAX_WORDS },
 }
 
 impl Plan for RemovalPlan {

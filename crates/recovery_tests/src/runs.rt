@@ -5,6 +5,7 @@ ghost use Rattle.persist_model.specs.Region.{AreSettled};
 use crate::images::{Image, Word, words_of};
 use lane_traits::Device;
 use persist_model::Look;
+use persist_model::format::MAX_WORDS;
 use recovery_passes::{Recovered, recover};
 use std::alloc::Global;
 use std::process::Abort;
@@ -27,7 +28,7 @@ pub fn loaded(rt: &impl Abort, alloc: Global, words: &[u64]) -> PlainCells
     ensures { AreSettled (⟦<PlainCells as Device>⟧.cells result) }
 {
     let mut region = PlainCells::new(alloc, u64::MAX);
-    assert!(rt; words.len() <= 1187872);
+    assert!(rt; words.len() <= MAX_WORDS as usize);
     match region.load(words) {
         Ok(()) => region,
         Err(refused) => panic!(rt; "{refused:?}"),

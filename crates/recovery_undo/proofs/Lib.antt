@@ -1,6 +1,5 @@
 pub mod RecordsOf
 pub mod Noting
-pub mod ReadKinds
 pub mod UndoPass
 pub mod Places
 pub mod Planned

@@ -1,5 +1,6 @@
 // The append of a record, as a part of recovery.
 ghost use Rattle.std.specs.Prelude.{◌≡◌, ◌≤◌, ◌<◌, ◌+◌, ℕ, List};
+ghost use Rattle.persist_model.specs.declared.format.TheConstants.{MAX_WORDS};
 ghost use Rattle.persist_model.specs.Records.{Record};
 ghost use Rattle.persist_model.specs.Chain.{view};
 ghost use Rattle.persist_model.specs.Shape.{part_of, IsBucketOf};
@@ -41,7 +42,7 @@ struct CellAppend {
     place: Place,
     cell: Cell,
     ghost few: { partition < 3 },
-    ghost bucket: { place.bucket < 1187872 },
+    ghost bucket: { place.bucket < MAX_WORDS },
     ghost below: { place.cell < layout.cells },
 }
 
@@ -66,7 +67,7 @@ fn next_place<D: Device>(device: &D, layout: Layout, p: u32, table: &mut UsedBuc
     requires table { KnowsRegion layout table.old (D.cells device.now) }
     ensures takes { IsQuiet p (newest_at (D.cells device.now)) → IsPlaceFor (layout_shape layout) p (newest_at (D.cells device.now)) result }
     ensures next { IsNextPlace (layout_shape layout) p (view p (newest_at (D.cells device.now))) (chains_in (layout_shape layout) (newest_at (D.cells device.now)) p) result }
-    ensures bucket { result.bucket < 1187872 }
+    ensures bucket { result.bucket < MAX_WORDS }
     ensures below { result.cell < layout.cells }
     ensures in_part { IsBucketOf (layout_shape layout) p result.bucket }
     ensures table { KnowsRegion layout table.new (D.cells device.now) }

@@ -12,7 +12,8 @@ use crate::appending::{Appended, append_record};
 use crate::held::Held;
 use crate::target::plain_cell;
 use lane_traits::{Device, Done};
-use persist_model::format::{CHECKPOINT, NO_OUTCOME};
+use persist_model::RecordKind;
+use persist_model::format::NO_OUTCOME;
 use recovery_run::put_gate;
 use region_layout::Layout;
 
@@ -31,7 +32,7 @@ pub fn append_checkpoint<D: Device>(device: &mut D, layout: Layout, held: &mut H
     ensures spare { D.spare device.old ≤ D.spare device.new + (layout.cells + 21) }
     ensures header { KeepsWords (IsPlainHeaderWord (layout_shape layout)) (D.cells device.old) (D.cells device.new) }
 {
-    let cell = plain_cell(0, held.next, CHECKPOINT, NO_OUTCOME);
+    let cell = plain_cell(0, held.next, RecordKind::Checkpoint, NO_OUTCOME);
     match append_record(device, layout, 0, &cell, &mut held.table) {
         Appended::Stopped => Done::Stopped,
         Appended::At(at) => {

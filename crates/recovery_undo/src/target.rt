@@ -1,10 +1,11 @@
 // The transaction that is undone, and the cells of the records that its undo appends.
 ghost use Rattle.std.specs.Prelude.{◌≡◌, ◌<◌, ℕ};
+ghost use Rattle.persist_model.specs.Kinds.{kind_number};
 ghost use Rattle.region_layout.specs.Cell.{record_of};
 ghost use Rattle.recovery_undo.specs.Records.{compensation_of, plain_record};
 
-use persist_model::format::{COMPENSATION, NO_OUTCOME};
-use region_layout::{Cell, Layout};
+use persist_model::RecordKind;
+use region_layout::{Cell, Layout, numbered};
 
 // The transaction that is undone, and the partition of its records.
 #[derive(Clone, Copy)]
@@ -16,33 +17,19 @@ pub(crate) struct Target {
 }
 
 // The cell of a record that names no word.
-pub(crate) fn plain_cell(transaction: u64, lsn: u64, kind: u64, outcome: u64) -> Cell
-    ensures { (at : ℕ) → record_of at result ≡ plain_record at lsn transaction kind outcome }
+pub(crate) fn plain_cell(transaction: u64, lsn: u64, kind: RecordKind, outcome: u64) -> Cell
+    ensures { (at : ℕ) → record_of at result ≡ plain_record at lsn transaction (kind_number kind) outcome }
 {
-    Cell {
-        lsn,
-        transaction,
-        kind,
-        word: 0,
-        before: 0,
-        after: 0,
-        undo_next: 0,
-        outcome,
-    }
+    numbered(region_layout::plain_cell(transaction, kind, outcome), lsn)
 }
 
 // The cell of an update's compensation.
 pub(crate) fn compensation_cell(transaction: u64, lsn: u64, update: &Cell) -> Cell
     ensures { (at from : ℕ) → record_of at result ≡ compensation_of transaction (record_of from update.now) at lsn }
 {
+    let of_update = region_layout::compensation_cell(update);
     Cell {
-        lsn,
         transaction,
-        kind: COMPENSATION,
-        word: update.word,
-        before: update.after,
-        after: update.before,
-        undo_next: update.undo_next,
-        outcome: NO_OUTCOME,
+        ..numbered(of_update, lsn)
     }
 }

@@ -70,7 +70,12 @@ fn begin<D: Device>(device: &mut D, target: Target, records: &[Placed], held: &m
     if has_rollback(records) {
         return Done::Made;
     }
-    let cell = plain_cell(target.transaction, held.next, ROLLBACK, NO_OUTCOME);
+    let cell = plain_cell(
+        target.transaction,
+        held.next,
+        RecordKind::Rollback,
+        NO_OUTCOME,
+    );
     append_note(device, target, &cell, held)
 }
 
@@ -154,7 +159,7 @@ fn turn<D: Device>(
         → Halts target start (seen (D.cells device.new) (D.counts device.new) (D.spare device.new)) }
     ensures counter { counter.new ≤ counter.old + 1 }
 {
-    match RecordKind::read(placed.cell.kind) {
+    match placed.cell.record_kind() {
         Some(RecordKind::Update) => undo_update(device, target, placed, counter, held),
         Some(RecordKind::Compensation) => {
             *counter += 1;
@@ -205,7 +210,7 @@ fn finish<D: Device>(device: &mut D, target: Target, held: &mut Held) -> Done
         Done::Stopped => return Done::Stopped,
         Done::Made => {}
     }
-    let cell = plain_cell(target.transaction, held.next, END, ROLLED_BACK);
+    let cell = plain_cell(target.transaction, held.next, RecordKind::End, ROLLED_BACK);
     match append_record(
         device,
         target.layout,

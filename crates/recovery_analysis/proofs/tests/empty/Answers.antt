@@ -31,8 +31,8 @@ fresh_image layout kinds words ok long is =
       has_layout = empty.shape_is;
     })
 
-pub invariant_of-result : goal.invariant_of-result
-invariant_of-result c = record { small = fresh_small c.args.layout _ c.into_vec.result.items c.layouts_are_allowed.ensures (c.into_vec.ensures ∙ c.in_ok-fresh.ensures) }
+pub new-requires : goal.new-requires
+new-requires c = fresh_small c.args.layout _ c.into_vec.result.items c.layouts_are_allowed.ensures (c.into_vec.ensures ∙ c.in_ok-fresh.ensures)
 
 pub returns : goal.returns
-returns c = fresh_image c.args.layout _ c.into_vec.result.items c.layouts_are_allowed.ensures (sym c.requires) (c.into_vec.ensures ∙ c.in_ok-fresh.ensures)
+returns c = fresh_image c.args.layout _ _ c.layouts_are_allowed.ensures (sym c.requires) (c.new.ensures ∙ c.into_vec.ensures ∙ c.in_ok-fresh.ensures)
