@@ -1,10 +1,9 @@
 -- A closing in the form of states.
-use Rattle.std.proofs.Common.{◌≡◌, ◌≢◌, ◌⊎◌, inl, inr, ℕ, Bool, true, false, ◌<◌, ◌≤◌, if◌then◌else◌, List, [], length, take, refl, sym, ap, subst, ◌∙◌, arith, nat_lt}
+use Rattle.std.proofs.Common.{◌≡◌, ◌⊎◌, inl, inr, ℕ, Bool, true, false, ◌<◌, if◌then◌else◌, List, [], length, take, refl, sym, ap, subst, ◌∙◌, arith, nat_lt}
 use Rattle.std.proofs.lemmas.Bool.{ltb-true}
 use Rattle.std.proofs.lemmas.List.{take_all}
 use Rattle.persist_model.specs.Region.{Words}
-use Rattle.persist_model.specs.Progress.{Progress, Wrote, start, advance_all, Reaches}
-use Rattle.persist_model.specs.Runs.{progress_at}
+use Rattle.persist_model.specs.Progress.{Wrote, start, advance_all, Reaches}
 use Rattle.persist_model.specs.Records.{Record, IsAmong}
 use Rattle.persist_model.specs.Shape.{Shape, heap, log_words, heap_words, part_of}
 use Rattle.persist_model.specs.ImageRecords.{cell_address, record_at}

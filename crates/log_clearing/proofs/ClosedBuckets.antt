@@ -1,20 +1,19 @@
 -- How the next removal is found along the chain.
-use Rattle.std.proofs.Common.{◌≡◌, ◌≢◌, ◌⊎◌, ◌↔◌, inl, inr, ℕ, ◌+◌, ◌*◌, ◌<◌, ◌≤◌, List, [], ◌∷◌, ◌++◌, length, Option, Some, None, refl, ap, sym, ◌∙◌, arith, subst, append_assoc}
+use Rattle.std.proofs.Common.{◌≡◌, ◌≢◌, inl, inr, ℕ, ◌+◌, ◌<◌, List, [], ◌∷◌, ◌++◌, Option, Some, None, refl, ap, sym, ◌∙◌, arith, subst, append_assoc}
 use Rattle.persist_model.specs.Region.{Words}
 use Rattle.persist_model.specs.Records.{IsAmong}
-use Rattle.persist_model.specs.Shape.{Shape, IsBucketOf, heap}
-use Rattle.persist_model.specs.Chain.{first_or, last_or}
+use Rattle.persist_model.specs.Shape.{Shape, IsBucketOf}
+use Rattle.persist_model.specs.Chain.{last_or}
 use Rattle.persist_model.specs.ImageRecords.{cell_address}
 use Rattle.persist_model.specs.Sound.{IsClosedBucket}
 use Rattle.atomic_list.specs.declared.plans.Remove.{Remove}
 use Rattle.atomic_list.specs.Reads.{SameLog, next_in}
 use Rattle.atomic_list.specs.Walk.{chain_of}
-use Rattle.atomic_list.proofs.Chains.{last-push}
 use Rattle.atomic_list.proofs.Parts.{whole_bucket_fits}
 use Rattle.region_layout.specs.declared.layout.Layout.{Layout}
 use Rattle.region_layout.specs.Layout.{layout_shape}
 use Rattle.bucket_log.specs.Reads.{IsLogOf}
-use Rattle.bucket_log.proofs.AppendImages.{Each-among, IsAmong-cases, among_last}
+use Rattle.bucket_log.proofs.AppendImages.{Each-among, IsAmong-cases}
 use Rattle.bucket_log.proofs.Walking.{IsGoodChain, good_chain, same_chain, same_below, IsWalked, IsAtEnd, walk_goes_to, walk_goes_on, walk_stops}
 use Rattle.log_clearing.specs.Dropping.{IsFirstClosed, IsRemovalOf}
 

@@ -1,14 +1,13 @@
 -- The state of words in which some of a closing is done.
-use Rattle.std.proofs.Common.{◌≡◌, ◌≢◌, ◌⊎◌, ◌↔◌, inl, inr, ℕ, zero, suc, Bool, true, false, ◌+◌, ◌-◌, ◌*◌, ◌<◌, ◌≤◌, ◌==◌, if◌then◌else◌, List, [], ◌∷◌, ◌++◌, length, refl, sym, ap, subst, ◌∙◌, arith}
+use Rattle.std.proofs.Common.{◌≡◌, ◌≢◌, ◌⊎◌, inl, inr, ℕ, zero, suc, Bool, true, false, ◌+◌, ◌-◌, ◌*◌, ◌<◌, ◌≤◌, ◌==◌, if◌then◌else◌, List, [], ◌∷◌, length, refl, sym, ap, subst, ◌∙◌, arith}
 use Rattle.std.proofs.lemmas.Bool.{cases_lt}
 use Rattle.std.proofs.lemmas.Bool.Decides.{nat_tests, eqb_tells}
 use Rattle.persist_model.specs.Region.{Words}
 use Rattle.persist_model.specs.Records.{Record, Log, IsAmong, Has, IsNewestFirst, IsEnd, IsCheckpoint}
 use Rattle.log_laws.specs.Closing.{IsSublog, empty, stays, goes, IsClosedBy}
-use Rattle.persist_model.specs.Shape.{Shape, IsBucketOf, bucket_size, count_buckets, list_words}
-use Rattle.persist_model.specs.ImageRecords.{cell_address, record_at, IsRecordOf, AreRecords}
+use Rattle.persist_model.specs.Shape.{Shape, IsBucketOf, count_buckets, list_words}
+use Rattle.persist_model.specs.ImageRecords.{cell_address, record_at, AreRecords}
 use Rattle.persist_model.specs.Chain.{Each, view, last_or, ListRules}
-use Rattle.persist_model.specs.State.{State}
 use Rattle.persist_model.specs.Sound.{IsClosedBucket, closed_cells, room_of}
 use Rattle.log_laws.proofs.Deciding.{IsDecided}
 use Rattle.log_laws.proofs.Closings.{part_among}

@@ -1,9 +1,9 @@
 -- Each image of each prefix of a closing has the state of some part of the closing.
-use Rattle.std.proofs.Common.{◌≡◌, ◌≢◌, ◌⊎◌, inl, inr, ℕ, Bool, true, false, ◌<◌, ◌≤◌, ◌==◌, if◌then◌else◌, List, refl, sym, ap, subst, ◌∙◌, arith, nat_lt}
-use Rattle.std.proofs.lemmas.Bool.{ltb-true, ltb-false}
+use Rattle.std.proofs.Common.{◌≡◌, ◌≢◌, ◌⊎◌, inl, ℕ, Bool, true, false, ◌<◌, ◌≤◌, if◌then◌else◌, List, refl, ap, arith, nat_lt}
+use Rattle.std.proofs.lemmas.Bool.{ltb-true}
 use Rattle.std.proofs.lemmas.Bool.Decides.{nat_tests}
 use Rattle.persist_model.specs.Region.{Words}
-use Rattle.persist_model.specs.Progress.{Progress, Reaches}
+use Rattle.persist_model.specs.Progress.{Reaches}
 use Rattle.persist_model.specs.Runs.{progress_at}
 use Rattle.persist_model.specs.Records.{Record, Log, IsAmong}
 use Rattle.log_laws.specs.Closing.{IsClosedBy}

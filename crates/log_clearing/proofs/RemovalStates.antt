@@ -1,14 +1,14 @@
 -- The removal of a closed bucket in the form of states.
-use Rattle.std.proofs.Common.{◌≡◌, ◌≢◌, ◌⊎◌, ◌↔◌, inl, inr, ℕ, zero, suc, ◌+◌, ◌-◌, ◌*◌, ◌<◌, ◌≤◌, ◌==◌, Bool, true, false, cond, if◌then◌else◌, List, [], ◌∷◌, ◌++◌, length, map, refl, ap, sym, ◌∙◌, arith, subst, length-append}
-use Rattle.std.proofs.lemmas.Bool.Decides.{nat_tests, eqb_tells}
+use Rattle.std.proofs.Common.{◌≡◌, ◌≢◌, ◌⊎◌, ◌↔◌, inl, inr, ℕ, ◌+◌, ◌-◌, ◌*◌, ◌<◌, ◌≤◌, ◌==◌, true, false, cond, List, [], ◌∷◌, ◌++◌, length, refl, ap, sym, ◌∙◌, arith, subst, length-append}
+use Rattle.std.proofs.lemmas.Bool.Decides.{nat_tests}
 use Rattle.persist_model.specs.Region.{Words}
-use Rattle.persist_model.specs.Progress.{Wrote, start, advance_all, Reaches}
+use Rattle.persist_model.specs.Progress.{Wrote, start, Reaches}
 use Rattle.persist_model.specs.Runs.{progress_at}
 use Rattle.persist_model.specs.Records.{Record, IsAmong}
 use Rattle.persist_model.specs.Shape.{Shape, IsBucketOf, heap, log_words, heap_words, count_buckets, list_words}
-use Rattle.persist_model.specs.Chain.{view, out_address, out_event, first_or, last_or, AreBuckets}
+use Rattle.persist_model.specs.Chain.{view, out_address, last_or, AreBuckets}
 use Rattle.persist_model.specs.ImageRecords.{cell_address, record_at, IsRecordOf}
-use Rattle.persist_model.specs.State.{State, IsSoundState}
+use Rattle.persist_model.specs.State.{State}
 use Rattle.persist_model.specs.Sound.{IsListOf, IsClosedBucket, closed_cells, HasState, room_of}
 use Rattle.persist_model.proofs.Projecting.{AreAway-take, IsFixed-start, IsFixed-aways, Reaches-fixed}
 use Rattle.log_laws.specs.Recovering.{with_heap}
@@ -16,8 +16,8 @@ use Rattle.log_laws.proofs.Views.{AreStoresOn, AreStoresOn-map, AreStoresOn-out,
 use Rattle.atomic_list.specs.declared.plans.Remove.{Remove}
 use Rattle.atomic_list.specs.Plans.{removal}
 use Rattle.atomic_list.specs.Rules.{IsAtRest, IsList, at_rest, IsListWord}
-use Rattle.atomic_list.specs.Removal.{CanRemove, removed, IsWithOrWithout}
-use Rattle.atomic_list.specs.Views.{IsGate, IsListWordOrGate, IsRemovedClosed}
+use Rattle.atomic_list.specs.Removal.{CanRemove, removed}
+use Rattle.atomic_list.specs.Views.{IsListWordOrGate}
 use Rattle.atomic_list.proofs.Agreeing.{lists_agree}
 use Rattle.atomic_list.proofs.Closings.{removed_stays_closed, list_from_view}
 use Rattle.atomic_list.proofs.ListChains.{list_has_chain}
@@ -36,7 +36,7 @@ use Rattle.bucket_log.proofs.PartStates.{part_kept, part_with_room}
 use Rattle.bucket_log.proofs.RecordSets.{same_cell}
 use Rattle.bucket_log.proofs.Rooms.{closed_same, room-last, room_same}
 use Rattle.bucket_log.proofs.Scans.{among_left, among_right, among_append}
-use Rattle.log_clearing.specs.Removals.{CanDrop, region_removal, more_room, with_room, IsDrop, ReadRemovalsMayBeMade, RemovalsAreStates, RoomKeeps}
+use Rattle.log_clearing.specs.Removals.{region_removal, more_room, with_room, IsDrop, ReadRemovalsMayBeMade, RemovalsAreStates, RoomKeeps}
 
 -- ---- lists
 

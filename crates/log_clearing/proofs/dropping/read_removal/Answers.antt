@@ -1,5 +1,5 @@
 use Rattle.std.specs.Prelude.{slice_index, length}
-use Rattle.std.proofs.Common.{◌≡◌, refl, arith, inr}
+use Rattle.std.proofs.Common.{refl, arith}
 use Rattle.atomic_list.specs.Walk.{chain_of}
 use Rattle.region_layout.specs.Layout.{layout_shape}
 use Rattle.bucket_log.proofs.Walking.{in_chain, next_is, next_among, bucket_inside, good_chain, walk_node, walk_stops, walk_is_over}
