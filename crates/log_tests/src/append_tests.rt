@@ -5,31 +5,14 @@ use crate::list_tests::make;
 use crate::log_checks::{Log, log_at_rest};
 use bucket_log::{Place, append_event, place, room, scan};
 use lane_traits::Device;
+use persist_model::format::{MAX_WORDS, NO_OUTCOME, UPDATE};
 use persist_model::{Event, Look};
 use region_layout::{Cell, Kind, Layout, Policy, format};
 use std::alloc::Global;
 use std::process::Abort;
 use std::test::Fail;
+use test_regions::Row;
 use word_region::PlainCells;
-
-/// Words in memory.
-#[derive(Drop)]
-pub(crate) struct Row {
-    words: Vec<u64>,
-    ghost small: { length words.items < 2 ^ 32 },
-}
-
-impl Look for Row {
-    ghost words = { λ row. row.words.items };
-
-    fn size(&self) -> u32 {
-        self.words.len() as u32
-    }
-
-    fn word(&self, a: u32) -> u64 {
-        self.words[a as usize]
-    }
-}
 
 // The first list word of a partition in the region.
 fn list_words(p: u32) -> u32
@@ -50,7 +33,7 @@ fn row_of(words: Vec<u64>) -> Result<Row, Fail> {
     if words.len() >= 4294967296 {
         return Err("large".into());
     }
-    Ok(Row { words })
+    Ok(Row::new(words))
 }
 
 // The words as partition p sees them: its list words stand at 8 to 12.
@@ -119,7 +102,7 @@ pub(crate) fn fresh(
         partitions,
     };
     let words = format(alloc, layout, &[Kind::Cells])?;
-    assert!(rt; words.len() <= 1187872);
+    assert!(rt; words.len() <= MAX_WORDS as usize);
     let mut region = PlainCells::new(alloc, 100000);
     assert!(rt; region.load(words.as_slice()).is_ok());
     Ok(region)
@@ -130,12 +113,12 @@ fn update(number: u64) -> Cell {
     Cell {
         lsn: number,
         transaction: 1,
-        kind: 1,
+        kind: UPDATE,
         word: 100 + number % 16,
         before: 0,
         after: number,
         undo_next: 0,
-        outcome: 0,
+        outcome: NO_OUTCOME,
     }
 }
 
@@ -148,7 +131,7 @@ pub(crate) fn make_append(
     at: Place,
     cell: &Cell,
 ) -> u32 {
-    assert!(rt; at.bucket < 1187872 && at.cell < log.layout.cells);
+    assert!(rt; at.bucket < MAX_WORDS && at.cell < log.layout.cells);
     let mut made = 0;
     for i in 0..100 {
         if let Some(event) = append_event(log.layout, at, cell, i) {
@@ -181,7 +164,7 @@ fn append(
     let log = log_at_rest(&words, step.p, step.chain).ok_or("no log")?;
     assert_eq!(rt; room(&words, log.layout, log.part), step.room, "{number}");
     let at = place(&words, log.layout, log.part).ok_or("no place")?;
-    assert!(rt; at.cell < 16 && at.bucket < 1187872);
+    assert!(rt; at.cell < 16 && at.bucket < MAX_WORDS);
     assert_eq!(rt; at.bucket + 8 + 8 * at.cell, step.at, "{number}");
     assert_eq!(rt; at.fresh, step.fresh, "{number}");
     let events = make_append(rt, region, log, step.p, at, &update(number));

@@ -7,8 +7,8 @@ ghost use Rattle.atomic_list.specs.Rules.{IsAtRest, IsAppending, IsRemoving};
 ghost use Rattle.log_tests.specs.Walked.{small, IsSmall, Follows, Walked};
 
 use atomic_list::laws::rules_are_cases;
-use atomic_list::{HEAD, LAST_TAIL, TAIL, TO_APPEND, TO_REMOVE};
 use persist_model::Look;
+use persist_model::format::{HEAD, LAST_TAIL, TAIL, TO_APPEND, TO_REMOVE};
 
 /// A change of a list: the chains before and after it, and the bucket with what stands before and behind it.
 #[derive(Clone, Copy)]

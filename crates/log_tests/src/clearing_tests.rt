@@ -8,6 +8,7 @@ use atomic_list::{Remove, remove_event};
 use bucket_log::place;
 use lane_traits::Device;
 use log_clearing::{ClearList, clear_event, removal};
+use persist_model::format::{CHECKPOINT, COMMITTED, END, MAX_WORDS, NO_OUTCOME, UPDATE};
 use persist_model::{Event, List, Look, NoMemory, Pick};
 use region_layout::Cell;
 use std::alloc::Global;
@@ -25,21 +26,21 @@ pub(crate) struct Entry {
 pub(crate) fn update(transaction: u64) -> Entry {
     Entry {
         transaction,
-        kind: 1,
+        kind: UPDATE,
     }
 }
 
 pub(crate) fn end(transaction: u64) -> Entry {
     Entry {
         transaction,
-        kind: 4,
+        kind: END,
     }
 }
 
 fn checkpoint() -> Entry {
     Entry {
         transaction: 0,
-        kind: 5,
+        kind: CHECKPOINT,
     }
 }
 
@@ -52,7 +53,11 @@ pub(crate) fn cell_of(entry: Entry, number: u64) -> Cell {
         before: 0,
         after: number,
         undo_next: 0,
-        outcome: if entry.kind == 4 { 1 } else { 0 },
+        outcome: if entry.kind == END {
+            COMMITTED
+        } else {
+            NO_OUTCOME
+        },
     }
 }
 
@@ -169,7 +174,7 @@ fn stopped(
     pick: Pick,
 ) -> PlainCells {
     let mut region = PlainCells::new(alloc, 100000);
-    assert!(rt; words.len() <= 1187872);
+    assert!(rt; words.len() <= MAX_WORDS as usize);
     assert!(rt; region.load(words).is_ok());
     for i in 0..events {
         if let Some(event) = clear_event(list, i as u64) {
@@ -206,7 +211,7 @@ fn check_removals(rt: &impl Abort, region: &mut PlainCells, case: &Case) -> Resu
         let log = log_at_rest(region, 0, chain).ok_or("no log")?;
         let next = removal(region, log.layout);
         assert_eq!(rt; next, Some(*expected));
-        assert!(rt; expected.next < 1187872);
+        assert!(rt; expected.next < MAX_WORDS);
         for i in 0..8 {
             if let Some(event) = remove_event(*expected, i) {
                 make(rt, region, 16, event);
@@ -250,9 +255,9 @@ const THIRD: &[u32] = &[72];
 
 const LAST_TWO: &[u32] = &[72, 88];
 
-const UPDATES: &[u32] = &[56, 64];
+const TWO_UPDATES: &[u32] = &[56, 64];
 
-const UPDATE: &[u32] = &[56];
+const ONE_UPDATE: &[u32] = &[56];
 
 const OTHER: &[u32] = &[64];
 
@@ -390,10 +395,10 @@ fn a_committed_transaction_is_closed_among_cells_of_another(rt: HostRuntime) -> 
             events: &[Some(56), Some(64), None, Some(96), None],
             closed: &[
                 [NONE; 4],
-                [NONE, UPDATE, UPDATE, NONE],
-                [NONE, UPDATES, UPDATE, OTHER],
-                [UPDATES; 4],
-                [UPDATES, ALL, ALL, UPDATES],
+                [NONE, ONE_UPDATE, ONE_UPDATE, NONE],
+                [NONE, TWO_UPDATES, ONE_UPDATE, OTHER],
+                [TWO_UPDATES; 4],
+                [TWO_UPDATES, ALL, ALL, TWO_UPDATES],
                 [ALL; 4],
             ],
             removals: &[],

@@ -6,10 +6,10 @@ ghost use Rattle.atomic_list.specs.Repairing.{CanRepair};
 
 use crate::checks::{Change, has_list};
 use atomic_list::{
-    Insert, Remove, Repair, TO_APPEND, TO_REMOVE, insert_event, next_bucket, remove_event,
-    repair_event, repair_of,
+    Insert, Remove, Repair, insert_event, next_bucket, remove_event, repair_event, repair_of,
 };
 use lane_traits::{Device, Done};
+use persist_model::format::{TO_APPEND, TO_REMOVE};
 use persist_model::{Event, Look, Pick};
 use std::alloc::Global;
 use std::process::Abort;

@@ -8,8 +8,8 @@ ghost use Rattle.bucket_log.specs.Reads.{IsLogOfPart};
 ghost use Rattle.log_tests.specs.Rows.{IsRow};
 
 use atomic_list::laws::rules_are_cases;
-use atomic_list::{HEAD, LAST_TAIL, TAIL, TO_APPEND, TO_REMOVE};
 use persist_model::Look;
+use persist_model::format::{HEAD, LAST_TAIL, TAIL, TO_APPEND, TO_REMOVE};
 use region_layout::{Buckets, Layout, read_layout};
 
 /// The layout of words that hold a log, and one of its partitions.

@@ -10,6 +10,7 @@ use crate::log_checks::log_at_rest;
 use bucket_log::{append_event, place};
 use lane_traits::{Device, Done};
 use log_clearing::ClearList;
+use persist_model::format::MAX_WORDS;
 use persist_model::{Event, List, Look, NoMemory, Pick};
 use recovery_run::{Plan, run};
 use std::alloc::Global;
@@ -95,7 +96,7 @@ fn add(list: &mut List<Event>, event: Event) -> Result<(), NoMemory> {
 fn second_append(rt: &impl Abort, alloc: Global, region: &PlainCells) -> Result<Events, Fail> {
     let log = log_at_rest(region, 0, &[0]).ok_or("no log")?;
     let at = place(region, log.layout, log.part).ok_or("no place")?;
-    assert!(rt; at.bucket < 1187872 && at.cell < log.layout.cells);
+    assert!(rt; at.bucket < MAX_WORDS && at.cell < log.layout.cells);
     let cell = cell_of(end(1), 2);
     let mut events = List::new(alloc);
     for i in 0..100 {

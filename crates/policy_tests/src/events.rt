@@ -1,6 +1,7 @@
 //! The events of plans on a small region of one cell a bucket, with the places of their records worked out by hand.
 //! An append has the same events under both policies.
 ghost use Rattle.std.specs.Prelude.{◌≡◌, ◌<◌, ◌^◌};
+ghost use Rattle.persist_model.specs.declared.format.TheConstants.{MAX_WORDS};
 
 use atomic_list::{Remove, remove_event};
 use bucket_log::{Place, append_event};
@@ -76,7 +77,7 @@ pub(crate) fn push_closing(events: &mut Events, list: &ClearList) -> Result<(), 
 }
 
 pub(crate) fn push_removal(events: &mut Events, removal: Remove) -> Result<(), Fail>
-    requires { removal.next < 1187872 }
+    requires { removal.next < MAX_WORDS }
 {
     for i in 0..7 {
         if let Some(event) = remove_event(removal, i) {
