@@ -82,7 +82,7 @@ left_of gates ends checkpoints P _ _ on off (goes r {later = later} {log = log} 
     let e = on r p in
     rw e (left_of gates ends checkpoints P later log on off part)
 
-not_true : (t : Bool) → (t ≡ true → ⊥) → t ≡ false
+pub not_true : (t : Bool) → (t ≡ true → ⊥) → t ≡ false
 not_true true h = absurd (h refl)
 not_true false h = refl
 
@@ -125,7 +125,7 @@ module _ (shape : Shape) (base : Words) (s : State) (has : HasState shape base s
       }
 
   -- it is no word of a list
-  no_list_word : (a : ℕ) → IsListWord shape p a → IsListedGate gates ends checkpoints (out_address p a) → ⊥
+  pub no_list_word : (a : ℕ) → IsListWord shape p a → IsListedGate gates ends checkpoints (out_address p a) → ⊥
   no_list_word a (inl h) on = elim (out_cases p a) [
     | inl k ↦ (
         let e = k.2 in let low = h.0 in let high = h.1 in

@@ -7,11 +7,11 @@ use Rattle.plan_records.proofs.Passing.{inserted_first}
 use Rattle.log_keeper.specs.Ledger.{Stage, Drawn, Stored, Settled, Noted, AreNewestFirst, IsUnsettled, if_settled, settled_log, staged, with_stage, is_listed, left_open, without}
 use Rattle.log_keeper.specs.Laws.{LedgersKeep}
 
-abbrev IsSettledIn : List Noted → Record → Type 0
+abbrev pub IsSettledIn : List Noted → Record → Type 0
 IsSettledIn ledger r = (x : Noted) × IsAmong ledger x × (x.entry ≡ r) × (x.stage ≡ Settled)
 
 -- each settled record is a noted one
-in_ledger : (ledger : List Noted) (r : Record) → IsAmong (settled_log ledger) r → IsSettledIn ledger r
+pub in_ledger : (ledger : List Noted) (r : Record) → IsAmong (settled_log ledger) r → IsSettledIn ledger r
 in_ledger [] r m = absurd m
 in_ledger (x ∷ ledger) r m = by x.stage refl (λ k. (let y = in_ledger ledger r k in (y.0, inr y.1, y.2, y.3))) m
   where
@@ -23,7 +23,7 @@ in_ledger (x ∷ ledger) r m = by x.stage refl (λ k. (let y = in_ledger ledger 
     by Settled e further (inr k) = further k
 
 -- numbers are known by their entries
-one_entry : (ledger : List Noted) (x y : Noted) → AreNewestFirst ledger → IsAmong ledger x → IsAmong ledger y → x.entry.lsn ≡ y.entry.lsn → x ≡ y
+pub one_entry : (ledger : List Noted) (x y : Noted) → AreNewestFirst ledger → IsAmong ledger x → IsAmong ledger y → x.entry.lsn ≡ y.entry.lsn → x ≡ y
 one_entry [] x y first m k e = absurd m
 one_entry (z ∷ ledger) x y first (inl m) (inl k) e = m ∙ sym k
 one_entry (z ∷ ledger) x y first (inl m) (inr k) e =
@@ -32,7 +32,7 @@ one_entry (z ∷ ledger) x y first (inr m) (inl k) e =
     let lt = first.0 x m in let same : y.entry.lsn ≡ z.entry.lsn = ap (λ (n : Noted). n.entry.lsn) k in absurd (omega (arith, lt, same, e))
 one_entry (z ∷ ledger) x y first (inr m) (inr k) e = one_entry ledger x y first.1 m k e
 
-fresh : (r : Record) (ledger : List Noted) → AreNewestFirst ledger → IsUnsettled ledger r → (x : Record) → IsAmong (settled_log ledger) x → x.lsn ≢ r.lsn
+pub fresh : (r : Record) (ledger : List Noted) → AreNewestFirst ledger → IsUnsettled ledger r → (x : Record) → IsAmong (settled_log ledger) x → x.lsn ≢ r.lsn
 fresh r ledger first noted x m e =
     let k = in_ledger ledger x m in
     let a : k.0.entry.lsn ≡ x.lsn = ap (λ (q : Record). q.lsn) k.2 in
@@ -41,13 +41,13 @@ fresh r ledger first noted x m e =
     noted.3 (sym (ap (λ (q : Noted). q.stage) same) ∙ k.3)
 
 -- no entry of this number, nothing changes
-unchanged : (n : ℕ) (stage : Stage) (ledger : List Noted) → ((x : Noted) → IsAmong ledger x → x.entry.lsn ≢ n) → with_stage n stage ledger ≡ ledger
+pub unchanged : (n : ℕ) (stage : Stage) (ledger : List Noted) → ((x : Noted) → IsAmong ledger x → x.entry.lsn ≢ n) → with_stage n stage ledger ≡ ledger
 unchanged n stage [] none = refl
 unchanged n stage (x ∷ ledger) none =
     let off : (x.entry.lsn == n) ≡ false = elim (eqb_tells x.entry.lsn n) [ inl e ↦ absurd (none x (inl refl) e.1) | inr e ↦ e.0 ] in
     rw off (ap (λ l. x ∷ l) (unchanged n stage ledger (λ y m. none y (inr m))))
 
-below : (x : Noted) (ledger : List Noted) (n : ℕ) → x.entry.lsn ≡ n → ((y : Noted) → IsAmong ledger y → y.entry.lsn < x.entry.lsn) → (y : Noted) → IsAmong ledger y → y.entry.lsn ≢ n
+pub below : (x : Noted) (ledger : List Noted) (n : ℕ) → x.entry.lsn ≡ n → ((y : Noted) → IsAmong ledger y → y.entry.lsn < x.entry.lsn) → (y : Noted) → IsAmong ledger y → y.entry.lsn ≢ n
 below x ledger n e first y m same = let lt = first y m in omega (arith, lt, e, same)
 
 not_settled : (stage : Stage) (r : Record) (log : Log) → stage ≢ Settled → if_settled stage r log ≡ log
@@ -55,7 +55,7 @@ not_settled Drawn r log ne = refl
 not_settled Stored r log ne = refl
 not_settled Settled r log ne = absurd (ne refl)
 
-stores : (r : Record) (ledger : List Noted) → AreNewestFirst ledger → IsUnsettled ledger r → settled_log (with_stage r.lsn Stored ledger) ≡ settled_log ledger
+pub stores : (r : Record) (ledger : List Noted) → AreNewestFirst ledger → IsUnsettled ledger r → settled_log (with_stage r.lsn Stored ledger) ≡ settled_log ledger
 stores r [] first noted = refl
 stores r (x ∷ ledger) first noted = elim noted.1 [
   | inl here ↦ (
@@ -71,12 +71,12 @@ stores r (x ∷ ledger) first noted = elim noted.1 [
 ]
 
 -- a settled record in front, and one that comes behind it
-passes : (stage : Stage) (x r : Record) (log : Log) → r.lsn < x.lsn → if_settled stage x (inserted r log) ≡ inserted r (if_settled stage x log)
+pub passes : (stage : Stage) (x r : Record) (log : Log) → r.lsn < x.lsn → if_settled stage x (inserted r log) ≡ inserted r (if_settled stage x log)
 passes Drawn x r log lt = refl
 passes Stored x r log lt = refl
 passes Settled x r log lt = let on : nat_lt r.lsn x.lsn ≡ true = grind (arith, nat_tests, lt) in rw on refl
 
-settles : (r : Record) (ledger : List Noted) → AreNewestFirst ledger → IsUnsettled ledger r → settled_log (with_stage r.lsn Settled ledger) ≡ inserted r (settled_log ledger)
+pub settles : (r : Record) (ledger : List Noted) → AreNewestFirst ledger → IsUnsettled ledger r → settled_log (with_stage r.lsn Settled ledger) ≡ inserted r (settled_log ledger)
 settles r [] first noted = absurd noted.1
 settles r (x ∷ ledger) first noted = elim noted.1 [
   | inl here ↦ (
@@ -101,7 +101,7 @@ settles r (x ∷ ledger) first noted = elim noted.1 [
       rw off (ap (if_settled x.stage x.entry) (settles r ledger first.1 (noted.0, m, noted.2, noted.3)) ∙ passes x.stage x.entry r (settled_log ledger) (omega (arith, lt, at))))
 ]
 
-closes : (gates ends checkpoints : List ℕ) (ledger : List Noted) → settled_log (without gates ends checkpoints ledger) ≡ left_open gates ends checkpoints (settled_log ledger)
+pub closes : (gates ends checkpoints : List ℕ) (ledger : List Noted) → settled_log (without gates ends checkpoints ledger) ≡ left_open gates ends checkpoints (settled_log ledger)
 closes gates ends checkpoints [] = refl
 closes gates ends checkpoints (x ∷ ledger) = by x.stage (is_listed gates ends checkpoints x.entry.at) refl (closes gates ends checkpoints ledger)
   where
@@ -117,7 +117,7 @@ closes gates ends checkpoints (x ∷ ledger) = by x.stage (is_listed gates ends 
     by Settled false e rest = rw e (ap (λ l. x.entry ∷ l) rest)
 
 -- an entry of the later ledger has the number of an earlier one
-staged_number : (n : ℕ) (stage : Stage) (ledger : List Noted) (y : Noted) → IsAmong (with_stage n stage ledger) y → (x : Noted) × IsAmong ledger x × (x.entry ≡ y.entry)
+pub staged_number : (n : ℕ) (stage : Stage) (ledger : List Noted) (y : Noted) → IsAmong (with_stage n stage ledger) y → (x : Noted) × IsAmong ledger x × (x.entry ≡ y.entry)
 staged_number n stage [] y m = absurd m
 staged_number n stage (x ∷ ledger) y (inl e) = (x, inl refl, by (x.entry.lsn == n) ∙ sym (ap (λ (q : Noted). q.entry) e))
   where
@@ -126,7 +126,7 @@ staged_number n stage (x ∷ ledger) y (inl e) = (x, inl refl, by (x.entry.lsn =
     by false = refl
 staged_number n stage (x ∷ ledger) y (inr m) = let k = staged_number n stage ledger y m in (k.0, inr k.1, k.2)
 
-staged_first : (n : ℕ) (stage : Stage) (ledger : List Noted) → AreNewestFirst ledger → AreNewestFirst (with_stage n stage ledger)
+pub staged_first : (n : ℕ) (stage : Stage) (ledger : List Noted) → AreNewestFirst ledger → AreNewestFirst (with_stage n stage ledger)
 staged_first n stage [] first = tt
 staged_first n stage (x ∷ ledger) first = (
   λ y m. (
@@ -142,7 +142,7 @@ staged_first n stage (x ∷ ledger) first = (
     by true = refl
     by false = refl
 
-left_among : (gates ends checkpoints : List ℕ) (ledger : List Noted) (y : Noted) → IsAmong (without gates ends checkpoints ledger) y → IsAmong ledger y
+pub left_among : (gates ends checkpoints : List ℕ) (ledger : List Noted) (y : Noted) → IsAmong (without gates ends checkpoints ledger) y → IsAmong ledger y
 left_among gates ends checkpoints [] y m = m
 left_among gates ends checkpoints (x ∷ ledger) y m = by (is_listed gates ends checkpoints x.entry.at) (λ k. left_among gates ends checkpoints ledger y k) m
   where
@@ -151,7 +151,7 @@ left_among gates ends checkpoints (x ∷ ledger) y m = by (is_listed gates ends 
     by false further (inl e) = inl e
     by false further (inr k) = inr (further k)
 
-closed_first : (gates ends checkpoints : List ℕ) (ledger : List Noted) → AreNewestFirst ledger → AreNewestFirst (without gates ends checkpoints ledger)
+pub closed_first : (gates ends checkpoints : List ℕ) (ledger : List Noted) → AreNewestFirst ledger → AreNewestFirst (without gates ends checkpoints ledger)
 closed_first gates ends checkpoints [] first = tt
 closed_first gates ends checkpoints (x ∷ ledger) first = by (is_listed gates ends checkpoints x.entry.at) (closed_first gates ends checkpoints ledger first.1)
   where

@@ -9,3 +9,13 @@ pub mod Sounding
 pub mod Searching
 pub mod SlotLists
 pub mod Steps
+pub mod Memory
+pub mod Orders
+pub mod Runs
+pub mod Starts
+pub mod Made
+pub mod Newest
+pub mod Needs
+pub mod LeftNeeds
+pub mod Rooms
+pub mod RoomEvents

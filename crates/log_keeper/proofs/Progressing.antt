@@ -43,7 +43,7 @@ pending_alike p q (PStore a v ∷ es) e = pending_alike (advance p (PStore a v))
 pending_alike p q (WriteBack a ∷ es) e = pending_alike p q es e
 pending_alike p q (Fence ∷ es) e = pending_alike (advance p Fence) (advance q Fence) es refl
 
-durable_alike : (p q : Progress) (a : ℕ) (es : List Event) → p.pending ≡ q.pending → p.durable a ≡ q.durable a → (advance_all p es).durable a ≡ (advance_all q es).durable a
+pub durable_alike : (p q : Progress) (a : ℕ) (es : List Event) → p.pending ≡ q.pending → p.durable a ≡ q.durable a → (advance_all p es).durable a ≡ (advance_all q es).durable a
 durable_alike p q a [] e d = d
 durable_alike p q a (Store b v ∷ es) e d = durable_alike p q a es e d
 durable_alike p q a (PStore b v ∷ es) e d = durable_alike (advance p (PStore b v)) (advance q (PStore b v)) a es (ap (λ ws. ws ++ write b v ∷ []) e) d

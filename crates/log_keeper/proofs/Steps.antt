@@ -1,12 +1,11 @@
 -- The keeper's one step behind a last event, and the latches.
-use Rattle.std.proofs.Common.{◌≡◌, ◌≢◌, ℕ, suc, ◌+◌, ◌<◌, ◌==◌, Bool, true, false, not, nat_lt, if◌then◌else◌, length, refl, sym, ap, ◌∙◌, subst, arith}
+use Rattle.std.proofs.Common.{◌≡◌, ℕ, suc, ◌+◌, ◌<◌, false, not, nat_lt, if◌then◌else◌, length, refl, sym, ap, ◌∙◌, subst, arith}
 use Rattle.std.proofs.lemmas.Bool.Decides.{nat_tests}
 use Rattle.persist_model.specs.Progress.{Tracks}
 use Rattle.persist_model.specs.Runs.{progress_at}
-use Rattle.persist_model.specs.Shape.{Shape}
 use Rattle.bucket_log.specs.Words.{IsPartWord}
 use Rattle.log_keeper.specs.Parts.{LogPart, Running, plan_of, waits_for}
-use Rattle.log_keeper.specs.Logged.{Keeping, with_run, one_more, resting, ended, plan_in}
+use Rattle.log_keeper.specs.Logged.{with_run, one_more, resting, ended, plan_in}
 use Rattle.log_keeper.specs.Making.{is_over, settled_by, gone_on}
 use Rattle.log_keeper.specs.Laws.{LatchesPass, LastEventsEnd}
 use Rattle.log_keeper.proofs.Progressing.{by_part}

@@ -1,6 +1,6 @@
 -- The keeper's fields as plain data, and what its calls do with it.
-use Rattle.std.specs.Prelude.{◌≡◌, ℕ, zero, suc, ◌≤◌, Bool, if◌then◌else◌, List, [], ◌∷◌, length, get_or, not, ◌==◌, nat_lt}
-use Rattle.std.specs.Vec.{vec_capacity}
+use Rattle.std.specs.Prelude.{◌≡◌, ℕ, zero, suc, ◌-◌, ◌<◌, ◌≤◌, Bool, if◌then◌else◌, List, [], ◌∷◌, length, get_or, not, ◌==◌, nat_lt}
+use Rattle.std.specs.Vec.{vec_len, vec_capacity}
 use Rattle.persist_model.specs.Records.{Record}
 use Rattle.region_layout.specs.declared.cell.Cell.{Cell}
 use Rattle.bucket_log.specs.declared.append.Place.{Place}
@@ -72,3 +72,12 @@ all_latched lane n k = record { ledger = k.ledger; runs = k.runs; holder = λ q.
 
 abbrev pub all_latched_if : Bool → ℕ → ℕ → Keeping → Keeping
 all_latched_if free lane n k = if free then all_latched lane n k else k
+
+-- how many records more the ledger has memory for
+abbrev pub free_places : LogKeeper → ℕ
+free_places keeper = vec_capacity keeper.ledger - vec_len keeper.ledger
+
+-- there are as many slots, and no list of a slot has less memory
+pub record KeepsSlots (slots later : List Slot) : Type 0 where
+  pub count : length later ≡ length slots
+  pub lists : (p n : ℕ) → p < length slots → HasRoomIn slots p n → HasRoomIn later p n

@@ -7,3 +7,9 @@ pub mod Fitting
 pub mod Noting
 pub mod Making
 pub mod Keeper
+pub mod Ordered
+pub mod Starting
+pub mod Events
+pub mod Newest
+pub mod Needs
+pub mod Rooms

@@ -1,6 +1,7 @@
 ghost use Rattle.std.specs.Prelude.{◌≡◌, ◌<◌, ◌≤◌, ◌+◌, ◌==◌, ◌^◌, length, map, not, slice_get, OnOk};
 ghost use Rattle.std.specs.List.{list_any};
 ghost use Rattle.std.specs.Vec.{vec_len, vec_capacity};
+ghost use Rattle.persist_model.specs.declared.format.TheConstants.{MAX_WORDS};
 ghost use Rattle.region_layout.specs.Cell.{record_of};
 ghost use Rattle.region_layout.specs.Layout.{layout_shape};
 ghost use Rattle.bucket_log.specs.Plans.{place_address};
@@ -10,7 +11,8 @@ ghost use Rattle.log_keeper.specs.Logged.{plan_in, latched};
 ghost use Rattle.log_keeper.specs.Noting.{ledger_of};
 ghost use Rattle.log_keeper.specs.Slots.{AreAscending, HasAscending, HasRoomFor, run_of_slot};
 ghost use Rattle.log_keeper.specs.Making.{settled_by, stored_if, made_part};
-ghost use Rattle.log_keeper.specs.Keeper.{keeping_of, EachAscends, HasListsFor, HasListFor, numbered, begun_in, appending, latched_if, held_by, is_held, all_latched_if, HasRoomIn};
+ghost use Rattle.log_keeper.specs.Keeper.{keeping_of, EachAscends, HasListsFor, HasListFor, numbered, begun_in, appending, latched_if, held_by, is_held, all_latched_if, HasRoomIn, KeepsSlots, free_places};
+ghost use Rattle.log_keeper.specs.Ordered.{IsOrdered};
 
 use crate::ledger::{Entry, Progress, close_listed, come_to, note};
 use crate::slots::{Part, Slot};
@@ -52,6 +54,7 @@ fn latch_all(slots: &mut [Slot], lane: u32)
 fn settle(ledger: &mut Vec<Entry>, slot: &Slot)
     requires { HasAscending slot.now }
     ensures ledger { ledger_of ledger.new.items ≡ settled_by (run_of_slot slot.now).part (ledger_of ledger.old.items) }
+    ensures len { vec_len ledger.new ≤ vec_len ledger.old }
     ensures capacity { vec_capacity ledger.new ≡ vec_capacity ledger.old }
 {
     match slot.part {
@@ -71,6 +74,7 @@ fn settle(ledger: &mut Vec<Entry>, slot: &Slot)
 // The store of an append's gate was made, if that is the part's last event but one.
 fn store(ledger: &mut Vec<Entry>, slot: &Slot, last_but_one: bool)
     ensures ledger { ledger_of ledger.new.items ≡ stored_if last_but_one (run_of_slot slot.now).part (ledger_of ledger.old.items) }
+    ensures len { vec_len ledger.new ≡ vec_len ledger.old }
     ensures capacity { vec_capacity ledger.new ≡ vec_capacity ledger.old }
 {
     if !last_but_one {
@@ -105,6 +109,9 @@ impl LogKeeper {
         ensures kept { keeping_of self.new ≡ made_part (layout_shape layout) p (keeping_of self.old) }
         ensures number { self.new.next_lsn ≡ self.old.next_lsn }
         ensures ascend { EachAscends self.new.slots.items }
+        ensures places { free_places self.old ≤ free_places self.new }
+        ensures slots { KeepsSlots self.old.slots.items self.new.slots.items }
+        ensures ordered { IsOrdered (keeping_of self.old) self.old.next_lsn → IsOrdered (keeping_of self.new) self.new.next_lsn }
     {
         let slot = &mut self.slots[p as usize];
         if slot.is_over(layout, p, slot.made + 1) {
@@ -120,12 +127,15 @@ impl LogKeeper {
     /// The holder of the partition's latch begins an append. The record gets the next number, and its entry goes to memory that was taken before.
     pub fn begin_append(&mut self, p: u32, place: Place, cell: Cell)
         requires slot { p < length self.old.slots.items }
-        requires place { (place.bucket < 1187872) × (place.cell < 2 ^ 16) }
+        requires place { (place.bucket < MAX_WORDS) × (place.cell < 2 ^ 16) }
         requires room { vec_len self.old.ledger < vec_capacity self.old.ledger }
         requires numbers { self.old.next_lsn < 2 ^ 63 }
         ensures kept { keeping_of self.new ≡ appending p place (record_of (place_address place) (numbered self.old.next_lsn cell)) (keeping_of self.old) }
         ensures number { self.new.next_lsn ≡ self.old.next_lsn + 1 }
         ensures ascend { EachAscends self.old.slots.items → EachAscends self.new.slots.items }
+        ensures places { free_places self.new + 1 ≡ free_places self.old }
+        ensures slots { KeepsSlots self.old.slots.items self.new.slots.items }
+        ensures ordered { IsOrdered (keeping_of self.old) self.old.next_lsn → IsOrdered (keeping_of self.new) self.new.next_lsn }
     {
         let cell = Cell {
             lsn: self.next_lsn,
@@ -156,6 +166,9 @@ impl LogKeeper {
         ensures kept { keeping_of self.new ≡ begun_in p (closes gates.now ends.now checkpoints.now) (keeping_of self.old).ledger (keeping_of self.old) }
         ensures number { self.new.next_lsn ≡ self.old.next_lsn }
         ensures ascend { EachAscends self.old.slots.items → EachAscends self.new.slots.items }
+        ensures ledger { self.new.ledger ≡ self.old.ledger }
+        ensures slots { KeepsSlots self.old.slots.items self.new.slots.items }
+        ensures ordered { IsOrdered (keeping_of self.old) self.old.next_lsn → IsOrdered (keeping_of self.new) self.new.next_lsn }
     {
         self.slots[p as usize].begin_group(gates, ends, checkpoints);
     }
@@ -168,6 +181,9 @@ impl LogKeeper {
         ensures kept { keeping_of self.new ≡ begun_in p (takes_back gates.now) (keeping_of self.old).ledger (keeping_of self.old) }
         ensures number { self.new.next_lsn ≡ self.old.next_lsn }
         ensures ascend { EachAscends self.old.slots.items → EachAscends self.new.slots.items }
+        ensures ledger { self.new.ledger ≡ self.old.ledger }
+        ensures slots { KeepsSlots self.old.slots.items self.new.slots.items }
+        ensures ordered { IsOrdered (keeping_of self.old) self.old.next_lsn → IsOrdered (keeping_of self.new) self.new.next_lsn }
     {
         self.slots[p as usize].begin_taking_back(gates);
     }
@@ -178,6 +194,9 @@ impl LogKeeper {
         ensures kept { keeping_of self.new ≡ begun_in p (drops r) (keeping_of self.old).ledger (keeping_of self.old) }
         ensures number { self.new.next_lsn ≡ self.old.next_lsn }
         ensures ascend { EachAscends self.old.slots.items → EachAscends self.new.slots.items }
+        ensures ledger { self.new.ledger ≡ self.old.ledger }
+        ensures slots { KeepsSlots self.old.slots.items self.new.slots.items }
+        ensures ordered { IsOrdered (keeping_of self.old) self.old.next_lsn → IsOrdered (keeping_of self.new) self.new.next_lsn }
     {
         self.slots[p as usize].begin(Part::Drop(r));
     }
@@ -189,6 +208,9 @@ impl LogKeeper {
         ensures kept { keeping_of self.new ≡ latched_if result p lane (keeping_of self.old) }
         ensures number { self.new.next_lsn ≡ self.old.next_lsn }
         ensures ascend { EachAscends self.old.slots.items → EachAscends self.new.slots.items }
+        ensures ledger { self.new.ledger ≡ self.old.ledger }
+        ensures slots { KeepsSlots self.old.slots.items self.new.slots.items }
+        ensures ordered { IsOrdered (keeping_of self.old) self.old.next_lsn → IsOrdered (keeping_of self.new) self.new.next_lsn }
     {
         let slot = &mut self.slots[p as usize];
         if slot.holder == NOBODY {
@@ -206,6 +228,9 @@ impl LogKeeper {
         ensures kept { keeping_of self.new ≡ latched p 17 (keeping_of self.old) }
         ensures number { self.new.next_lsn ≡ self.old.next_lsn }
         ensures ascend { EachAscends self.old.slots.items → EachAscends self.new.slots.items }
+        ensures ledger { self.new.ledger ≡ self.old.ledger }
+        ensures slots { KeepsSlots self.old.slots.items self.new.slots.items }
+        ensures ordered { IsOrdered (keeping_of self.old) self.old.next_lsn → IsOrdered (keeping_of self.new) self.new.next_lsn }
     {
         self.slots[p as usize].holder = NOBODY;
     }
@@ -216,6 +241,9 @@ impl LogKeeper {
         ensures kept { keeping_of self.new ≡ all_latched_if result lane (length self.old.slots.items) (keeping_of self.old) }
         ensures number { self.new.next_lsn ≡ self.old.next_lsn }
         ensures ascend { EachAscends self.old.slots.items → EachAscends self.new.slots.items }
+        ensures ledger { self.new.ledger ≡ self.old.ledger }
+        ensures slots { KeepsSlots self.old.slots.items self.new.slots.items }
+        ensures ordered { IsOrdered (keeping_of self.old) self.old.next_lsn → IsOrdered (keeping_of self.new) self.new.next_lsn }
     {
         if any_held(self.slots.as_slice()) {
             return false;
@@ -230,6 +258,9 @@ impl LogKeeper {
         ensures number { self.new.next_lsn ≡ self.old.next_lsn }
         ensures slots { self.new.slots ≡ self.old.slots }
         ensures room { OnOk result (vec_len self.new.ledger + more ≤ vec_capacity self.new.ledger) }
+        ensures places { free_places self.old ≤ free_places self.new }
+        ensures kept_places { OnOk result (more ≤ free_places self.new) }
+        ensures ordered { IsOrdered (keeping_of self.old) self.old.next_lsn → IsOrdered (keeping_of self.new) self.new.next_lsn }
     {
         self.ledger.reserve(more)?;
         Ok(())
@@ -243,6 +274,8 @@ impl LogKeeper {
         ensures ledger { self.new.ledger ≡ self.old.ledger }
         ensures room { OnOk result (HasRoomIn self.new.slots.items p gates) }
         ensures ascend { EachAscends self.old.slots.items → EachAscends self.new.slots.items }
+        ensures slots { KeepsSlots self.old.slots.items self.new.slots.items }
+        ensures ordered { IsOrdered (keeping_of self.old) self.old.next_lsn → IsOrdered (keeping_of self.new) self.new.next_lsn }
     {
         self.slots[p as usize].reserve(gates)
     }

@@ -21,6 +21,16 @@ ghost use Rattle.log_keeper.specs.Laws.{
   RestingPartsAreRead,
   LedgersKeep,
 };
+ghost use Rattle.log_keeper.specs.Ordered.{OrdersKeep, RunsKeep, PartsSpare};
+ghost use Rattle.log_keeper.specs.Starting.{KeepersStart};
+ghost use Rattle.log_keeper.specs.Events.{
+  EventsGoOn,
+  AppendsAreMade,
+  GroupsAreMade,
+  TakingsBackAreMade,
+  RemovalsAreMade,
+  AllLatchesPass,
+};
 
 /// An event that names no word of the log, and is no fence that a partition waits for, changes nothing.
 pub fn events_pass()
@@ -120,4 +130,54 @@ pub fn resting_parts_are_read()
 /// The ledger has the settled records, as records are drawn, stored, settled and closed.
 pub fn ledgers_keep()
     ensures { LedgersKeep }
+{}
+
+/// The ledger stays in order, with numbers below the next one,
+pub fn orders_keep()
+    ensures { OrdersKeep }
+{}
+
+/// and fits the runs.
+pub fn runs_keep()
+    ensures { RunsKeep }
+{}
+
+/// A part that closes gates has none of a record under way.
+pub fn parts_spare()
+    ensures { PartsSpare }
+{}
+
+/// The keeper of a region at rest is where it may start.
+pub fn keepers_start()
+    ensures { KeepersStart }
+{}
+
+/// With its step the keeper follows an event that isn't the part's last;
+pub fn events_go_on()
+    ensures { EventsGoOn }
+{}
+
+/// behind the last of an append the settled words have its record,
+pub fn appends_are_made()
+    ensures { AppendsAreMade }
+{}
+
+/// behind that of a group of a closing they lack its records,
+pub fn groups_are_made()
+    ensures { GroupsAreMade }
+{}
+
+/// behind that of a closing of deletions that are taken back they lack these,
+pub fn takings_back_are_made()
+    ensures { TakingsBackAreMade }
+{}
+
+/// and behind that of a removal they have more room.
+pub fn removals_are_made()
+    ensures { RemovalsAreMade }
+{}
+
+/// All latches are taken where nothing is under way.
+pub fn all_latches_pass()
+    ensures { AllLatchesPass }
 {}

@@ -47,7 +47,7 @@ fn put(ledger: &mut Vec<Entry>, entry: Entry)
     requires { vec_len ledger.old < vec_capacity ledger.old }
     ensures items { ledger.new.items ≡ ledger.old.items ++ entry ∷ [] }
     ensures len { vec_len ledger.new ≡ vec_len ledger.old + 1 }
-    ensures capacity { vec_capacity ledger.old ≤ vec_capacity ledger.new }
+    ensures capacity { vec_capacity ledger.new ≡ vec_capacity ledger.old }
 {
     ledger.push_reserved(entry);
 }
@@ -57,7 +57,7 @@ pub fn note(ledger: &mut Vec<Entry>, entry: Entry)
     requires { vec_len ledger.old < vec_capacity ledger.old }
     ensures ledger { ledger_of ledger.new.items ≡ noted_of entry ∷ ledger_of ledger.old.items }
     ensures len { vec_len ledger.new ≡ vec_len ledger.old + 1 }
-    ensures capacity { vec_capacity ledger.old ≤ vec_capacity ledger.new }
+    ensures capacity { vec_capacity ledger.new ≡ vec_capacity ledger.old }
 {
     put(ledger, entry)
 }
@@ -65,6 +65,7 @@ pub fn note(ledger: &mut Vec<Entry>, entry: Entry)
 /// The record of this number comes to a stage.
 pub fn come_to(ledger: &mut Vec<Entry>, number: u64, stage: Progress)
     ensures ledger { ledger_of ledger.new.items ≡ with_stage number (stage_of stage) (ledger_of ledger.old.items) }
+    ensures len { vec_len ledger.new ≡ vec_len ledger.old }
     ensures capacity { vec_capacity ledger.new ≡ vec_capacity ledger.old }
 {
     stage_all(ledger.as_mut_slice(), number, stage)
@@ -95,6 +96,7 @@ fn keep_open(ledger: &mut Vec<Entry>, gates: &[u32], ends: &[u32], checkpoints: 
     requires ends { AreAscending ends.now }
     requires checkpoints { AreAscending checkpoints.now }
     ensures items { ledger.new.items ≡ filter (is_kept gates.now ends.now checkpoints.now) ledger.old.items }
+    ensures len { vec_len ledger.new ≤ vec_len ledger.old }
     ensures capacity { vec_capacity ledger.new ≡ vec_capacity ledger.old }
 {
     ledger.retain(|entry| stays_open(gates, ends, checkpoints, *entry));
@@ -106,6 +108,7 @@ pub fn close_listed(ledger: &mut Vec<Entry>, gates: &[u32], ends: &[u32], checkp
     requires ends { AreAscending ends.now }
     requires checkpoints { AreAscending checkpoints.now }
     ensures ledger { ledger_of ledger.new.items ≡ without gates.now ends.now checkpoints.now (ledger_of ledger.old.items) }
+    ensures len { vec_len ledger.new ≤ vec_len ledger.old }
     ensures capacity { vec_capacity ledger.new ≡ vec_capacity ledger.old }
 {
     keep_open(ledger, gates, ends, checkpoints)

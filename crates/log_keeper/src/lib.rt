@@ -5,7 +5,9 @@ mod closing;
 mod keeper;
 pub mod laws;
 mod ledger;
+pub mod need_laws;
 mod slots;
+mod starting;
 
 pub use keeper::{LogKeeper, NOBODY};
 pub use ledger::{Entry, Progress, close_listed, come_to, note};

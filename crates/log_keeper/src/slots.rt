@@ -1,4 +1,4 @@
-ghost use Rattle.std.specs.Prelude.{◌≡◌, ◌<◌, ◌≤◌, ◌+◌, ◌^◌, option_map, slice_get, length, OnOk};
+ghost use Rattle.std.specs.Prelude.{◌≡◌, ℕ, ◌<◌, ◌≤◌, ◌+◌, ◌^◌, option_map, slice_get, length, OnOk};
 ghost use Rattle.std.specs.Vec.{vec_capacity};
 ghost use Rattle.persist_model.specs.Chain.{out_event};
 ghost use Rattle.region_layout.specs.Layout.{layout_shape};
@@ -7,6 +7,7 @@ ghost use Rattle.log_keeper.specs.Parts.{plan_of, closes, takes_back};
 ghost use Rattle.log_keeper.specs.Slots.{run_of_slot, with_part, HasRoomFor, HasRoomOf, HasAscending};
 ghost use Rattle.log_keeper.specs.Fitting.{FitsLayout};
 ghost use Rattle.log_keeper.specs.Making.{is_over};
+ghost use Rattle.log_keeper.specs.Starting.{IsFree};
 
 use crate::closing::{closing_event, gates_event};
 use atomic_list::{Remove, remove_event};
@@ -14,6 +15,7 @@ use bucket_log::{Place, append_event};
 use log_partition::region_event;
 use persist_model::{Event, NoMemory};
 use region_layout::{Cell, Layout};
+use std::alloc::Global;
 
 /// What is under way in a partition. The gates that are closed or taken back are the slot's.
 #[derive(Clone, Copy, Debug, PartialEq, Eq)]
@@ -51,7 +53,8 @@ fn out_some(p: u32, e: Option<Event>) -> Option<Event>
 // The list gets these gates, in memory that was taken before.
 fn fill(list: &mut Vec<u32>, gates: &[u32])
     requires { length gates.now ≤ vec_capacity list.old }
-    ensures { list.new.items ≡ gates.now }
+    ensures items { list.new.items ≡ gates.now }
+    ensures capacity { vec_capacity list.old ≤ vec_capacity list.new }
 {
     list.clear();
     match list.extend_from_slice(gates) {
@@ -61,6 +64,21 @@ fn fill(list: &mut Vec<u32>, gates: &[u32])
 }
 
 impl Slot {
+    /// Nothing is under way, and the latch is free. Its lists take no memory yet.
+    pub fn new(alloc: Global) -> Slot
+        ensures free { IsFree result }
+        ensures ascend { HasAscending result }
+    {
+        Slot {
+            holder: 17,
+            part: Part::Rest,
+            made: 0,
+            gates: Vec::new(alloc),
+            ends: Vec::new(alloc),
+            checkpoints: Vec::new(alloc),
+        }
+    }
+
     /// Event i of the partition's part, none behind its last.
     pub fn event_at(&self, layout: Layout, p: u32, i: u32) -> Option<Event>
         requires partition { p < 3 }
@@ -114,6 +132,7 @@ impl Slot {
         ensures gates { self.new.gates.items ≡ gates.now }
         ensures ends { self.new.ends.items ≡ ends.now }
         ensures checkpoints { self.new.checkpoints.items ≡ checkpoints.now }
+        ensures memory { (n : ℕ) → HasRoomOf self.old n → HasRoomOf self.new n }
     {
         fill(&mut self.gates, gates);
         fill(&mut self.ends, ends);
@@ -130,6 +149,7 @@ impl Slot {
         ensures gates { self.new.gates.items ≡ gates.now }
         ensures ends { self.new.ends.items ≡ self.old.ends.items }
         ensures checkpoints { self.new.checkpoints.items ≡ self.old.checkpoints.items }
+        ensures memory { (n : ℕ) → HasRoomOf self.old n → HasRoomOf self.new n }
     {
         fill(&mut self.gates, gates);
         self.part = Part::TakeBack;
@@ -142,6 +162,7 @@ impl Slot {
         ensures holder { self.new.holder ≡ self.old.holder }
         ensures ascend { HasAscending self.old → HasAscending self.new }
         ensures room { OnOk result (HasRoomOf self.new gates) }
+        ensures memory { (n : ℕ) → HasRoomOf self.old n → HasRoomOf self.new n }
     {
         self.gates.reserve(gates)?;
         self.ends.reserve(gates)?;

@@ -1,9 +1,12 @@
-use Rattle.std.proofs.Common.{ap, ◌∙◌, arith}
+use Rattle.std.proofs.Common.{ap, sym, ◌∙◌, subst, arith}
 use Rattle.region_layout.specs.Layout.{layout_shape}
 use Rattle.log_keeper.specs.Fitting.{FitsLayout}
 use Rattle.log_keeper.specs.Slots.{run_of_slot}
 use Rattle.log_keeper.specs.declared.slots.Slot.{Slot}
 use Rattle.log_keeper.proofs.SlotLists.{add_one, part_read, made_read, run_ends, run_goes_on, ascends_at, ascends_set, HasAscending-with_part}
+use Rattle.log_keeper.specs.Logged.{Keeping}
+use Rattle.log_keeper.specs.Ordered.{IsOrdered}
+use Rattle.log_keeper.proofs.Orders.{orders_keep}
 use Rattle.log_keeper.proofs.keeper.LogKeeper.made.Goals as goal
 
 pub overflow_add-slot : goal.overflow_add-slot
@@ -50,3 +53,11 @@ pub returns-else-is_over-clause-ascend : goal.returns-else-is_over-clause-ascend
 returns-else-is_over-clause-ascend c = ascends_set c.args.self.now.slots.items c.args.p c.advance.new.self c.requires.ascend
     (HasAscending-with_part c.index_mut-slot.result.now c.advance.new.self _ _ c.advance.ensures
     (ascends_at c.args.self.now.slots.items c.args.p c.index_mut-slot.result.now c.requires.ascend c.requires.slot c.index_mut-slot.ensures.value))
+
+pub returns-then-is_over-clause-ordered : goal.returns-then-is_over-clause-ordered
+returns-then-is_over-clause-ordered c = λ h. subst (λ (k : Keeping). IsOrdered k c.args.self.now.next_lsn) (sym (returns-then-is_over-clause-kept c))
+    (orders_keep.made (layout_shape c.args.layout) c.args.p c.args.self.now.next_lsn _ h)
+
+pub returns-else-is_over-clause-ordered : goal.returns-else-is_over-clause-ordered
+returns-else-is_over-clause-ordered c = λ h. subst (λ (k : Keeping). IsOrdered k c.args.self.now.next_lsn) (sym (returns-else-is_over-clause-kept c))
+    (orders_keep.made (layout_shape c.args.layout) c.args.p c.args.self.now.next_lsn _ h)

@@ -1,0 +1,5 @@
+use Rattle.log_keeper.proofs.Made as lemmas
+use Rattle.log_keeper.proofs.laws.appends_are_made.Goals as goal
+
+pub returns : goal.returns
+returns c = lemmas.appends_are_made

@@ -1,0 +1,5 @@
+use Rattle.log_keeper.proofs.LeftNeeds as lemmas
+use Rattle.log_keeper.proofs.need_laws.takings_back_need.Goals as goal
+
+pub returns : goal.returns
+returns c = lemmas.takings_back_need
