@@ -7,11 +7,8 @@ ghost use Rattle.lane_traits.specs.Device.{MAX_WORDS};
 
 use lane_traits::Pair;
 use persist_model::{List, Look, NoMemory};
-use region_layout::Layout;
+use region_layout::{CELL_KEYS, Layout};
 use std::alloc::Global;
-
-/// How many keys a map of cells can have.
-const KEYS: u32 = 12;
 
 /// The first word of the root block that has a key.
 const FIRST_KEY: u32 = 4;
@@ -51,7 +48,7 @@ pub(crate) fn pairs_of_cells<L: Look>(
     ensures { IfOk result (λ pairs. AreCellsBelow 12 (slice_index (L.words words.now)) root pairs) }
 {
     let mut pairs = List::new(alloc);
-    for key in 0..KEYS {
+    for key in 0..CELL_KEYS {
         let value = words.word(root + FIRST_KEY + key);
         push_cell(&mut pairs, u64::from(key), value)?;
     }

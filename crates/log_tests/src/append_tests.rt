@@ -1,5 +1,6 @@
 //! Logs that grow by appends made on a device, record by record, until there is no room.
 ghost use Rattle.std.specs.Prelude.{◌≤◌, ◌<◌, ◌*◌, ◌^◌, ◌==◌, ◌||◌, length, IsTrue};
+ghost use Rattle.persist_model.specs.Shape.{IsBucketCount};
 
 use crate::list_tests::make;
 use crate::log_checks::{Log, log_at_rest};
@@ -88,7 +89,7 @@ pub(crate) fn fresh(
     partitions: u32,
 ) -> Result<PlainCells, Fail>
     requires cells { IsTrue ((cells == 1) || (cells == 16)) }
-    requires buckets { (4 ≤ buckets) × (buckets ≤ 1024) }
+    requires buckets { IsBucketCount buckets }
     requires partitions { (1 ≤ partitions) × (partitions ≤ 3) }
     requires split { 4 * partitions ≤ buckets }
 {

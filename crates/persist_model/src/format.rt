@@ -15,6 +15,14 @@ pub const BUCKET_HEADER_WORDS: u32 = 8;
 pub const CELL_WORDS: u32 = 8;
 /// The words of a block: its owner and 15 of data.
 pub const BLOCK_WORDS: u32 = 16;
+/// The fewest buckets that a region has.
+pub const FEWEST_BUCKETS: u64 = 4;
+/// The most buckets that a region has.
+pub const MOST_BUCKETS: u64 = 1024;
+/// The fewest blocks that a region has.
+pub const FEWEST_BLOCKS: u64 = 16;
+/// The most blocks that a region has.
+pub const MOST_BLOCKS: u64 = 65_536;
 /// The words of the largest region: 1024 buckets of 16 cells, and 65,536 blocks.
 pub const MAX_WORDS: u32 = 1_187_872;
 

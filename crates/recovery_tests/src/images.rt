@@ -1,5 +1,6 @@
 //! Images put together from their parts.
 ghost use Rattle.std.specs.Prelude.{◌≡◌, ◌*◌, ◌≤◌, ◌==◌, ◌||◌, IsTrue};
+ghost use Rattle.persist_model.specs.Shape.{IsBucketCount};
 
 use region_layout::{Kind, Layout, Policy, format};
 use std::alloc::Global;
@@ -25,7 +26,7 @@ pub struct Image<'a> {
 /// A layout of one structure in 16 blocks.
 pub fn layout(policy: Policy, cells: u32, buckets: u32, partitions: u32) -> Layout
     requires cells { IsTrue ((cells == 1) || (cells == 16)) }
-    requires buckets { (4 ≤ buckets) × (buckets ≤ 1024) }
+    requires buckets { IsBucketCount buckets }
     requires partitions { (1 ≤ partitions) × (partitions ≤ 3) }
     requires split { 4 * partitions ≤ buckets }
     ensures { result.structures ≡ 1 }

@@ -1,6 +1,6 @@
 -- What a layout says of a region, as a shape.
 use Rattle.std.specs.Prelude.{◌≡◌, ◌≢◌, ◌⊎◌, ℕ, ◌+◌, ◌-◌, ◌*◌, ◌/◌, ◌<◌, ◌≤◌}
-use Rattle.persist_model.specs.Shape.{Shape, heap, block, IsHeapWord, first_bucket, count_buckets}
+use Rattle.persist_model.specs.Shape.{Shape, IsCellCount, IsBucketCount, IsBlockCount, IsStructureCount, heap, block, IsHeapWord, first_bucket, count_buckets}
 use Rattle.region_layout.specs.declared.layout.Kind.{Kind}
 use Rattle.region_layout.specs.declared.layout.Kind.TheVariants.{Cells, Tree, Hash}
 use Rattle.region_layout.specs.declared.layout.Policy.{Policy}
@@ -31,10 +31,10 @@ layout_shape layout = record {
 -- a shape that a region may have
 pub record IsAllowed (shape : Shape) : Type 0 where
   pub policy : (1 ≤ shape.policy) × (shape.policy ≤ 2)
-  pub cells : (shape.cells ≡ 1) ⊎ (shape.cells ≡ 16)
-  pub buckets : (4 ≤ shape.buckets) × (shape.buckets ≤ 1024)
-  pub blocks : (16 ≤ shape.blocks) × (shape.blocks ≤ 65536)
-  pub structures : (1 ≤ shape.structures) × (shape.structures ≤ 8)
+  pub cells : IsCellCount shape.cells
+  pub buckets : IsBucketCount shape.buckets
+  pub blocks : IsBlockCount shape.blocks
+  pub structures : IsStructureCount shape.structures
   pub format : (1 ≤ shape.format) × (shape.format ≤ 2)
   pub partitions : (1 ≤ shape.partitions) × (shape.partitions ≤ 3)
   pub whole : shape.format ≡ 1 → shape.partitions ≡ 1

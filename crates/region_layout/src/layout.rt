@@ -1,4 +1,5 @@
 ghost use Rattle.std.specs.Prelude.{◌≡◌, ◌+◌, ◌*◌, ◌<◌, ◌≤◌, ◌==◌, ◌||◌, IsTrue};
+ghost use Rattle.persist_model.specs.Shape.{IsBucketCount, IsBlockCount, IsStructureCount};
 
 /// Whether a commit waits for its words to be kept, or leaves them to a checkpoint.
 #[derive(Clone, Copy, Debug, PartialEq, Eq)]
@@ -7,10 +8,13 @@ pub enum Policy {
     NoForce,
 }
 
+/// How many keys a map of cells can have.
+pub const CELL_KEYS: u32 = 12;
+
 /// What a structure is.
 #[derive(Clone, Copy, Debug, PartialEq, Eq)]
 pub enum Kind {
-    /// Keys 0 to 11, one data word each.
+    /// Keys below `CELL_KEYS`, one data word each.
     Cells,
     /// Keys of 64 bits in order, in a tree of blocks.
     Tree,
@@ -32,9 +36,9 @@ pub struct Layout {
     pub format: u32,
     pub partitions: u32,
     pub ghost cells_are: { IsTrue ((cells == 1) || (cells == 16)) },
-    pub ghost buckets_within: { (4 ≤ buckets) × (buckets ≤ 1024) },
-    pub ghost blocks_within: { (16 ≤ blocks) × (blocks ≤ 65536) },
-    pub ghost structures_within: { (1 ≤ structures) × (structures ≤ 8) },
+    pub ghost buckets_within: { IsBucketCount buckets },
+    pub ghost blocks_within: { IsBlockCount blocks },
+    pub ghost structures_within: { IsStructureCount structures },
     pub ghost format_within: { (1 ≤ format) × (format ≤ 2) },
     pub ghost partitions_within: { (1 ≤ partitions) × (partitions ≤ 3) },
     pub ghost whole: { format ≡ 1 → partitions ≡ 1 },

@@ -10,7 +10,7 @@ mod record_cells;
 
 pub use cell::{Cell, cell_word, read_cell};
 pub use fresh::{format, number_of_kind, number_of_policy};
-pub use layout::{Buckets, Kind, Layout, Policy};
+pub use layout::{Buckets, CELL_KEYS, Kind, Layout, Policy};
 pub use reading::{ImageFault, read_layout};
 pub use record_cells::{
     checkpoint_cell, compensation_cell, end_cell, numbered, plain_cell, rollback_cell,

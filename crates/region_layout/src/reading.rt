@@ -8,8 +8,8 @@ ghost use Rattle.region_layout.specs.Reading.{HasSizes, IsWrongKind, IsWrongSize
 
 use crate::layout::{Layout, Policy};
 use persist_model::format::{
-    BLOCKS, BUCKETS, CELLS, FIRST_KIND, HEADER_WORDS, PARTITIONS, POLICY, SECOND_MAGIC, STRUCTURES,
-    is_magic,
+    BLOCKS, BUCKETS, CELLS, FEWEST_BLOCKS, FEWEST_BUCKETS, FIRST_KIND, HEADER_WORDS, MOST_BLOCKS,
+    MOST_BUCKETS, PARTITIONS, POLICY, SECOND_MAGIC, STRUCTURES, is_magic,
 };
 use persist_model::{ImageRule, Look};
 
@@ -93,10 +93,10 @@ fn wrong_size<W: Look>(words: &W) -> Option<u32>
     requires { 32 ≤ length (W.words words.now) }
     ensures { MatchOption result (HasSizes (slice_index (W.words words.now))) (λ addr. IsWrongSize (slice_index (W.words words.now)) 4 addr) }
 {
-    if !is_within(words.word(BUCKETS), 4, 1024) {
+    if !is_within(words.word(BUCKETS), FEWEST_BUCKETS, MOST_BUCKETS) {
         return Some(BUCKETS);
     }
-    if !is_within(words.word(BLOCKS), 16, 65_536) {
+    if !is_within(words.word(BLOCKS), FEWEST_BLOCKS, MOST_BLOCKS) {
         return Some(BLOCKS);
     }
     if !is_within(words.word(STRUCTURES), 1, 8) {

@@ -1,6 +1,7 @@
 -- What the program makes of a text so far: the sizes of a region with one map of cells, and the puts of one lane's transactions.
 use Rattle.std.specs.Prelude.{◌≡◌, ℕ, ◌<◌, ◌≤◌, List, [], ◌∷◌, ◌++◌, length, flat_map, Bool, true, false, not, ◌&&◌, ◌==◌, nat_le, Option, Some, None, Result, Ok, Err, All, codes, decimal}
 use Rattle.std.specs.List.{list_all}
+use Rattle.persist_model.specs.Shape.{IsBucketCount, IsBlockCount}
 use Rattle.rewind_script.specs.declared.script.Command.{Command}
 use Rattle.rewind_script.specs.declared.script.Command.TheVariants as command
 use Rattle.rewind_script.specs.declared.script.Item.{Item}
@@ -106,7 +107,7 @@ pub record IsTransaction (puts : List Put) : Type 0 where
   pub each : All IsPut puts
 
 pub record IsInLimits (buckets blocks : ℕ) (transactions : List (List Put)) : Type 0 where
-  pub buckets_within : (4 ≤ buckets) × (buckets ≤ 1024)
-  pub blocks_within : (16 ≤ blocks) × (blocks ≤ 65536)
+  pub buckets_within : IsBucketCount buckets
+  pub blocks_within : IsBlockCount blocks
   pub short : length transactions ≤ TRANSACTIONS_LIMIT
   pub each : All IsTransaction transactions

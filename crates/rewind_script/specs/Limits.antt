@@ -1,6 +1,7 @@
 -- What holds of every script that is read: the limits, and that each command fits its transaction.
 use Rattle.std.specs.Prelude.{◌≡◌, ◌⊎◌, ℕ, ◌+◌, ◌*◌, ◌^◌, ◌<◌, ◌≤◌, List, [], ◌∷◌, length, All, Bool, true, false, IsTrue}
 use Rattle.std.specs.List.{sum_by, slice_index_or}
+use Rattle.persist_model.specs.Shape.{IsBucketCount, IsBlockCount}
 use Rattle.region_layout.specs.Layout.{IsAllowed}
 use Rattle.region_layout.specs.declared.layout.Kind.{Kind}
 use Rattle.region_layout.specs.declared.layout.Kind.TheVariants.{Cells, Tree}
@@ -105,8 +106,8 @@ is_early _ = true
 pub record IsSized (cells : ℕ) (grouped : Bool) (buckets blocks partitions : ℕ) : Type 0 where
   pub one_or_sixteen : (cells ≡ 1) ⊎ (cells ≡ 16)
   pub of_batch : IsTrue grouped → cells ≡ 16
-  pub buckets_within : (4 ≤ buckets) × (buckets ≤ 1024)
-  pub blocks_within : (16 ≤ blocks) × (blocks ≤ 65536)
+  pub buckets_within : IsBucketCount buckets
+  pub blocks_within : IsBlockCount blocks
   pub partitions_within : (1 ≤ partitions) × (partitions ≤ 3)
   pub split : 4 * partitions ≤ buckets
 

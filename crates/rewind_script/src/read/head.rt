@@ -9,6 +9,7 @@ use super::numbers::numeral_of;
 use super::reading::{Part, Reading};
 use super::refusal::Refusal;
 use crate::fault::Fault;
+use persist_model::format::{FEWEST_BLOCKS, FEWEST_BUCKETS, MOST_BLOCKS, MOST_BUCKETS};
 
 impl Reading {
     #[tactic(auto, unfolding(crate::specs::Head::after_region))]
@@ -26,7 +27,11 @@ impl Reading {
         }
         let buckets = numeral_of(args[1])?;
         let blocks = numeral_of(args[2])?;
-        if buckets < 4 || buckets > 1024 || blocks < 16 || blocks > 65536 {
+        if buckets < FEWEST_BUCKETS
+            || buckets > MOST_BUCKETS
+            || blocks < FEWEST_BLOCKS
+            || blocks > MOST_BLOCKS
+        {
             return Err(Refusal::Fault(Fault::Range));
         }
         self.part = Part::Region;
