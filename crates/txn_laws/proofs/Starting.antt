@@ -1,0 +1,101 @@
+-- Where a world begins.
+use Rattle.std.proofs.Common.{◌≡◌, ◌≢◌, inl, inr, ℕ, zero, suc, ◌+◌, ◌*◌, ◌<◌, ◌≤◌, ◌^◌, true, false, List, [], refl, sym, ap, ◌∙◌, subst, arith}
+use Rattle.persist_model.specs.Region.{Words, Region, IsCandidate, MayStand, AreSettled, newest}
+use Rattle.persist_model.specs.Progress.{start, AreSettledAt}
+use Rattle.persist_model.specs.Records.{Record, Log, IsAmong}
+use Rattle.persist_model.specs.Standing.{Stands, kept}
+use Rattle.persist_model.specs.Shape.{Shape, shape_of, heap, heap_words, words_of_shape, IsHeapWord}
+use Rattle.persist_model.proofs.Images.{settled_is}
+use Rattle.persist_model.proofs.Tracking.{Tracks-settled}
+use Rattle.plan_records.proofs.Changes.{heap_word_is}
+use Rattle.log_keeper.specs.Starting.{starting}
+use Rattle.log_keeper.proofs.Starts.{starts_ordered, keepers_start}
+use Rattle.history_laws.specs.Histories.{fold}
+use Rattle.txn_laws.specs.Txns.{Txn, idle, txn_at, idle_lanes}
+use Rattle.txn_laws.specs.Owners.{IsMine}
+use Rattle.txn_laws.specs.Heaps.{now_of}
+use Rattle.txn_laws.specs.AreTransactions.{IsTransaction}
+use Rattle.txn_laws.specs.Worlds.{World, IsWorldAt}
+use Rattle.txn_laws.specs.StartLaws.{IsFinished, fresh_world, WorldsStart}
+use Rattle.txn_laws.proofs.Finding.{idle_none, now_nobodys}
+
+idle_at : (n l : ℕ) → txn_at (idle_lanes n) l ≡ idle
+idle_at zero l = refl
+idle_at (suc n) zero = refl
+idle_at (suc n) (suc l) = idle_at n l
+
+none_mine : (n l a : ℕ) → IsMine (txn_at (idle_lanes n) l) a → ⊥
+none_mine n l a m = idle_none a (subst (λ x. IsMine x a) (idle_at n l) m)
+
+idle_told : (shape : Shape) (h : Words) → IsTransaction shape [] h idle
+idle_told shape h = record {
+  in_part = λ r m. absurd m;
+  going = λ runs. record {
+    running = λ r m. absurd m;
+    to_undo_is = refl;
+    point_is = refl;
+    rolled_is = λ unrolled r m. absurd m;
+    updates_are = tt;
+    changed = λ a r last. absurd last.among;
+    unchanged = λ a none u. refl;
+    given = λ g m. absurd m;
+    writes_own = λ w m. absurd m;
+    gifts_own = λ g m. absurd m;
+  };
+  deletions = λ a r m. absurd m;
+  names = λ r m. absurd m;
+}
+
+pub worlds_start : WorldsStart
+worlds_start shape base s chains lanes next region force numbers is = record {
+  force = force;
+  log = record {
+    of_shape = is.of_shape;
+    header = is.header;
+    logged = keepers_start.logged shape base s chains [] region size is.allowed is.has is.no_record is.rest (λ a lt v m. settled a (omega (arith, lt, size, inside)) v m);
+    sound = is.sound;
+    ordered = starts_ordered next [] tt;
+    fits = keepers_start.fits shape [];
+    numbers = numbers;
+  };
+  owners = record { heap_words = λ l a m. absurd (none_mine lanes l a m); apart = λ l k a m. absurd (none_mine lanes l a m) };
+  transactions = record {
+    each = λ l. subst (λ log. IsTransaction shape log (heap_words shape base) (txn_at (idle_lanes lanes) l)) (sym is.no_record)
+        (subst (IsTransaction shape [] (heap_words shape base)) (sym (idle_at lanes l)) (idle_told shape (heap_words shape base)));
+    known = λ r m. absurd (subst (λ log. IsAmong log r) is.no_record m);
+    apart = λ l k one. absurd (no_number l one);
+  };
+  heap = record {
+    now = λ a m none. sym (settled_is (region.at a) (base a) (is.settled a (within a m)) (is.words a (within a m))) ∙ sym (heap_word_is shape base a m)
+        ∙ sym (now_nobodys (idle_lanes lanes) (heap_words shape base) a (λ l. none_mine lanes l a));
+    found = λ l g over. absurd (no_over l over);
+  };
+  kept = λ l. record {
+    progress = start base;
+    tracks = λ a m. absurd (none_mine lanes l a m);
+    own = λ a v k. absurd k;
+    fenced = λ fenced a v k. absurd k;
+  };
+  stands = λ i image a m. subst (λ log. Stands shape.policy log (heap_words shape i) a (heap_words shape base a)) (sym is.no_record)
+      (kept (λ r k. absurd k) (λ r k. absurd k) (λ r k. absurd k)
+      (heap_word_is shape base a m ∙ sym (settled a (within a m) (i a) (image a (within a m))) ∙ sym (heap_word_is shape i a m)));
+  parts = λ p lt. record { run = refl; fits = tt };
+}
+  where
+    size : region.size ≡ words_of_shape shape
+    size = is.header.long ∙ ap words_of_shape is.of_shape
+
+    inside : heap shape ≤ words_of_shape shape
+    inside = omega arith
+
+    within : (a : ℕ) → IsHeapWord shape a → a < region.size
+    within a m = let lt = m.1 in omega (arith, lt, size)
+
+    settled : (a : ℕ) → a < region.size → (v : ℕ) → IsCandidate (region.at a) v → v ≡ base a
+    settled a lt v m = settled_is (region.at a) v (is.settled a lt) m ∙ sym (settled_is (region.at a) (base a) (is.settled a lt) (is.words a lt))
+
+    no_number : (l : ℕ) → 1 ≤ (txn_at (idle_lanes lanes) l).number → ⊥
+    no_number l one = let e : (txn_at (idle_lanes lanes) l).number ≡ 0 = ap (λ (x : Txn). x.number) (idle_at lanes l) in omega (arith, one, e)
+
+    no_over : (l : ℕ) → (txn_at (idle_lanes lanes) l).over ≡ true → ⊥
+    no_over l e = let off : (txn_at (idle_lanes lanes) l).over ≡ false = ap (λ (x : Txn). x.over) (idle_at lanes l) in cc

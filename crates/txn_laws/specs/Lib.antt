@@ -1,0 +1,10 @@
+pub mod Txns
+pub mod Flights
+pub mod Owners
+pub mod Heaps
+pub mod AreTransactions
+pub mod NextRecords
+pub mod PartsOf
+pub mod Worlds
+pub mod Laws
+pub mod StartLaws
