@@ -7,6 +7,7 @@ pub mod Reading
 pub mod Noting
 pub mod Sounding
 pub mod Searching
+pub mod Sorting
 pub mod SlotLists
 pub mod Steps
 pub mod Memory

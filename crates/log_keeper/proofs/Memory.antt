@@ -2,9 +2,9 @@
 use Rattle.std.proofs.Common.{◌≡◌, ℕ, zero, suc, ◌<◌, List, [], ◌∷◌, ◌++◌, length, get_or, set, map, refl, sym, ap, subst, arith}
 use Rattle.std.proofs.lemmas.List.{length-set, length-map}
 use Rattle.log_keeper.specs.declared.slots.Slot.{Slot}
-use Rattle.log_keeper.specs.Slots.{run_of_slot, HasAscending, HasRoomOf}
+use Rattle.log_keeper.specs.Slots.{run_of_slot, HasRoomOf}
 use Rattle.log_keeper.specs.Logged.{resting}
-use Rattle.log_keeper.specs.Keeper.{at_slot, holder_of, EachAscends, held_by, HasRoomIn, KeepsSlots}
+use Rattle.log_keeper.specs.Keeper.{at_slot, holder_of, held_by, HasRoomIn, KeepsSlots}
 use Rattle.log_keeper.specs.Starting.{IsFree, AreFree}
 
 room_set : (xs : List Slot) (p q n : ℕ) (x y : Slot) → p < length xs → q < length xs → x ≡ get_or xs p x → (HasRoomOf x n → HasRoomOf y n) →
@@ -44,10 +44,6 @@ keeps_held lane xs later is = subst (KeepsSlots xs) (sym is) (record {
 pub free_more : (xs : List Slot) (x : Slot) → AreFree xs → IsFree x → AreFree (xs ++ x ∷ [])
 free_more [] x each is = (is, tt)
 free_more (y ∷ xs) x each is = (each.0, free_more xs x each.1 is)
-
-pub ascends_more : (xs : List Slot) (x : Slot) → EachAscends xs → HasAscending x → EachAscends (xs ++ x ∷ [])
-ascends_more [] x each is = (is, tt)
-ascends_more (y ∷ xs) x each is = (each.0, ascends_more xs x each.1 is)
 
 pub free_runs : (xs : List Slot) (q : ℕ) → AreFree xs → at_slot run_of_slot resting xs q ≡ resting
 free_runs [] q each = refl

@@ -15,10 +15,10 @@ use Rattle.log_keeper.specs.declared.slots.Part.{Part}
 use Rattle.log_keeper.specs.Parts.{LogPart, Running, plan_of}
 use Rattle.log_keeper.specs.Ledger.{Noted, Drawn}
 use Rattle.log_keeper.specs.Noting.{ledger_of}
-use Rattle.log_keeper.specs.Slots.{run_of_slot, with_part, AreAscending, HasAscending}
+use Rattle.log_keeper.specs.Slots.{run_of_slot, with_part}
 use Rattle.log_keeper.specs.Logged.{with_run, resting, begun, one_more, ended, latched}
 use Rattle.log_keeper.specs.Making.{is_over, settled_by, stored_if, gone_on, made_of_run, made_part}
-use Rattle.log_keeper.specs.Keeper.{at_slot, holder_of, plain_of, EachAscends, begun_in, held_by, all_latched}
+use Rattle.log_keeper.specs.Keeper.{at_slot, holder_of, plain_of, begun_in, held_by, all_latched}
 use Rattle.log_keeper.proofs.Progressing.{by_part}
 
 pub read_slot : {A : Type 0} (f : Slot → A) (d : A) (xs : List Slot) (p : ℕ) (x : Slot) → p < length xs → x ≡ get_or xs p x → at_slot f d xs p ≡ f x
@@ -79,16 +79,6 @@ latch_moves entries xs p x y lane lt is e h = λ i. record {
   holder = λ q. (set_slot holder_of 17 xs p y lt q ∙ ap (λ (n : ℕ). if q == p then n else at_slot holder_of 17 xs q) h) i;
 }
 
-pub ascends_at : (xs : List Slot) (p : ℕ) (x : Slot) → EachAscends xs → p < length xs → x ≡ get_or xs p x → HasAscending x
-ascends_at [] p x each lt is = absurd (omega (arith, lt))
-ascends_at (y ∷ xs) zero x each lt is = subst HasAscending (sym is) each.0
-ascends_at (y ∷ xs) (suc p) x each lt is = ascends_at xs p x each.1 (omega (arith, lt)) is
-
-pub ascends_set : (xs : List Slot) (p : ℕ) (y : Slot) → EachAscends xs → HasAscending y → EachAscends (set xs p y)
-ascends_set [] p y each k = each
-ascends_set (x ∷ xs) zero y each k = (k, each.1)
-ascends_set (x ∷ xs) (suc p) y each k = (each.0, ascends_set xs p y each.1 k)
-
 -- an event of the plan is there, or there are no more
 some_within : (xs : List Event) (n : ℕ) → is_some (slice_get xs n) ≡ nat_lt n (length xs)
 some_within xs n = elim (slice_get_cases xs n).1 [
@@ -102,14 +92,6 @@ not_not false = refl
 
 pub over_is : (xs : List Event) (n : ℕ) (e : Option Event) (t : Bool) → e ≡ slice_get xs n → is_some e ≡ not t → t ≡ is_over xs n
 over_is xs n e t is h = not_not t ∙ ap not (sym h ∙ ap is_some is ∙ some_within xs n)
-
--- another part has the same lists
-pub HasAscending-with_part : (x y : Slot) (part : Part) (made : ℕ) → y ≡ with_part part made x → HasAscending x → HasAscending y
-HasAscending-with_part x y part made is k = subst HasAscending (sym is) k
-
-pub HasAscending-lists : (x : Slot) (gates ends checkpoints : List ℕ) → x.gates.items ≡ gates → x.ends.items ≡ ends → x.checkpoints.items ≡ checkpoints →
-    AreAscending gates → AreAscending ends → AreAscending checkpoints → HasAscending x
-HasAscending-lists x gates ends checkpoints e f g h k l = (subst AreAscending (sym e) h, subst AreAscending (sym f) k, subst AreAscending (sym g) l)
 
 -- what is asked of the partition's run is asked of its slot
 pub part_read : (P : LogPart → Type 0) (xs : List Slot) (p : ℕ) (x : Slot) → p < length xs → x ≡ get_or xs p x → P (at_slot run_of_slot resting xs p).part → P (run_of_slot x).part
@@ -191,10 +173,6 @@ all_held entries xs later lane is = ap (plain_of entries) is ∙ (λ i. record {
   runs = λ q. runs_held lane xs q i;
   holder = λ q. holders_held lane xs q i;
 })
-
-pub ascends_held : (lane : ℕ) (xs : List Slot) → EachAscends xs → EachAscends (map (held_by lane) xs)
-ascends_held lane [] each = each
-ascends_held lane (x ∷ xs) each = (each.0, ascends_held lane xs each.1)
 
 -- nothing that is told of slots has changed
 pub slot_stays : (entries : List Entry) (xs : List Slot) (p : ℕ) (x y : Slot) → p < length xs → x ≡ get_or xs p x → run_of_slot y ≡ run_of_slot x → y.holder ≡ x.holder →

@@ -10,7 +10,7 @@ use Rattle.log_keeper.specs.declared.keeper.LogKeeper.{LogKeeper}
 use Rattle.log_keeper.specs.Parts.{LogPart, appends}
 use Rattle.log_keeper.specs.Ledger.{Drawn, Noted}
 use Rattle.log_keeper.specs.Noting.{ledger_of}
-use Rattle.log_keeper.specs.Slots.{run_of_slot, HasAscending, HasRoomFor, HasRoomOf}
+use Rattle.log_keeper.specs.Slots.{run_of_slot, HasRoomFor, HasRoomOf}
 use Rattle.log_keeper.specs.Logged.{Keeping, resting, beginning, latched}
 
 -- a value of the slot with this number, and another past the last
@@ -27,11 +27,6 @@ plain_of entries slots = record { ledger = ledger_of entries; runs = at_slot run
 
 abbrev pub keeping_of : LogKeeper → Keeping
 keeping_of keeper = plain_of keeper.ledger.items keeper.slots.items
-
--- the lists of each slot ascend
-abbrev pub EachAscends : List Slot → Type 0
-EachAscends [] = Unit {0}
-EachAscends (x ∷ slots) = HasAscending x × EachAscends slots
 
 -- the cell has this number
 abbrev pub numbered : ℕ → Cell → Cell

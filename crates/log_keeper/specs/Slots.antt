@@ -1,5 +1,5 @@
 -- What the code keeps of a partition, as plain data.
-use Rattle.std.specs.Prelude.{ℕ, ◌<◌, ◌≤◌, List, length, get_or}
+use Rattle.std.specs.Prelude.{ℕ, ◌<◌, ◌≤◌, List, length, get_or, IsPermutation}
 use Rattle.std.specs.Vec.{vec_capacity}
 use Rattle.bucket_log.specs.Plans.{place_address}
 use Rattle.region_layout.specs.Cell.{record_of}
@@ -32,8 +32,10 @@ HasRoomFor slot gates ends checkpoints =
 abbrev pub AreAscending : List ℕ → Type 0
 AreAscending gates = (i j : ℕ) → i ≤ j → j < length gates → get_or gates i 0 ≤ get_or gates j 0
 
-abbrev pub HasAscending : Slot → Type 0
-HasAscending slot = AreAscending slot.gates.items × AreAscending slot.ends.items × AreAscending slot.checkpoints.items
+-- the same gates, in the order of their addresses
+pub record IsSortedOf (gates sorted : List ℕ) : Type 0 where
+  pub same : IsPermutation gates sorted
+  pub ascending : AreAscending sorted
 
 -- its lists have memory for so many gates each
 abbrev pub HasRoomOf : Slot → ℕ → Type 0

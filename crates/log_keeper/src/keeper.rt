@@ -1,4 +1,4 @@
-ghost use Rattle.std.specs.Prelude.{◌≡◌, ◌<◌, ◌≤◌, ◌+◌, ◌==◌, ◌^◌, length, map, not, slice_get, OnOk};
+ghost use Rattle.std.specs.Prelude.{◌≡◌, ℕ, ◌<◌, ◌≤◌, ◌+◌, ◌==◌, ◌^◌, length, map, not, slice_get, OnOk};
 ghost use Rattle.std.specs.List.{list_any};
 ghost use Rattle.std.specs.Vec.{vec_len, vec_capacity};
 ghost use Rattle.persist_model.specs.declared.format.TheConstants.{MAX_WORDS};
@@ -9,9 +9,9 @@ ghost use Rattle.log_keeper.specs.Fitting.{FitsLayout};
 ghost use Rattle.log_keeper.specs.Parts.{rests, closes, takes_back, drops, plan_of};
 ghost use Rattle.log_keeper.specs.Logged.{plan_in, latched};
 ghost use Rattle.log_keeper.specs.Noting.{ledger_of};
-ghost use Rattle.log_keeper.specs.Slots.{AreAscending, HasAscending, HasRoomFor, run_of_slot};
+ghost use Rattle.log_keeper.specs.Slots.{HasRoomOf, run_of_slot};
 ghost use Rattle.log_keeper.specs.Making.{settled_by, stored_if, made_part};
-ghost use Rattle.log_keeper.specs.Keeper.{keeping_of, EachAscends, HasListsFor, HasListFor, numbered, begun_in, appending, latched_if, held_by, is_held, all_latched_if, HasRoomIn, KeepsSlots, free_places};
+ghost use Rattle.log_keeper.specs.Keeper.{keeping_of, HasListsFor, HasListFor, numbered, begun_in, appending, latched_if, held_by, is_held, all_latched_if, HasRoomIn, KeepsSlots, free_places};
 ghost use Rattle.log_keeper.specs.Ordered.{IsOrdered};
 
 use crate::ledger::{Entry, Progress, close_listed, come_to, note};
@@ -50,23 +50,30 @@ fn latch_all(slots: &mut [Slot], lane: u32)
     }
 }
 
-// The part is whole: what it leaves of the ledger.
-fn settle(ledger: &mut Vec<Entry>, slot: &Slot)
-    requires { HasAscending slot.now }
-    ensures ledger { ledger_of ledger.new.items ≡ settled_by (run_of_slot slot.now).part (ledger_of ledger.old.items) }
+// The part is whole: what it leaves of the ledger. The slot's lists have made their events, and are sorted here.
+fn settle(ledger: &mut Vec<Entry>, slot: &mut Slot)
+    ensures ledger { ledger_of ledger.new.items ≡ settled_by (run_of_slot slot.old).part (ledger_of ledger.old.items) }
     ensures len { vec_len ledger.new ≤ vec_len ledger.old }
     ensures capacity { vec_capacity ledger.new ≡ vec_capacity ledger.old }
+    ensures holder { slot.new.holder ≡ slot.old.holder }
+    ensures memory { (n : ℕ) → HasRoomOf slot.old n → HasRoomOf slot.new n }
 {
     match slot.part {
         Part::Rest => {}
         Part::Append(_, cell) => come_to(ledger, cell.lsn, Progress::Settled),
-        Part::Close => close_listed(
-            ledger,
-            slot.gates.as_slice(),
-            slot.ends.as_slice(),
-            slot.checkpoints.as_slice(),
-        ),
-        Part::TakeBack => close_listed(ledger, slot.gates.as_slice(), &[], &[]),
+        Part::Close => {
+            slot.sort();
+            close_listed(
+                ledger,
+                slot.gates.as_slice(),
+                slot.ends.as_slice(),
+                slot.checkpoints.as_slice(),
+            );
+        }
+        Part::TakeBack => {
+            slot.sort();
+            close_listed(ledger, slot.gates.as_slice(), &[], &[]);
+        }
         Part::Drop(_) => {}
     }
 }
@@ -105,10 +112,8 @@ impl LogKeeper {
         requires partition { p < 3 }
         requires fits { FitsLayout layout ((keeping_of self.old).runs p).part }
         requires few { ((keeping_of self.old).runs p).made < 2 ^ 31 }
-        requires ascend { EachAscends self.old.slots.items }
         ensures kept { keeping_of self.new ≡ made_part (layout_shape layout) p (keeping_of self.old) }
         ensures number { self.new.next_lsn ≡ self.old.next_lsn }
-        ensures ascend { EachAscends self.new.slots.items }
         ensures places { free_places self.old ≤ free_places self.new }
         ensures slots { KeepsSlots self.old.slots.items self.new.slots.items }
         ensures ordered { IsOrdered (keeping_of self.old) self.old.next_lsn → IsOrdered (keeping_of self.new) self.new.next_lsn }
@@ -132,7 +137,6 @@ impl LogKeeper {
         requires numbers { self.old.next_lsn < 2 ^ 63 }
         ensures kept { keeping_of self.new ≡ appending p place (record_of (place_address place) (numbered self.old.next_lsn cell)) (keeping_of self.old) }
         ensures number { self.new.next_lsn ≡ self.old.next_lsn + 1 }
-        ensures ascend { EachAscends self.old.slots.items → EachAscends self.new.slots.items }
         ensures places { free_places self.new + 1 ≡ free_places self.old }
         ensures slots { KeepsSlots self.old.slots.items self.new.slots.items }
         ensures ordered { IsOrdered (keeping_of self.old) self.old.next_lsn → IsOrdered (keeping_of self.new) self.new.next_lsn }
@@ -156,16 +160,12 @@ impl LogKeeper {
         self.next_lsn += 1;
     }
 
-    /// The holder of the partition's latch begins to close these gates, of which each list ascends. They are listed in memory that was taken before.
+    /// The holder of the partition's latch begins to close these gates, in the order of the lists. They are listed in memory that was taken before.
     pub fn begin_group(&mut self, p: u32, gates: &[u32], ends: &[u32], checkpoints: &[u32])
         requires slot { p < length self.old.slots.items }
         requires room { HasListsFor self.old.slots.items p gates.now ends.now checkpoints.now }
-        requires gates { AreAscending gates.now }
-        requires ends { AreAscending ends.now }
-        requires checkpoints { AreAscending checkpoints.now }
         ensures kept { keeping_of self.new ≡ begun_in p (closes gates.now ends.now checkpoints.now) (keeping_of self.old).ledger (keeping_of self.old) }
         ensures number { self.new.next_lsn ≡ self.old.next_lsn }
-        ensures ascend { EachAscends self.old.slots.items → EachAscends self.new.slots.items }
         ensures ledger { self.new.ledger ≡ self.old.ledger }
         ensures slots { KeepsSlots self.old.slots.items self.new.slots.items }
         ensures ordered { IsOrdered (keeping_of self.old) self.old.next_lsn → IsOrdered (keeping_of self.new) self.new.next_lsn }
@@ -173,14 +173,12 @@ impl LogKeeper {
         self.slots[p as usize].begin_group(gates, ends, checkpoints);
     }
 
-    /// The holder of the partition's latch begins to close the gates, which ascend, of deletions that its transaction takes back.
+    /// The holder of the partition's latch begins to close the gates, in their order, of deletions that its transaction takes back.
     pub fn begin_taking_back(&mut self, p: u32, gates: &[u32])
         requires slot { p < length self.old.slots.items }
         requires room { HasListFor self.old.slots.items p gates.now }
-        requires gates { AreAscending gates.now }
         ensures kept { keeping_of self.new ≡ begun_in p (takes_back gates.now) (keeping_of self.old).ledger (keeping_of self.old) }
         ensures number { self.new.next_lsn ≡ self.old.next_lsn }
-        ensures ascend { EachAscends self.old.slots.items → EachAscends self.new.slots.items }
         ensures ledger { self.new.ledger ≡ self.old.ledger }
         ensures slots { KeepsSlots self.old.slots.items self.new.slots.items }
         ensures ordered { IsOrdered (keeping_of self.old) self.old.next_lsn → IsOrdered (keeping_of self.new) self.new.next_lsn }
@@ -193,7 +191,6 @@ impl LogKeeper {
         requires slot { p < length self.old.slots.items }
         ensures kept { keeping_of self.new ≡ begun_in p (drops r) (keeping_of self.old).ledger (keeping_of self.old) }
         ensures number { self.new.next_lsn ≡ self.old.next_lsn }
-        ensures ascend { EachAscends self.old.slots.items → EachAscends self.new.slots.items }
         ensures ledger { self.new.ledger ≡ self.old.ledger }
         ensures slots { KeepsSlots self.old.slots.items self.new.slots.items }
         ensures ordered { IsOrdered (keeping_of self.old) self.old.next_lsn → IsOrdered (keeping_of self.new) self.new.next_lsn }
@@ -207,7 +204,6 @@ impl LogKeeper {
         ensures result { result ≡ ((keeping_of self.old).holder p == 17) }
         ensures kept { keeping_of self.new ≡ latched_if result p lane (keeping_of self.old) }
         ensures number { self.new.next_lsn ≡ self.old.next_lsn }
-        ensures ascend { EachAscends self.old.slots.items → EachAscends self.new.slots.items }
         ensures ledger { self.new.ledger ≡ self.old.ledger }
         ensures slots { KeepsSlots self.old.slots.items self.new.slots.items }
         ensures ordered { IsOrdered (keeping_of self.old) self.old.next_lsn → IsOrdered (keeping_of self.new) self.new.next_lsn }
@@ -227,7 +223,6 @@ impl LogKeeper {
         requires rests { ((keeping_of self.old).runs p).part ≡ rests }
         ensures kept { keeping_of self.new ≡ latched p 17 (keeping_of self.old) }
         ensures number { self.new.next_lsn ≡ self.old.next_lsn }
-        ensures ascend { EachAscends self.old.slots.items → EachAscends self.new.slots.items }
         ensures ledger { self.new.ledger ≡ self.old.ledger }
         ensures slots { KeepsSlots self.old.slots.items self.new.slots.items }
         ensures ordered { IsOrdered (keeping_of self.old) self.old.next_lsn → IsOrdered (keeping_of self.new) self.new.next_lsn }
@@ -240,7 +235,6 @@ impl LogKeeper {
         ensures result { result ≡ not (list_any is_held self.old.slots.items) }
         ensures kept { keeping_of self.new ≡ all_latched_if result lane (length self.old.slots.items) (keeping_of self.old) }
         ensures number { self.new.next_lsn ≡ self.old.next_lsn }
-        ensures ascend { EachAscends self.old.slots.items → EachAscends self.new.slots.items }
         ensures ledger { self.new.ledger ≡ self.old.ledger }
         ensures slots { KeepsSlots self.old.slots.items self.new.slots.items }
         ensures ordered { IsOrdered (keeping_of self.old) self.old.next_lsn → IsOrdered (keeping_of self.new) self.new.next_lsn }
@@ -273,7 +267,6 @@ impl LogKeeper {
         ensures number { self.new.next_lsn ≡ self.old.next_lsn }
         ensures ledger { self.new.ledger ≡ self.old.ledger }
         ensures room { OnOk result (HasRoomIn self.new.slots.items p gates) }
-        ensures ascend { EachAscends self.old.slots.items → EachAscends self.new.slots.items }
         ensures slots { KeepsSlots self.old.slots.items self.new.slots.items }
         ensures ordered { IsOrdered (keeping_of self.old) self.old.next_lsn → IsOrdered (keeping_of self.new) self.new.next_lsn }
     {

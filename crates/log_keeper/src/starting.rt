@@ -1,6 +1,6 @@
 // The keeper of a region at rest.
 ghost use Rattle.std.specs.Prelude.{◌≡◌, ◌++◌, [], ◌∷◌, IfOk, length, map};
-ghost use Rattle.log_keeper.specs.Keeper.{keeping_of, EachAscends};
+ghost use Rattle.log_keeper.specs.Keeper.{keeping_of};
 ghost use Rattle.log_keeper.specs.Ordered.{IsOrdered};
 ghost use Rattle.log_keeper.specs.Starting.{starting, found_entry, AreFree, AreOldestFirst};
 
@@ -23,7 +23,6 @@ fn put(slots: &mut Vec<Slot>, slot: Slot) -> Result<(), NoMemory>
 fn free_slots(alloc: Global, partitions: u32) -> Result<Vec<Slot>, NoMemory>
     ensures count { IfOk result (λ slots. length slots.items ≡ partitions) }
     ensures free { IfOk result (λ slots. AreFree slots.items) }
-    ensures ascend { IfOk result (λ slots. EachAscends slots.items) }
 {
     let mut slots = Vec::new(alloc);
     for _ in 0..partitions {
@@ -67,7 +66,6 @@ impl LogKeeper {
         ensures kept { IfOk result (λ keeper. keeping_of keeper ≡ starting records.now) }
         ensures number { IfOk result (λ keeper. keeper.next_lsn ≡ next_lsn) }
         ensures slots { IfOk result (λ keeper. length keeper.slots.items ≡ partitions) }
-        ensures ascend { IfOk result (λ keeper. EachAscends keeper.slots.items) }
         ensures ordered { AreOldestFirst next_lsn records.now → IfOk result (λ keeper. IsOrdered (keeping_of keeper) keeper.next_lsn) }
     {
         let ledger = found_entries(alloc, records)?;

@@ -1,7 +1,6 @@
 use Rattle.std.proofs.Common.{ap, sym, subst, arith, length, length-append, [], ◌∷◌}
-use Rattle.log_keeper.specs.Keeper.{EachAscends}
 use Rattle.log_keeper.specs.Starting.{AreFree}
-use Rattle.log_keeper.proofs.Memory.{free_more, ascends_more}
+use Rattle.log_keeper.proofs.Memory.{free_more}
 use Rattle.log_keeper.proofs.starting.free_slots.Goals as goal
 
 pub loop-preserved : goal.loop-preserved
@@ -13,5 +12,4 @@ loop-preserved c =
     let both = length-append c.loop.slots.items (c.new.result ∷ []) in (
       omega (arith, count, long, both),
       subst AreFree (sym is) (free_more c.loop.slots.items c.new.result before.1 c.new.ensures.free),
-      subst EachAscends (sym is) (ascends_more c.loop.slots.items c.new.result before.2 c.new.ensures.ascend),
     )

@@ -5,7 +5,7 @@ use Rattle.log_keeper.specs.Parts.{appends}
 use Rattle.log_keeper.specs.Slots.{run_of_slot}
 use Rattle.log_keeper.specs.declared.slots.Slot.{Slot}
 use Rattle.log_keeper.specs.Keeper.{numbered}
-use Rattle.log_keeper.proofs.SlotLists.{part_begins, ascends_at, ascends_set, HasAscending-with_part, drawn_is}
+use Rattle.log_keeper.proofs.SlotLists.{part_begins, drawn_is}
 use Rattle.log_keeper.proofs.keeper.LogKeeper.begin_append.Goals as goal
 
 pub returns-clause-kept : goal.returns-clause-kept
@@ -17,7 +17,3 @@ returns-clause-kept c =
     c.args.self.now.ledger.items c.requires.slot c.index_mut-slot.ensures.value
     (ap run_of_slot c.begin.ensures) (ap (λ (s : Slot). s.holder) c.begin.ensures)
     (drawn_is _ xs c.args.p x c.args.place.bucket c.args.place.cell (numbered c.args.self.now.next_lsn c.args.cell) _ c.requires.slot c.index_mut-slot.ensures.value c.note.ensures.ledger)
-
-pub returns-clause-ascend : goal.returns-clause-ascend
-returns-clause-ascend c = λ each. ascends_set c.args.self.now.slots.items c.args.p c.begin.new.self each
-    (HasAscending-with_part c.index_mut-slot.result.now c.begin.new.self _ 0 c.begin.ensures (ascends_at c.args.self.now.slots.items c.args.p c.index_mut-slot.result.now each c.requires.slot c.index_mut-slot.ensures.value))

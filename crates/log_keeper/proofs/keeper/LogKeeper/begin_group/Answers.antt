@@ -1,15 +1,10 @@
 use Rattle.std.proofs.Common.{refl}
 use Rattle.log_keeper.specs.Noting.{ledger_of}
 use Rattle.log_keeper.specs.Parts.{closes}
-use Rattle.log_keeper.proofs.SlotLists.{part_begins, ascends_set, HasAscending-lists}
+use Rattle.log_keeper.proofs.SlotLists.{part_begins}
 use Rattle.log_keeper.proofs.keeper.LogKeeper.begin_group.Goals as goal
 
 pub returns-clause-kept : goal.returns-clause-kept
 returns-clause-kept c =
     part_begins c.args.self.now.ledger.items c.args.self.now.slots.items c.args.p c.index_mut.result.now c.begin_group.new.self (closes c.args.gates.now c.args.ends.now c.args.checkpoints.now)
     (ledger_of c.args.self.now.ledger.items) c.args.self.now.ledger.items c.requires.slot c.index_mut.ensures.value c.begin_group.ensures.run c.begin_group.ensures.holder refl
-
-pub returns-clause-ascend : goal.returns-clause-ascend
-returns-clause-ascend c = λ each. ascends_set c.args.self.now.slots.items c.args.p c.begin_group.new.self each
-    (HasAscending-lists c.begin_group.new.self c.args.gates.now c.args.ends.now c.args.checkpoints.now c.begin_group.ensures.gates c.begin_group.ensures.ends c.begin_group.ensures.checkpoints
-    c.requires.gates c.requires.ends c.requires.checkpoints)

@@ -3,7 +3,7 @@ use Rattle.log_keeper.specs.Noting.{ledger_of}
 use Rattle.log_keeper.specs.Parts.{drops}
 use Rattle.log_keeper.specs.Slots.{run_of_slot}
 use Rattle.log_keeper.specs.declared.slots.Slot.{Slot}
-use Rattle.log_keeper.proofs.SlotLists.{part_begins, ascends_at, ascends_set, HasAscending-with_part}
+use Rattle.log_keeper.proofs.SlotLists.{part_begins}
 use Rattle.log_keeper.proofs.keeper.LogKeeper.begin_removal.Goals as goal
 
 pub returns-clause-kept : goal.returns-clause-kept
@@ -11,7 +11,3 @@ returns-clause-kept c =
     part_begins c.args.self.now.ledger.items c.args.self.now.slots.items c.args.p c.index_mut.result.now c.begin.new.self (drops c.args.r) (ledger_of c.args.self.now.ledger.items)
     c.args.self.now.ledger.items c.requires.slot c.index_mut.ensures.value
     (ap run_of_slot c.begin.ensures) (ap (λ (x : Slot). x.holder) c.begin.ensures) refl
-
-pub returns-clause-ascend : goal.returns-clause-ascend
-returns-clause-ascend c = λ each. ascends_set c.args.self.now.slots.items c.args.p c.begin.new.self each
-    (HasAscending-with_part c.index_mut.result.now c.begin.new.self _ 0 c.begin.ensures (ascends_at c.args.self.now.slots.items c.args.p c.index_mut.result.now each c.requires.slot c.index_mut.ensures.value))

@@ -1,11 +1,7 @@
 use Rattle.std.proofs.Common.{refl}
-use Rattle.log_keeper.proofs.SlotLists.{latch_moves, ascends_at, ascends_set}
+use Rattle.log_keeper.proofs.SlotLists.{latch_moves}
 use Rattle.log_keeper.proofs.keeper.LogKeeper.release_latch.Goals as goal
 
 pub returns-clause-kept : goal.returns-clause-kept
 returns-clause-kept c =
     latch_moves c.args.self.now.ledger.items c.args.self.now.slots.items c.args.p c.index_mut.result.now _ 17 c.requires.slot c.index_mut.ensures.value refl refl
-
-pub returns-clause-ascend : goal.returns-clause-ascend
-returns-clause-ascend c = λ each. ascends_set c.args.self.now.slots.items c.args.p _ each
-    (ascends_at c.args.self.now.slots.items c.args.p c.index_mut.result.now each c.requires.slot c.index_mut.ensures.value)
