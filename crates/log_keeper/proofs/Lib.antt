@@ -20,3 +20,4 @@ pub mod Needs
 pub mod LeftNeeds
 pub mod Rooms
 pub mod RoomEvents
+mod Examples
