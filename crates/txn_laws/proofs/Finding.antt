@@ -3,6 +3,8 @@ use Rattle.std.proofs.Common.{◌≡◌, ◌≢◌, inl, inr, ℕ, zero, suc, �
 use Rattle.persist_model.specs.declared.event.Candidate.{Candidate}
 use Rattle.persist_model.specs.Region.{Words, Region, IsCandidate, newest}
 use Rattle.persist_model.specs.Progress.{latest}
+use Rattle.persist_model.specs.Records.{Log}
+use Rattle.persist_model.specs.Standing.{Stands, undone, deleted, redone, kept}
 use Rattle.persist_model.proofs.Candidates.{IsCandidate_newest}
 use Rattle.txn_laws.specs.Txns.{Txn, idle, txn_at, written}
 use Rattle.txn_laws.specs.Owners.{IsMine}
@@ -38,7 +40,14 @@ some_candidate (c ∷ cs) v m = omega arith
 
 -- where nothing waits for a fence a stop leaves what a read finds
 pub kept_is : (l : ℕ) (x : Txn) (region : Region) (a v : ℕ) → IsKept l x region → x.fenced ≡ true → IsMine x a → IsCandidate (region.at a) v → v ≡ newest (region.at a)
-kept_is l x region a v kept fenced mine is = durable v is ∙ sym (durable (newest (region.at a)) (IsCandidate_newest (region.at a) (some_candidate (region.at a) v is)))
+kept_is l x region a v keeps fenced mine is = durable v is ∙ sym (durable (newest (region.at a)) (IsCandidate_newest (region.at a) (some_candidate (region.at a) v is)))
   where
-    durable : (u : ℕ) → IsCandidate (region.at a) u → u ≡ kept.progress.durable a
-    durable u m = elim ((kept.tracks a mine).values u m) [ inl e ↦ e | inr k ↦ absurd (kept.fenced fenced a u k) ]
+    durable : (u : ℕ) → IsCandidate (region.at a) u → u ≡ keeps.progress.durable a
+    durable u m = elim ((keeps.tracks a mine).values u m) [ inl e ↦ e | inr k ↦ absurd (keeps.fenced fenced a u k) ]
+
+-- the standing value of a word hangs on no other word
+pub stands_word : (policy : ℕ) (log : Log) (w x : Words) (a v : ℕ) → w a ≡ x a → Stands policy log w a v → Stands policy log x a v
+stands_word policy log w x a v e (undone u first is) = undone u first is
+stands_word policy log w x a v e (deleted none d is) = deleted none d is
+stands_word policy log w x a v e (redone none nd r last is) = redone none nd r last is
+stands_word policy log w x a v e (kept none nd nr is) = kept none nd nr (is ∙ e)

@@ -4,4 +4,7 @@ pub mod Finding
 pub mod Records
 pub mod Moments
 pub mod Starting
+pub mod Lanes
+pub mod SameRecords
+pub mod Beginning
 mod Examples

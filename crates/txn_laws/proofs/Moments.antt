@@ -42,7 +42,7 @@ use Rattle.txn_laws.specs.PartsOf.{Fits}
 use Rattle.txn_laws.specs.Worlds.{World, IsWorldAt}
 use Rattle.txn_laws.specs.Laws.{WorldsStand}
 use Rattle.txn_laws.proofs.Flying.{IsFlying, IsEntryAt, IsSplitAt, flight_from, is_in_flight, split_at}
-use Rattle.txn_laws.proofs.Finding.{now_own, kept_is}
+use Rattle.txn_laws.proofs.Finding.{now_own, kept_is, stands_word}
 use Rattle.txn_laws.proofs.Records.{changed_own, deleted_own, entry_leaves, entry_is, word_free, not_deleted}
 
 -- an end's gate is stored with all events but the last
@@ -316,7 +316,10 @@ module _ (shape : Shape) (base : Words) (s : State) (chains : ℕ → List ℕ) 
     above = below_next;
     drawn = drawn;
     numbers = world.log.numbers;
-    standing = λ a m. world.stands i image a m;
+    standing = λ a m. (
+        let size = world.log.logged.size in
+        let below = m.1 in
+        stands_word shape.policy s.log (λ b. i a) (heap_words shape i) a (h a) (sym (heap_word_is shape i a m)) (world.stands a (i a) m (image a (omega (arith, size, below)))));
   }
 
 pub worlds_stand : WorldsStand

@@ -17,7 +17,7 @@ use Rattle.txn_laws.specs.Heaps.{now_of}
 use Rattle.txn_laws.specs.AreTransactions.{IsTransaction}
 use Rattle.txn_laws.specs.Worlds.{World, IsWorldAt}
 use Rattle.txn_laws.specs.StartLaws.{IsFinished, fresh_world, WorldsStart}
-use Rattle.txn_laws.proofs.Finding.{idle_none, now_nobodys}
+use Rattle.txn_laws.proofs.Finding.{idle_none, now_nobodys, some_candidate}
 
 idle_at : (n l : ℕ) → txn_at (idle_lanes n) l ≡ idle
 idle_at zero l = refl
@@ -47,26 +47,27 @@ idle_told shape h = record {
 }
 
 pub worlds_start : WorldsStart
-worlds_start shape base s chains lanes next region force numbers is = record {
+worlds_start shape base s chains lanes next region force numbers finished = record {
   force = force;
   log = record {
-    of_shape = is.of_shape;
-    header = is.header;
-    logged = keepers_start.logged shape base s chains [] region size is.allowed is.has is.no_record is.rest (λ a lt v m. settled a (omega (arith, lt, size, inside)) v m);
-    sound = is.sound;
+    of_shape = finished.of_shape;
+    header = finished.header;
+    logged = keepers_start.logged shape base s chains [] region size finished.allowed finished.has finished.no_record finished.rest (λ a lt v m. settled a (omega (arith, lt, size, inside)) v m);
+    sound = finished.sound;
     ordered = starts_ordered next [] tt;
     fits = keepers_start.fits shape [];
     numbers = numbers;
   };
   owners = record { heap_words = λ l a m. absurd (none_mine lanes l a m); apart = λ l k a m. absurd (none_mine lanes l a m) };
   transactions = record {
-    each = λ l. subst (λ log. IsTransaction shape log (heap_words shape base) (txn_at (idle_lanes lanes) l)) (sym is.no_record)
+    each = λ l. subst (λ log. IsTransaction shape log (heap_words shape base) (txn_at (idle_lanes lanes) l)) (sym finished.no_record)
         (subst (IsTransaction shape [] (heap_words shape base)) (sym (idle_at lanes l)) (idle_told shape (heap_words shape base)));
-    known = λ r m. absurd (subst (λ log. IsAmong log r) is.no_record m);
+    known = λ r m. absurd (subst (λ log. IsAmong log r) finished.no_record m);
     apart = λ l k one. absurd (no_number l one);
   };
   heap = record {
-    now = λ a m none. sym (settled_is (region.at a) (base a) (is.settled a (within a m)) (is.words a (within a m))) ∙ sym (heap_word_is shape base a m)
+    full = λ a m. some_candidate (region.at a) (base a) (finished.words a (within a m));
+    now = λ a m none. sym (settled_is (region.at a) (base a) (finished.settled a (within a m)) (finished.words a (within a m))) ∙ sym (heap_word_is shape base a m)
         ∙ sym (now_nobodys (idle_lanes lanes) (heap_words shape base) a (λ l. none_mine lanes l a));
     found = λ l g over. absurd (no_over l over);
   };
@@ -76,14 +77,13 @@ worlds_start shape base s chains lanes next region force numbers is = record {
     own = λ a v k. absurd k;
     fenced = λ fenced a v k. absurd k;
   };
-  stands = λ i image a m. subst (λ log. Stands shape.policy log (heap_words shape i) a (heap_words shape base a)) (sym is.no_record)
-      (kept (λ r k. absurd k) (λ r k. absurd k) (λ r k. absurd k)
-      (heap_word_is shape base a m ∙ sym (settled a (within a m) (i a) (image a (within a m))) ∙ sym (heap_word_is shape i a m)));
+  stands = λ a u m is. subst (λ log. Stands shape.policy log (λ b. u) a (heap_words shape base a)) (sym finished.no_record)
+      (kept (λ r k. absurd k) (λ r k. absurd k) (λ r k. absurd k) (heap_word_is shape base a m ∙ sym (settled a (within a m) u is)));
   parts = λ p lt. record { run = refl; fits = tt };
 }
   where
     size : region.size ≡ words_of_shape shape
-    size = is.header.long ∙ ap words_of_shape is.of_shape
+    size = finished.header.long ∙ ap words_of_shape finished.of_shape
 
     inside : heap shape ≤ words_of_shape shape
     inside = omega arith
@@ -92,7 +92,7 @@ worlds_start shape base s chains lanes next region force numbers is = record {
     within a m = let lt = m.1 in omega (arith, lt, size)
 
     settled : (a : ℕ) → a < region.size → (v : ℕ) → IsCandidate (region.at a) v → v ≡ base a
-    settled a lt v m = settled_is (region.at a) v (is.settled a lt) m ∙ sym (settled_is (region.at a) (base a) (is.settled a lt) (is.words a lt))
+    settled a lt v m = settled_is (region.at a) v (finished.settled a lt) m ∙ sym (settled_is (region.at a) (base a) (finished.settled a lt) (finished.words a lt))
 
     no_number : (l : ℕ) → 1 ≤ (txn_at (idle_lanes lanes) l).number → ⊥
     no_number l one = let e : (txn_at (idle_lanes lanes) l).number ≡ 0 = ap (λ (x : Txn). x.number) (idle_at lanes l) in omega (arith, one, e)

@@ -8,3 +8,4 @@ pub mod PartsOf
 pub mod Worlds
 pub mod Laws
 pub mod StartLaws
+pub mod Beginnings

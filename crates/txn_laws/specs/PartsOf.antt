@@ -1,10 +1,11 @@
 -- What is under way in a partition fits what the lane that holds it does.
-use Rattle.std.specs.Prelude.{◌≡◌, ℕ, ◌≤◌, true, false, List, [], length}
+use Rattle.std.specs.Prelude.{◌≡◌, ℕ, ◌<◌, ◌≤◌, true, false, List, [], length}
 use Rattle.persist_model.specs.Region.{Words}
 use Rattle.persist_model.specs.Records.{Record, Log, IsAmong, IsOf, IsEnd, IsEnded}
 use Rattle.persist_model.specs.Shape.{Shape}
 use Rattle.persist_model.specs.State.{State}
 use Rattle.log_clearing.specs.Closed.{IsListed}
+use Rattle.log_keeper.specs.Parts.{rests}
 use Rattle.log_keeper.specs.Logged.{Keeping}
 use Rattle.history_laws.specs.UnderWay.{UnderWay, nothing, appends, closes, takes_back, drops, run_of}
 use Rattle.txn_laws.specs.Txns.{Txn, txn_at}
@@ -37,6 +38,10 @@ Fits shape s h p x (appends adding made) = IsAppendOf shape s h p x adding made
 Fits shape s h p x (closes gates ends made) = IsClosingOf s.log p x gates ends
 Fits shape s h p x (takes_back gates made) = IsTakingBackOf s.log p x gates
 Fits shape s h p x (drops r made) = Unit {0}
+
+-- no part of lane l is under way
+abbrev pub IsResting : Shape → Keeping → ℕ → Type 0
+IsResting shape k l = (p : ℕ) → p < shape.partitions → k.holder p ≡ l → (k.runs p).part ≡ rests
 
 -- the keeper's run is what is under way, and fits its holder's transaction
 pub record IsPartIn (shape : Shape) (s : State) (h : Words) (k : Keeping) (lanes : List Txn) (p : ℕ) (u : UnderWay) : Type 0 where

@@ -7,10 +7,9 @@ use Rattle.log_keeper.specs.Logged.{Keeping, IsLoggedAt}
 use Rattle.log_keeper.specs.Ordered.{IsOrdered, FitsRuns}
 use Rattle.history_laws.specs.Histories.{Entry, fold}
 use Rattle.history_laws.specs.UnderWay.{UnderWay}
-use Rattle.history_laws.specs.Growing.{StandsForHistory}
-use Rattle.txn_laws.specs.Txns.{Txn, txn_at}
+use Rattle.txn_laws.specs.Txns.{Txn, txn_at, with_txn}
 use Rattle.txn_laws.specs.Owners.{AreOwners}
-use Rattle.txn_laws.specs.Heaps.{IsHeapOf, IsKept}
+use Rattle.txn_laws.specs.Heaps.{StandsForHeap, IsHeapOf, IsKept}
 use Rattle.txn_laws.specs.AreTransactions.{AreTransactions}
 use Rattle.txn_laws.specs.PartsOf.{IsPartIn}
 
@@ -21,6 +20,10 @@ pub record World : Type 0 where
   pub under : ℕ → UnderWay
   pub lanes : List Txn
   pub history : List Entry
+
+-- lane l has another transaction
+abbrev pub with_lane : ℕ → Txn → World → World
+with_lane l x w = record w { lanes = with_txn l x w.lanes }
 
 -- The keeper's region has the settled words base, with the sound state s, and numbers are left for all cells.
 pub record IsLogOf (shape : Shape) (base : Words) (s : State) (chains : ℕ → List ℕ) (k : Keeping) (next : ℕ) (region : Region) : Type 0 where
@@ -40,5 +43,5 @@ pub record IsWorldAt (shape : Shape) (base : Words) (s : State) (chains : ℕ �
   pub transactions : AreTransactions shape s.log (fold start w.history) w.lanes
   pub heap : IsHeapOf shape s.log (fold start w.history) w.lanes region
   pub kept : (l : ℕ) → IsKept l (txn_at w.lanes l) region
-  pub stands : StandsForHistory shape s.log (fold start w.history) region
+  pub stands : StandsForHeap shape s.log (fold start w.history) region
   pub parts : (p : ℕ) → p < shape.partitions → IsPartIn shape s (fold start w.history) w.keeping w.lanes p (w.under p)
