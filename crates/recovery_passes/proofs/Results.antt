@@ -1,6 +1,6 @@
 -- What recovery's clauses say, from what its stages did.
 use Rattle.std.proofs.Common.{◌≡◌, ℕ, ◌+◌, ◌-◌, ◌*◌, ◌≤◌, Bool, true, false, if◌then◌else◌, List, [], length, map, reverse, refl, sym, ap, ◌∙◌, subst, arith}
-use Rattle.std.specs.Prelude.{slice_index, IsTrue, ◌↔◌, Result, Err}
+use Rattle.std.specs.Prelude.{slice_index, IsTrue, ◌↔◌, Err}
 use Rattle.persist_model.specs.ImageRules.{rule_number}
 use Rattle.persist_model.specs.Region.{Words, Region, AreSettled, newest_words}
 use Rattle.persist_model.specs.Records.{Log, IsCommitted, IsLoser}
@@ -28,15 +28,15 @@ use Rattle.recovery_analysis.specs.declared.grouping.Transaction.{Transaction}
 use Rattle.recovery_analysis.specs.declared.working.Work.{Work}
 use Rattle.recovery_analysis.specs.Analyses.{AreThose}
 use Rattle.recovery_analysis.specs.Works.{IsWorkOf}
-use Rattle.recovery_analysis.specs.Conditions.{IsSoundImage}
 use Rattle.persist_model.specs.Faults.{IsFirstFault}
-use Rattle.region_layout.specs.declared.reading.ImageFault.{ImageFault}
-use Rattle.recovery_passes.specs.declared.recovering.RecoverFault.{RecoverFault}
-use Rattle.recovery_passes.specs.declared.recovering.RecoverFault.TheVariants.{Unsound, Stopped as Halted}
+use Rattle.sound_check.specs.declared.fault.CheckFault.{CheckFault}
+use Rattle.sound_check.specs.declared.fault.CheckFault.TheVariants.{Unsound as Faulty, NoMemory as Refused}
+use Rattle.sound_check.specs.Faulty.{IfUnsound}
 use Rattle.recovery_passes.specs.declared.recovering.Unfinished.{Unfinished}
 use Rattle.recovery_passes.specs.declared.recovering.Unfinished.TheVariants as unfinished
 use Rattle.recovery_passes.specs.Reading.{IsLogRead}
-use Rattle.recovery_passes.specs.Refusals.{unfinished_fault, IfRefused}
+use Rattle.recovery_passes.specs.Refusals.{recover_fault, unfinished_fault}
+use Rattle.recovery_passes.specs.Recovery.{IsRecoveryOfSound, IsRecovery, KeepsHeader}
 use Rattle.recovery_passes.specs.Recovered.{IsFinished, Restores, EachStands, Lists, AreFates, HasNeed, with_checkpoint, forced, settled as no_checkpoint, most_events, AreFew}
 use Rattle.recovery_passes.specs.Stages.{AreQuiet, AreShort, IsIdle}
 use Rattle.recovery_passes.specs.LoserPass.{IsCleared}
@@ -51,14 +51,6 @@ sound_read words region is sound =
 -- and its shape is the one that is read of it
 pub shape_read : (shape : Shape) (words : List ℕ) (region : Region) → words ≡ newest_words region → shape ≡ shape_of (slice_index words) → shape ≡ shape_of (newest_at region)
 shape_read shape words region is same = same ∙ ap (λ (xs : List ℕ). shape_of (slice_index xs)) is
-
--- and what is sound is read as that
-pub image_read : (layout : Layout) (words : List ℕ) (region : Region) → words ≡ newest_words region → IsSound region.size (newest_at region) → layout_shape layout ≡ shape_of (newest_at region) →
-    IsSoundImage layout (length words) (slice_index words)
-image_read layout words region is sound shape = record {
-  sound = subst (λ (xs : List ℕ). IsSound (length xs) (slice_index xs)) (sym is) (subst (λ n. IsSound n (newest_at region)) (sym (length-newest_words region)) sound);
-  has_layout = ap (λ (xs : List ℕ). shape_of (slice_index xs)) is ∙ sym shape;
-}
 
 -- what recovery begins with: a settled region with this sound state, and the layout that its header says
 pub record IsStart (layout : Layout) (old : Region) (s0 : State) : Type 0 where
@@ -158,8 +150,8 @@ module _ (layout : Layout) (old : Region) (s0 : State) (h : IsStart layout old s
     own_header : KeepsWords (IsPlainHeaderWord (shape_of w)) old later
     own_header = subst (λ (s : Shape). KeepsWords (IsPlainHeaderWord s) old later) h.shape_is keeps
 
-    pub header_there : KeepsWords (IsPlainHeaderWord (shape_of w)) old later
-    header_there = own_header
+    pub header_there : later.size ≡ words_of_shape (layout_shape layout) → KeepsHeader old later
+    header_there long = record { size = size_there later long; words = own_header }
 
     pub stopped_there : EachKeeps (layout_shape layout) s0 later → EachStands w later
     stopped_there kept = each_stands old later s0 h.begun (size_there later kept.size) own_header (subst (λ (s : Shape). EachKeeps s s0 later) h.shape_is kept)
@@ -244,18 +236,29 @@ counted_there {layout = layout} {s0 = s0} {redo = redo} {running = running} {che
 
 -- ---- a refusal
 
-pub unsound_read : (words : List ℕ) (region : Region) → words ≡ newest_words region → (fault : RecoverFault) → IfRefused fault (IsFirstFault (length words) (slice_index words)) → (found : ImageFault) →
-    fault ≡ Unsound found → IsFirstFault region.size (newest_at region) (rule_number found.rule) found.address
-unsound_read words region is fault there found same =
-    subst (λ n. IsFirstFault n (newest_at region) (rule_number found.rule) found.address) (length-newest_words region)
-    (subst (λ (xs : List ℕ). IsFirstFault (length xs) (slice_index xs) (rule_number found.rule) found.address) is
-    (subst (λ (r : RecoverFault). IfRefused r (IsFirstFault (length words) (slice_index words))) same there))
-
-pub err_is : {X : Type 0} (a b : RecoverFault) → ◌≡◌ {A = Result X RecoverFault} (Err a) (Err b) → a ≡ b
-err_is a b e = cc
+-- a check that refused the words, before any event
+pub refusal_owes : (words : List ℕ) (region : Region) (counts : Counts) → words ≡ newest_words region → (fault : CheckFault) → IfUnsound fault (IsFirstFault (length words) (slice_index words)) →
+    IsRecovery region counts region counts (Err (recover_fault fault))
+refusal_owes words region counts is (Faulty found) there = record {
+  first = subst (λ n. IsFirstFault n (newest_at region) (rule_number found.rule) found.address) (length-newest_words region)
+      (subst (λ (xs : List ℕ). IsFirstFault (length xs) (slice_index xs) (rule_number found.rule) found.address) is there);
+  untouched = record { cells = refl; unmade = refl };
+}
+refusal_owes words region counts is Refused there = record { cells = refl; unmade = refl }
 
 -- ---- a recovery that wasn't finished
 
-pub halted_is : (fault : Unfinished) → unfinished_fault fault ≡ Halted → fault ≡ unfinished.Stopped
-halted_is unfinished.Stopped e = refl
-halted_is unfinished.NoMemory e = cc
+-- what wasn't done for want of memory
+pub untouched_owes : (before after : Region) (counts counts_after : Counts) (fault : Unfinished) → fault ≡ unfinished.NoMemory → after ≡ before → counts_after ≡ counts →
+    IsRecoveryOfSound before counts after counts_after (Err fault)
+untouched_owes before after counts counts_after fault same cells unmade =
+    subst (λ (f : Unfinished). IsRecoveryOfSound before counts after counts_after (Err f)) (sym same) (record { cells = cells; unmade = unmade })
+
+-- to a whole recovery it is the same
+pub unfinished_owes : (before after : Region) (counts counts_after : Counts) (fault : Unfinished) → IsRecoveryOfSound before counts after counts_after (Err fault) →
+    IsRecovery before counts after counts_after (Err (unfinished_fault fault))
+unfinished_owes before after counts counts_after unfinished.Stopped h = h
+unfinished_owes before after counts counts_after unfinished.NoMemory h = h
+
+pub header_same : (before after : Region) → after ≡ before → KeepsHeader before after
+header_same before after same = subst (λ (r : Region). KeepsHeader before r) (sym same) (record { size = refl; words = λ a v plain only. only })

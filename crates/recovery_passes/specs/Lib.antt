@@ -5,3 +5,4 @@ pub mod LoserPass
 pub mod Going
 pub mod Plans
 pub mod Refusals
+pub mod Recovery

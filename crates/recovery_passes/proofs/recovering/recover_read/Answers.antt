@@ -7,7 +7,7 @@ use Rattle.recovery_run.specs.Reached.{newest_at}
 use Rattle.recovery_analysis.specs.Conditions.{IsSoundImage}
 use Rattle.recovery_analysis.proofs.Soundly.{state_of_image}
 use Rattle.recovery_analysis.proofs.Whole.{merge_sound}
-use Rattle.recovery_passes.proofs.Results.{start_of, IsReady, ready_of, fates_of, few_are, size_there, header_there, stopped_there, restored_there, finished_there, idle_there, counted_there, made_counts, made_few, made_rises, stopped_counts, stopped_few}
+use Rattle.recovery_passes.proofs.Results.{start_of, IsReady, ready_of, fates_of, few_are, header_there, stopped_there, restored_there, finished_there, idle_there, counted_there, made_counts, made_few, made_rises, stopped_counts, stopped_few}
 use Rattle.recovery_passes.proofs.recovering.recover_read.Goals as goal
 use Rattle.recovery_passes.proofs.recovering.recover_read.Goals.{After-as_slice-2, In-Stopped, In-Made, After-events}
 
@@ -36,39 +36,25 @@ make_events-done-requires g c =
 stop_keeps : (g : _) (c : In-Stopped g) → KeepsWords (IsPlainHeaderWord (layout_shape c.args.layout)) (g.D.Device.cells c.args.device.now) (g.D.Device.cells c.make_events-done.new.device)
 stop_keeps g c = subst (λ (r : Region). KeepsWords (IsPlainHeaderWord (layout_shape c.args.layout)) r (g.D.Device.cells c.make_events-done.new.device)) c.in_ok-make_room.ensures.cells c.in-Stopped.ensures.header
 
-pub returns-in-Stopped-clause-size : goal.returns-in-Stopped-clause-size
-returns-in-Stopped-clause-size g c =
-    let h = ready g (goal.at.returns-in-Stopped-clause-size g c).After-as_slice-2 in
-    size_there _ _ _ h.start (g.D.Device.cells c.make_events-done.new.device) (c.in-Stopped.ensures.stopped refl _ _ h.plan c.in_ok-make_room.ensures.spare).size
-
-pub returns-in-Stopped-clause-stopped : goal.returns-in-Stopped-clause-stopped
-returns-in-Stopped-clause-stopped g c = λ stopped.
-    let x = goal.at.returns-in-Stopped-clause-stopped g c in
+pub returns-in-Stopped-clause-owed : goal.returns-in-Stopped-clause-owed
+returns-in-Stopped-clause-owed g c =
+    let x = goal.at.returns-in-Stopped-clause-owed g c in
     let h = ready g x.After-as_slice-2 in
-    stopped_there _ _ _ h.start _ (stop_keeps g x.In-Stopped) (c.in-Stopped.ensures.stopped refl _ _ h.plan c.in_ok-make_room.ensures.spare)
-
-pub returns-in-Stopped-clause-stopped_counts : goal.returns-in-Stopped-clause-stopped_counts
-returns-in-Stopped-clause-stopped_counts g c = λ stopped.
-    let h = ready g (goal.at.returns-in-Stopped-clause-stopped_counts g c).After-as_slice-2 in
-    stopped_counts _ _ _ (counted_there h.plan c.in_ok-make_room.ensures.spare c.in_ok-make_room.ensures.counts c.in-Stopped.ensures.counted)
-
-pub returns-in-Stopped-clause-stopped_early : goal.returns-in-Stopped-clause-stopped_early
-returns-in-Stopped-clause-stopped_early g c = λ stopped n sum.
-    let h = ready g (goal.at.returns-in-Stopped-clause-stopped_early g c).After-as_slice-2 in
-    let few = stopped_few _ n _ _ (counted_there h.plan c.in_ok-make_room.ensures.spare c.in_ok-make_room.ensures.counts c.in-Stopped.ensures.counted) sum in
+    let counts = counted_there h.plan c.in_ok-make_room.ensures.spare c.in_ok-make_room.ensures.counts c.in-Stopped.ensures.counted in
     let most = h.work_is.most in
-    few_are _ _ _ h.start c.in_ok-work.work (n + 1) h.work_is (omega (arith, few, most))
-
-pub returns-in-Stopped-clause-unfinished : goal.returns-in-Stopped-clause-unfinished
-returns-in-Stopped-clause-unfinished g c = λ finished stopped.
-    let h = ready g (goal.at.returns-in-Stopped-clause-unfinished g c).After-as_slice-2 in
-    let made = (idle_there _ _ _ h.start finished h.plan c.in_ok-make_room.ensures.cells c.in-Stopped.ensures.idle).made in
-    cc
+    record {
+      sound = c.requires.sound;
+      stands = stopped_there _ _ _ h.start _ (stop_keeps g x.In-Stopped) (c.in-Stopped.ensures.stopped refl _ _ h.plan c.in_ok-make_room.ensures.spare);
+      stopped = stopped_counts _ _ _ counts;
+      early = λ n sum. (let few = stopped_few _ n _ _ counts sum in few_are _ _ _ h.start c.in_ok-work.work (n + 1) h.work_is (omega (arith, few, most)));
+      unfinished = λ finished. (let made = (idle_there _ _ _ h.start finished h.plan c.in_ok-make_room.ensures.cells c.in-Stopped.ensures.idle).made in cc);
+    }
 
 pub returns-in-Stopped-clause-header : goal.returns-in-Stopped-clause-header
 returns-in-Stopped-clause-header g c =
     let x = goal.at.returns-in-Stopped-clause-header g c in
-    header_there _ _ _ (ready g x.After-as_slice-2).start (g.D.Device.cells c.make_events-done.new.device) (stop_keeps g x.In-Stopped)
+    let h = ready g x.After-as_slice-2 in
+    header_there _ _ _ h.start (g.D.Device.cells c.make_events-done.new.device) (stop_keeps g x.In-Stopped) (c.in-Stopped.ensures.stopped refl _ _ h.plan c.in_ok-make_room.ensures.spare).size
 
 -- ---- the end
 
@@ -92,56 +78,31 @@ overflow_sub-result g c =
     let same = ap (λ (n : Counts). n.events) c.in_ok-make_room.ensures.counts in
     omega (arith, rises, now, before, same)
 
-pub returns-in-Made-clause-fates : goal.returns-in-Made-clause-fates
-returns-in-Made-clause-fates g c =
-    let h = ready g (goal.at.returns-in-Made-clause-fates g c).After-as_slice-2 in
-    fates_of _ _ _ h.start c.in_ok-work.work h.work_is
-
-pub returns-in-Made-clause-restored : goal.returns-in-Made-clause-restored
-returns-in-Made-clause-restored g c =
-    let x = goal.at.returns-in-Made-clause-restored g c in
+pub returns-in-Made-clause-owed : goal.returns-in-Made-clause-owed
+returns-in-Made-clause-owed g c =
+    let x = goal.at.returns-in-Made-clause-owed g c in
     let h = ready g x.After-as_slice-2 in
-    restored_there _ _ _ h.start _ (end_keeps g x.In-Made) (c.in-Made.ensures.made refl _ _ h.plan c.in_ok-make_room.ensures.spare)
-
-pub returns-in-Made-clause-settled : goal.returns-in-Made-clause-settled
-returns-in-Made-clause-settled g c =
-    let h = ready g (goal.at.returns-in-Made-clause-settled g c).After-as_slice-2 in
-    (c.in-Made.ensures.made refl _ _ h.plan c.in_ok-make_room.ensures.spare).settled.settled
-
-pub returns-in-Made-clause-finished : goal.returns-in-Made-clause-finished
-returns-in-Made-clause-finished g c =
-    let x = goal.at.returns-in-Made-clause-finished g c in
-    let h = ready g x.After-as_slice-2 in
-    finished_there _ _ _ h.start _ (end_keeps g x.In-Made) (c.in-Made.ensures.made refl _ _ h.plan c.in_ok-make_room.ensures.spare)
-
-pub returns-in-Made-clause-size : goal.returns-in-Made-clause-size
-returns-in-Made-clause-size g c =
-    let h = ready g (goal.at.returns-in-Made-clause-size g c).After-as_slice-2 in
-    size_there _ _ _ h.start (g.D.Device.cells c.make_events-done.new.device) (c.in-Made.ensures.made refl _ _ h.plan c.in_ok-make_room.ensures.spare).settled.come.size
-
-pub returns-in-Made-clause-events : goal.returns-in-Made-clause-events
-returns-in-Made-clause-events g c =
-    let x = goal.at.returns-in-Made-clause-events g c in
-    let h = ready g x.After-as_slice-2 in
-    made_counts _ _ _ _ (counted_there h.plan c.in_ok-make_room.ensures.spare c.in_ok-make_room.ensures.counts c.in-Made.ensures.counted) (end_events g x.After-events)
-
-pub returns-in-Made-clause-few : goal.returns-in-Made-clause-few
-returns-in-Made-clause-few g c =
-    let x = goal.at.returns-in-Made-clause-few g c in
-    let h = ready g x.After-as_slice-2 in
-    let few = made_few _ _ _ _ (counted_there h.plan c.in_ok-make_room.ensures.spare c.in_ok-make_room.ensures.counts c.in-Made.ensures.counted) (end_events g x.After-events) in
-    few_are _ _ _ h.start c.in_ok-work.work _ h.work_is (omega (arith, few))
-
-pub returns-in-Made-clause-again : goal.returns-in-Made-clause-again
-returns-in-Made-clause-again g c = λ finished.
-    let h = ready g (goal.at.returns-in-Made-clause-again g c).After-as_slice-2 in
-    let idle = idle_there _ _ _ h.start finished h.plan c.in_ok-make_room.ensures.cells c.in-Made.ensures.idle in
-    let same = ap (λ (n : Counts). n.events) idle.same in
-    let now = c.events.ensures in
-    let before = c.events-before.ensures in
-    omega (arith, same, now, before)
+    let end = c.in-Made.ensures.made refl _ _ h.plan c.in_ok-make_room.ensures.spare in
+    let counts = counted_there h.plan c.in_ok-make_room.ensures.spare c.in_ok-make_room.ensures.counts c.in-Made.ensures.counted in
+    let few = made_few _ _ _ _ counts (end_events g x.After-events) in
+    record {
+      sound = c.requires.sound;
+      fates = fates_of _ _ _ h.start c.in_ok-work.work h.work_is;
+      restored = restored_there _ _ _ h.start _ (end_keeps g x.In-Made) end;
+      settled = end.settled.settled;
+      finished = finished_there _ _ _ h.start _ (end_keeps g x.In-Made) end;
+      events = made_counts _ _ _ _ counts (end_events g x.After-events);
+      few = few_are _ _ _ h.start c.in_ok-work.work _ h.work_is (omega (arith, few));
+      again = λ finished.
+          (let idle = idle_there _ _ _ h.start finished h.plan c.in_ok-make_room.ensures.cells c.in-Made.ensures.idle in
+          let same = ap (λ (n : Counts). n.events) idle.same in
+          let now = c.events.ensures in
+          let before = c.events-before.ensures in
+          omega (arith, same, now, before));
+    }
 
 pub returns-in-Made-clause-header : goal.returns-in-Made-clause-header
 returns-in-Made-clause-header g c =
     let x = goal.at.returns-in-Made-clause-header g c in
-    header_there _ _ _ (ready g x.After-as_slice-2).start (g.D.Device.cells c.make_events-done.new.device) (end_keeps g x.In-Made)
+    let h = ready g x.After-as_slice-2 in
+    header_there _ _ _ h.start (g.D.Device.cells c.make_events-done.new.device) (end_keeps g x.In-Made) (c.in-Made.ensures.made refl _ _ h.plan c.in_ok-make_room.ensures.spare).settled.come.size
