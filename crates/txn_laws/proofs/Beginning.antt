@@ -41,11 +41,13 @@ begun_plain shape h number part words = record {
     updates_are = tt;
     changed = λ a r last. absurd last.among;
     unchanged = λ a none u. refl;
-    given = λ g m. absurd m;
-    writes_own = λ x m. absurd m;
-    gifts_own = λ g m. absurd m;
+    covered = λ v m. absurd m;
+    writes_own = λ v m. absurd m;
   };
+  ended = λ over. record { has_end = λ some. absurd some.1; committed = λ commits some. absurd some.1 };
   deletions = λ a r m. absurd m;
+  given = λ g m. absurd m;
+  gifts_own = λ g m. absurd m;
   names = λ r m. absurd m;
 }
 

@@ -7,4 +7,5 @@ pub mod Starting
 pub mod Lanes
 pub mod SameRecords
 pub mod Beginning
+pub mod Storing
 mod Examples

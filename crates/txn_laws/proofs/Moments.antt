@@ -150,7 +150,7 @@ module _ (shape : Shape) (base : Words) (s : State) (chains : ℕ → List ℕ) 
     -- no commit in flight writes a word that is the lane's own
     flight_leaves : (e : Entry) (a k : ℕ) → IsEntryAt w.lanes k e → IsMine (lane l) a → k ≢ l → LeavesWord e a
     flight_leaves e a k entry mine other = subst (λ f. LeavesWord f a) (sym entry.entry)
-        (entry_leaves s.log h (lane k) a ((world.transactions.each k).going entry.flying.over_is) (λ m. other (world.owners.apart k l a m mine)))
+        (entry_leaves shape s.log h (lane k) a (world.transactions.each k) ((world.transactions.each k).going entry.flying.over_is) (λ m. other (world.owners.apart k l a m mine)))
 
     -- each word that the transaction changed has its last NEW
     last_there : (t : ℕ) → t ≡ (lane l).number → (lane l).over ≡ false → (lane l).fenced ≡ true → (lane l).stored ≡ length (lane l).updates →
@@ -224,7 +224,7 @@ module _ (shape : Shape) (base : Words) (s : State) (chains : ℕ → List ℕ) 
       force = world.force;
       groups = can.0;
       here = λ r m on. (world.transactions.each l).in_part r m (fits.own r m on) ∙ fits.here;
-      ended = λ r m on. (let of = fits.own r m on in (of.1, subst (IsEnded s.log) (sym of.0) fits.has_end));
+      ended = λ r m on. (let of = fits.own r m on in (of.1, subst (IsEnded s.log) (sym of.0) (((world.transactions.each l).ended fits.is_over).has_end (r, m, of))));
       whole = λ e m on end r k of. inr (inl (fits.rest e m on end r k (of.0 ∙ (fits.own e m on).0, of.1)));
       zero = λ r m on deletion committed. (
           let of = fits.own r m on in

@@ -31,10 +31,10 @@ deleted_own shape log h x a r t running m d = subst (IsMine x) d.1
     (t.names r m (d.2, names_plain r (inr d.0)) (inl (inr d.0, subst (IsRunning log) (sym d.2) running)))
 
 -- what a transaction in flight writes is its own
-pub entry_own : (log : Log) (h : Words) (x : Txn) → IsGoing log h x → (w : Write) → IsAmong (x.writes ++ map zero_of x.gifts) w → IsMine x w.address
-entry_own log h x going w m = elim (either x.writes (map zero_of x.gifts) w m) [
+pub entry_own : (shape : Shape) (log : Log) (h : Words) (x : Txn) → IsTransaction shape log h x → IsGoing log h x → (w : Write) → IsAmong (x.writes ++ map zero_of x.gifts) w → IsMine x w.address
+entry_own shape log h x t going w m = elim (either x.writes (map zero_of x.gifts) w m) [
   | inl k ↦ going.writes_own w k
-  | inr k ↦ (let g = among_zeros x.gifts w k in subst (λ (v : Write). IsMine x v.address) (sym g.2) (going.gifts_own g.0 g.1))
+  | inr k ↦ (let g = among_zeros x.gifts w k in subst (λ (v : Write). IsMine x v.address) (sym g.2) (t.gifts_own g.0 g.1))
 ]
   where
     either : (xs ys : List Write) (v : Write) → IsAmong (xs ++ ys) v → IsAmong xs v ⊎ IsAmong ys v
@@ -42,8 +42,8 @@ entry_own log h x going w m = elim (either x.writes (map zero_of x.gifts) w m) [
     either (y ∷ xs) ys v (inl e) = inl (inl e)
     either (y ∷ xs) ys v (inr k) = elim (either xs ys v k) [ inl j ↦ inl (inr j) | inr j ↦ inr j ]
 
-pub entry_leaves : (log : Log) (h : Words) (x : Txn) (a : ℕ) → IsGoing log h x → (IsMine x a → ⊥) → LeavesWord (entry_of x) a
-entry_leaves log h x a going off u = latest_elsewhere (x.writes ++ map zero_of x.gifts) a u (λ w m e. off (subst (IsMine x) e (entry_own log h x going w m)))
+pub entry_leaves : (shape : Shape) (log : Log) (h : Words) (x : Txn) (a : ℕ) → IsTransaction shape log h x → IsGoing log h x → (IsMine x a → ⊥) → LeavesWord (entry_of x) a
+entry_leaves shape log h x a t going off u = latest_elsewhere (x.writes ++ map zero_of x.gifts) a u (λ w m e. off (subst (IsMine x) e (entry_own shape log h x t going w m)))
 
 -- the entry of a transaction all of whose writes are recorded has what its records say
 pub entry_is : (shape : Shape) (log : Log) (h : Words) (x : Txn) → IsTransaction shape log h x → IsGoing log h x → length x.updates ≡ length x.writes → IsEntryOf log h x.number (entry_of x)
@@ -60,7 +60,7 @@ entry_is shape log h x t going all = record {
     ungiven : (a : ℕ) → HasNo (IsDeletionBy x.number a) log → (u : ℕ) → latest (map zero_of x.gifts) a u ≡ u
     ungiven a none u = latest_elsewhere (map zero_of x.gifts) a u (λ w m e. (
         let g = among_zeros x.gifts w m in
-        let d = going.given g.0 g.1 in
+        let d = t.given g.0 g.1 in
         none d.0 d.1 (d.2.0, d.2.1 ∙ sym (ap (λ (v : Write). v.address) g.2) ∙ e, d.2.2)))
 
 module _ (shape : Shape) (log : Log) (h : Words) (lanes : List Txn) (owners : AreOwners shape lanes) (all : AreTransactions shape log h lanes) where

@@ -9,3 +9,4 @@ pub mod Worlds
 pub mod Laws
 pub mod StartLaws
 pub mod Beginnings
+pub mod Stores

@@ -1,7 +1,7 @@
 -- What is under way in a partition fits what the lane that holds it does.
 use Rattle.std.specs.Prelude.{◌≡◌, ℕ, ◌<◌, ◌≤◌, true, false, List, [], length}
 use Rattle.persist_model.specs.Region.{Words}
-use Rattle.persist_model.specs.Records.{Record, Log, IsAmong, IsOf, IsEnd, IsEnded}
+use Rattle.persist_model.specs.Records.{Record, Log, IsAmong, IsOf, IsEnd}
 use Rattle.persist_model.specs.Shape.{Shape}
 use Rattle.persist_model.specs.State.{State}
 use Rattle.log_clearing.specs.Closed.{IsListed}
@@ -17,7 +17,6 @@ pub record IsClosingOf (log : Log) (p : ℕ) (x : Txn) (gates ends : List ℕ) :
   pub number : 1 ≤ x.number
   pub here : x.part ≡ p
   pub is_over : x.over ≡ true
-  pub has_end : IsEnded log x.number
   pub zeroed_all : x.zeroed ≡ length x.gifts
   pub fenced_all : x.fenced ≡ true
   pub own : (r : Record) → IsAmong log r → IsListed gates ends [] r → IsOf x.number r

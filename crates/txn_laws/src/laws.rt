@@ -2,6 +2,7 @@
 ghost use Rattle.txn_laws.specs.Laws.{WorldsStand};
 ghost use Rattle.txn_laws.specs.StartLaws.{WorldsStart};
 ghost use Rattle.txn_laws.specs.Beginnings.{BeginsKeep, LeavesKeep};
+ghost use Rattle.txn_laws.specs.Stores.{WritesAreStored, WritesAreTakenBack, GiftsAreZeroed, FencesKeep};
 
 /// Each image stands for the history and those commits in flight that it has.
 pub fn worlds_stand()
@@ -21,4 +22,24 @@ pub fn begins_keep()
 /// and leaves its words once the log has none of its records.
 pub fn leaves_keep()
     ensures { LeavesKeep }
+{}
+
+/// Between the parts of the log a lane stores the next of its recorded writes,
+pub fn writes_are_stored()
+    ensures { WritesAreStored }
+{}
+
+/// takes back one whose update was compensated,
+pub fn writes_are_taken_back()
+    ensures { WritesAreTakenBack }
+{}
+
+/// stores 0 to the owner word of what it gave, behind its commit,
+pub fn gifts_are_zeroed()
+    ensures { GiftsAreZeroed }
+{}
+
+/// and makes a fence.
+pub fn fences_keep()
+    ensures { FencesKeep }
 {}
