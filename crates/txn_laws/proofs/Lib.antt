@@ -8,4 +8,6 @@ pub mod Lanes
 pub mod SameRecords
 pub mod Beginning
 pub mod Storing
+pub mod LogEvents
+pub mod GoingOn
 mod Examples

@@ -36,41 +36,41 @@ use Rattle.txn_laws.proofs.Beginning.{found_here}
 
 -- ---- lists of writes
 
-among_push : {A : Type 0} (xs : List A) (y x : A) → IsAmong (xs ++ y ∷ []) x → IsAmong xs x ⊎ (x ≡ y)
+pub among_push : {A : Type 0} (xs : List A) (y x : A) → IsAmong (xs ++ y ∷ []) x → IsAmong xs x ⊎ (x ≡ y)
 among_push [] y x (inl e) = inr e
 among_push [] y x (inr m) = absurd m
 among_push (z ∷ xs) y x (inl e) = inl (inl e)
 among_push (z ∷ xs) y x (inr m) = elim (among_push xs y x m) [ inl k ↦ inl (inr k) | inr e ↦ inr e ]
 
-got_of_take : {A : Type 0} (xs : List A) (m k : ℕ) (x : A) → slice_get (take m xs) k ≡ Some x → slice_get xs k ≡ Some x
+pub got_of_take : {A : Type 0} (xs : List A) (m k : ℕ) (x : A) → slice_get (take m xs) k ≡ Some x → slice_get xs k ≡ Some x
 got_of_take xs zero k x e = cc
 got_of_take [] (suc m) k x e = cc
 got_of_take (y ∷ xs) (suc m) zero x e = e
 got_of_take (y ∷ xs) (suc m) (suc k) x e = got_of_take xs m k x e
 
-among_got : {A : Type 0} (xs : List A) (k : ℕ) (x : A) → slice_get xs k ≡ Some x → IsAmong xs x
+pub among_got : {A : Type 0} (xs : List A) (k : ℕ) (x : A) → slice_get xs k ≡ Some x → IsAmong xs x
 among_got [] k x e = cc
 among_got (y ∷ xs) zero x e = let same : y ≡ x = cc in inl (sym same)
 among_got (y ∷ xs) (suc k) x e = inr (among_got xs k x e)
 
-among_taken : {A : Type 0} (xs : List A) (m : ℕ) (x : A) → IsAmong (take m xs) x → IsAmong xs x
+pub among_taken : {A : Type 0} (xs : List A) (m : ℕ) (x : A) → IsAmong (take m xs) x → IsAmong xs x
 among_taken xs zero x m = absurd m
 among_taken [] (suc n) x m = absurd m
 among_taken (y ∷ xs) (suc n) x (inl e) = inl e
 among_taken (y ∷ xs) (suc n) x (inr m) = inr (among_taken xs n x m)
 
-taken_less : {A : Type 0} (xs : List A) (m n : ℕ) (x : A) → m ≤ n → IsAmong (take m xs) x → IsAmong (take n xs) x
+pub taken_less : {A : Type 0} (xs : List A) (m n : ℕ) (x : A) → m ≤ n → IsAmong (take m xs) x → IsAmong (take n xs) x
 taken_less xs zero n x le k = absurd k
 taken_less xs (suc m) zero x le k = absurd (omega (arith, le))
 taken_less [] (suc m) (suc n) x le k = absurd k
 taken_less (y ∷ xs) (suc m) (suc n) x le (inl e) = inl e
 taken_less (y ∷ xs) (suc m) (suc n) x le (inr k) = inr (taken_less xs m n x (omega (arith, le)) k)
 
-some_taken : {A : Type 0} (xs : List A) (n : ℕ) (y : A) → slice_get xs n ≡ Some y → take (n + 1) xs ≡ take n xs ++ y ∷ []
+pub some_taken : {A : Type 0} (xs : List A) (n : ℕ) (y : A) → slice_get xs n ≡ Some y → take (n + 1) xs ≡ take n xs ++ y ∷ []
 some_taken xs n y e = let next : n + 1 ≡ suc n = omega arith in rw next (take_one_more xs n y e)
 
 -- the update of a recorded write
-update_of : (h : Words) (writes : List Write) (updates : List Record) (n : ℕ) → n < length updates → AreUpdatesOf h writes updates →
+pub update_of : (h : Words) (writes : List Write) (updates : List Record) (n : ℕ) → n < length updates → AreUpdatesOf h writes updates →
     (u : Record) × IsAmong updates u × (slice_get writes n ≡ Some (write u.word u.after))
 update_of h writes [] n lt each = absurd (omega (arith, lt))
 update_of h writes (u ∷ updates) n lt each = elim (eqb_tells n (length updates)) [
@@ -85,7 +85,7 @@ address_of (Some e) = e.address
 same_address : (a b v u : ℕ) → Some (write a v) ≡ Some (write b u) → a ≡ b
 same_address a b v u e = ap address_of e
 
-fenced_some : (mark : ℕ) (cs : List Candidate) → 0 < length cs → 0 < length (fenced mark cs)
+pub fenced_some : (mark : ℕ) (cs : List Candidate) → 0 < length cs → 0 < length (fenced mark cs)
 fenced_some mark cs some = mapped (from_last (has_mark mark) cs) (some-from_last (has_mark mark) cs some)
   where
     mapped : (ds : List Candidate) → 0 < length ds → 0 < length (map (unmarked mark) ds)

@@ -10,3 +10,4 @@ pub mod Laws
 pub mod StartLaws
 pub mod Beginnings
 pub mod Stores
+pub mod Going

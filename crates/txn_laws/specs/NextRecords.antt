@@ -59,8 +59,11 @@ is_end (a_compensation u cell) = false
 is_end (an_undone_end t) = true
 is_end (a_commit_end t) = true
 
--- The lane whose transaction x is appends the record of `adding` in the partition p, and has made so many events of it. The end's gate is
--- stored with all events but the last.
+-- whether the end's gate is stored, where so many events of the append are made: it is with all but the last
+abbrev pub ended_by : Shape → ℕ → Adding → ℕ → Bool
+ended_by shape p adding made = if is_end adding.added then is_over (region_append shape p adding.place (record_of_adding adding)) (made + 1) else false
+
+-- The lane whose transaction x is appends the record of `adding` in the partition p, and has made so many events of it.
 pub record IsAppendOf (shape : Shape) (s : State) (h : Words) (p : ℕ) (x : Txn) (adding : Adding) (made : ℕ) : Type 0 where
   pub number : 1 ≤ x.number
   pub of : (record_of_adding adding).transaction ≡ x.number
@@ -69,4 +72,4 @@ pub record IsAppendOf (shape : Shape) (s : State) (h : Words) (p : ℕ) (x : Txn
   pub passes : Passes s.log (record_of_adding adding)
   pub own : NamesWord (record_of_adding adding) → IsMine x (record_of_adding adding).word
   pub next : ComesNext shape s h x (record_of_adding adding) adding.added
-  pub ended_is : x.ended ≡ (if is_end adding.added then is_over (region_append shape p adding.place (record_of_adding adding)) (made + 1) else false)
+  pub ended_is : x.ended ≡ ended_by shape p adding made

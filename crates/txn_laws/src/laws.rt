@@ -3,6 +3,7 @@ ghost use Rattle.txn_laws.specs.Laws.{WorldsStand};
 ghost use Rattle.txn_laws.specs.StartLaws.{WorldsStart};
 ghost use Rattle.txn_laws.specs.Beginnings.{BeginsKeep, LeavesKeep};
 ghost use Rattle.txn_laws.specs.Stores.{WritesAreStored, WritesAreTakenBack, GiftsAreZeroed, FencesKeep};
+ghost use Rattle.txn_laws.specs.Going.{PartsKeep};
 
 /// Each image stands for the history and those commits in flight that it has.
 pub fn worlds_stand()
@@ -42,4 +43,9 @@ pub fn gifts_are_zeroed()
 /// and makes a fence.
 pub fn fences_keep()
     ensures { FencesKeep }
+{}
+
+/// An event of a part of the log that isn't its last settles nothing.
+pub fn parts_keep()
+    ensures { PartsKeep }
 {}
