@@ -17,7 +17,7 @@ use Rattle.recovery_passes.specs.declared.recovering.Unfinished.TheVariants as u
 use Rattle.recovery_passes.specs.Recovered.{IsFinished, Restores, EachStands, AreFates, AreFew}
 
 -- The words were sound and are recovered and settled, each heap word has its standing value, and the transactions that ended and
--- those that ran are told. The events are counted and few, and there was none where the words were recovered already.
+-- those that ran are told. The events are counted and few. Words that were recovered already are as they were, with no event.
 pub record HasFinished (before : Region) (counts : Counts) (after : Region) (counts_after : Counts) (done : Recovered) : Type 0 where
   pub sound : IsSound before.size (newest_at before)
   pub fates : AreFates (newest_at before) done.winners done.losers
@@ -27,6 +27,7 @@ pub record HasFinished (before : Region) (counts : Counts) (after : Region) (cou
   pub events : counts_after ≡ record counts { events = counts.events + done.events }
   pub few : AreFew (newest_at before) done.events
   pub again : IsFinished before.size (newest_at before) → done.events ≡ 0
+  pub same : IsFinished before.size (newest_at before) → after ≡ before
 
 -- The device stopped: the words were sound, and each image of those that it has is sound with the same standing words. They
 -- weren't recovered already, and the events up to the stop and one more are no more than a recovery may take.

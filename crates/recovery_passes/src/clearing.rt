@@ -82,6 +82,7 @@ pub fn clear<D: Device>(device: &mut D, layout: Layout, wanted: bool, held: Held
     ensures stopped { result ≡ Done.Stopped → (first : State) (total : ℕ) → Undoes layout first total [] held (D.cells device.old)
         → IsWanted layout first wanted → EachKeeps (layout_shape layout) first (D.cells device.new) }
     ensures counted { HasCounted (clear_events layout wanted (gates_len held.gates)) result (D.counts device.old) (D.counts device.new) }
+    ensures spare_left { D.spare device.old ≤ D.spare device.new + clear_events layout wanted (gates_len held.gates) }
     ensures header { KeepsWords (IsPlainHeaderWord (layout_shape layout)) (D.cells device.old) (D.cells device.new) }
     ensures idle { wanted ≡ false → HasNoGates held.gates → AreShort (layout_shape layout) (D.cells device.old)
         → IsIdle result (D.cells device.old) (D.cells device.new) (D.counts device.old) (D.counts device.new) }

@@ -11,6 +11,8 @@ mod recovering;
 mod redo;
 mod undo_stage;
 
-pub use recovering::{RecoverFault, Recovered, Unfinished, recover, recover_read};
+pub use recovering::{
+    RecoverFault, Recovered, Unfinished, recover, recover_read, recover_reserving,
+};
 pub use recovery_analysis::{Analysis, analyse};
 pub use sound_check::{CheckFault, SoundLog, check, read_sound};

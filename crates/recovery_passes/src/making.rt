@@ -32,6 +32,8 @@ pub fn make_events<D: Device>(
         → EachKeeps (layout_shape layout) first (D.cells device.new) }
     ensures counted { (first : State) (most : ℕ) → IsPlanned layout first redo.now running.now checkpoint held (most + 1) (D.cells device.old) → most + 1 ≤ D.spare device.old
         → HasCounted most result (D.counts device.old) (D.counts device.new) }
+    ensures spare_left { (first : State) (most : ℕ) → IsPlanned layout first redo.now running.now checkpoint held most (D.cells device.old) → most ≤ D.spare device.old
+        → D.spare device.old ≤ D.spare device.new + most }
     ensures header { KeepsWords (IsPlainHeaderWord (layout_shape layout)) (D.cells device.old) (D.cells device.new) }
     ensures idle { (first : State) (most : ℕ) → IsPlanned layout first redo.now running.now checkpoint held most (D.cells device.old) → first.log ≡ []
         → AreQuiet (layout_shape layout) (D.cells device.old) → AreShort (layout_shape layout) (D.cells device.old)

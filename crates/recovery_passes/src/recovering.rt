@@ -1,4 +1,4 @@
-ghost use Rattle.std.specs.Prelude.{◌≡◌, ◌≤◌, ◌<◌, ◌^◌, OnOk};
+ghost use Rattle.std.specs.Prelude.{◌≡◌, ◌≤◌, ◌<◌, ◌+◌, ◌^◌, OnOk};
 ghost use Rattle.persist_model.specs.Region.{AreSettled};
 ghost use Rattle.persist_model.specs.Shape.{shape_of};
 ghost use Rattle.persist_model.specs.Sound.{IsSound};
@@ -79,14 +79,18 @@ fn fault_of(fault: Unfinished) -> RecoverFault
     }
 }
 
-// Makes room for so many stores.
-fn make_room<D: Device>(device: &mut D, stores: u64) -> Result<(), NoMemory>
-    ensures fits { stores < 2 ^ 64 }
-    ensures spare { OnOk result (stores ≤ D.spare device.new) }
+// Makes room for the stores of a recovery, and for so many more.
+fn make_room<D: Device>(device: &mut D, most: u64, stores: u64) -> Result<(), NoMemory>
+    ensures fits { most < 2 ^ 64 }
+    ensures spare { OnOk result (most ≤ D.spare device.new) }
+    ensures more { OnOk result (most + stores ≤ D.spare device.new) }
     ensures cells { D.cells device.new ≡ D.cells device.old }
     ensures counts { D.counts device.new ≡ D.counts device.old }
 {
-    device.reserve(stores)
+    match most.checked_add(stores) {
+        Some(all) => device.reserve(all),
+        None => Err(NoMemory),
+    }
 }
 
 /// Recovers a device whose words are settled and a sound image, of which `read_sound` gave the layout and the records: each
@@ -108,6 +112,25 @@ pub fn recover_read<D: Device>(
     ensures owed { IsRecoveryOfSound (D.cells device.old) (D.counts device.old) (D.cells device.new) (D.counts device.new) result }
     ensures header { KeepsHeader (D.cells device.old) (D.cells device.new) }
 {
+    recover_reserving(alloc, device, layout, records, 0)
+}
+
+/// As `recover_read`, and behind it there is room for so many stores more: their memory is taken before the first event too.
+pub fn recover_reserving<D: Device>(
+    alloc: Global,
+    device: &mut D,
+    layout: Layout,
+    records: &[Placed],
+    stores: u64,
+) -> Result<Recovered, Unfinished>
+    requires settled { AreSettled (D.cells device.old) }
+    requires sound { IsSound (D.cells device.old).size (newest_at (D.cells device.old)) }
+    requires shape { layout_shape layout ≡ shape_of (newest_at (D.cells device.old)) }
+    requires records { IsLogRead layout records.now (newest_at (D.cells device.old)) }
+    ensures owed { IsRecoveryOfSound (D.cells device.old) (D.counts device.old) (D.cells device.new) (D.counts device.new) result }
+    ensures header { KeepsHeader (D.cells device.old) (D.cells device.new) }
+    ensures room { OnOk result (stores ≤ D.spare device.new) }
+{
     let work = work_of(alloc, records, layout)?;
     let Work {
         winners,
@@ -120,7 +143,7 @@ pub fn recover_read<D: Device>(
         most,
     } = work;
     let table = UsedBuckets::with_memory(alloc, layout)?;
-    make_room(device, most)?;
+    make_room(device, most, stores)?;
     let before = device.events();
     let done = make_events(
         device,

@@ -1,13 +1,19 @@
-use Rattle.std.proofs.Common.{◌+◌, ◌*◌, if◌then◌else◌, refl, sym, ◌∙◌, subst}
+use Rattle.std.proofs.Common.{◌+◌, ◌*◌, if◌then◌else◌, refl, sym, ◌∙◌, subst, arith, ◌≤◌}
 use Rattle.lane_traits.specs.declared.device.Done.TheVariants.{Made, Stopped}
 use Rattle.persist_model.specs.Region.{Region}
 use Rattle.region_layout.specs.Layout.{layout_shape}
 use Rattle.recovery_run.specs.Edges.{IsPlainHeaderWord}
 use Rattle.recovery_passes.specs.LoserPass.{gates_len, HasNoGates, clear_events}
 use Rattle.recovery_passes.specs.Stages.{AreShort}
-use Rattle.recovery_passes.proofs.ClearBounds.{close_fits, clear_fits}
+use Rattle.recovery_passes.proofs.ClearBounds.{close_fits, clear_fits, mark_events}
 use Rattle.recovery_passes.proofs.Counting.{counted_more, counted_then, keeps_then}
 use Rattle.recovery_passes.proofs.clearing.clear.Goals as goal
+
+pub returns-in-Stopped-clause-spare_left : goal.returns-in-Stopped-clause-spare_left
+returns-in-Stopped-clause-spare_left g c =
+    let left = c.in-Stopped.ensures.spare_left in
+    let fits = mark_events c.args.layout c.args.wanted (gates_len c.args.held.gates) in
+    omega (arith, left, fits)
 
 pub close_gates-requires-clause-ready : goal.close_gates-requires-clause-ready
 close_gates-requires-clause-ready g c = let r = c.requires.can in (r.0, c.in-Made.ensures.made refl r.0 r.1 r.2 r.3)
@@ -23,6 +29,13 @@ returns-in-Stopped-close_gates-clause-counted g c =
     (close_fits c.args.layout c.args.wanted (gates_len c.args.held.gates) (gates_len c.checkpoint_if.new.held.gates) len)
     (counted_then mark (gates_len c.checkpoint_if.new.held.gates + 3) Stopped (g.D.Device.counts c.args.device.now) (g.D.Device.counts c.checkpoint_if.new.device) (g.D.Device.counts c.close_gates.new.device)
     c.in-Made.ensures.counted c.in-Stopped-close_gates.ensures.counted)
+
+pub returns-in-Stopped-close_gates-clause-spare_left : goal.returns-in-Stopped-close_gates-clause-spare_left
+returns-in-Stopped-close_gates-clause-spare_left g c =
+    let left = c.in-Made.ensures.spare_left in
+    let behind = c.in-Stopped-close_gates.ensures.spare_left in
+    let fits = close_fits c.args.layout c.args.wanted (gates_len c.args.held.gates) (gates_len c.checkpoint_if.new.held.gates) (c.in-Made.ensures.count refl) in
+    omega (arith, left, behind, fits)
 
 pub returns-in-Stopped-close_gates-clause-header : goal.returns-in-Stopped-close_gates-clause-header
 returns-in-Stopped-close_gates-clause-header g c =
@@ -61,6 +74,14 @@ returns-clause-counted g c =
     (g.D.Device.counts c.drop_all.new.device) (clear_fits c.args.layout c.args.wanted (gates_len c.args.held.gates) (gates_len c.checkpoint_if.new.held.gates) len)
     (counted_then (mark + (gates_len c.checkpoint_if.new.held.gates + 3)) (7 * c.args.layout.buckets) c.drop_all.result (g.D.Device.counts c.args.device.now) (g.D.Device.counts c.close_gates.new.device)
     (g.D.Device.counts c.drop_all.new.device) first_two c.drop_all.ensures.counted)
+
+pub returns-clause-spare_left : goal.returns-clause-spare_left
+returns-clause-spare_left g c =
+    let left = c.in-Made.ensures.spare_left in
+    let behind = c.in-Made-close_gates.ensures.spare_left in
+    let last = c.drop_all.ensures.spare_left in
+    let fits = clear_fits c.args.layout c.args.wanted (gates_len c.args.held.gates) (gates_len c.checkpoint_if.new.held.gates) (c.in-Made.ensures.count refl) in
+    omega (arith, left, behind, last, fits)
 
 pub returns-clause-header : goal.returns-clause-header
 returns-clause-header g c =

@@ -36,6 +36,14 @@ returns-in-Stopped-clause-counted g c = λ first some h enough.
     counted_more (begin_events c.args.layout first.log c.args.redo.now c.args.running.now) some Stopped (g.D.Device.counts c.args.device.now) (g.D.Device.counts c.bring_back.new.device) (omega (arith, fits))
     (c.in-Stopped.ensures.counted first total begins (omega (arith, fits, enough)))
 
+pub returns-in-Stopped-clause-spare_left : goal.returns-in-Stopped-clause-spare_left
+returns-in-Stopped-clause-spare_left g c = λ first most h enough.
+    let fits = plan_fits c.args.layout first c.args.redo.now c.args.running.now c.args.checkpoint c.args.held most (g.D.Device.cells c.args.device.now) h in
+    let begins = plan_begins c.args.layout first c.args.redo.now c.args.running.now c.args.checkpoint c.args.held most (g.D.Device.cells c.args.device.now) h in
+    let total = planned_total c.args.layout first c.args.redo.now c.args.running.now c.args.checkpoint c.args.held most (g.D.Device.cells c.args.device.now) h in
+    let left = c.in-Stopped.ensures.spare_left first total begins (omega (arith, fits, enough)) in
+    omega (arith, fits, left)
+
 pub returns-in-Stopped-clause-idle : goal.returns-in-Stopped-clause-idle
 returns-in-Stopped-clause-idle g c = λ first most h empty quiet short.
     let a = c.in-Stopped.ensures.idle quiet
@@ -121,6 +129,17 @@ returns-clause-counted g c = λ first some h enough.
     (counted_then (begin_events c.args.layout first.log c.args.redo.now c.args.running.now) (clear_events c.args.layout c.args.checkpoint total) c.clear.result (g.D.Device.counts c.args.device.now)
     (g.D.Device.counts c.bring_back.new.device) (g.D.Device.counts c.clear.new.device) (c.in-Made.ensures.counted first total begins (omega (arith, fits, enough)))
     (subst (λ n. HasCounted (clear_events c.args.layout c.args.checkpoint n) c.clear.result (g.D.Device.counts c.bring_back.new.device) (g.D.Device.counts c.clear.new.device)) len c.clear.ensures.counted))
+
+pub returns-clause-spare_left : goal.returns-clause-spare_left
+returns-clause-spare_left g c = λ first most h enough.
+    let fits = plan_fits c.args.layout first c.args.redo.now c.args.running.now c.args.checkpoint c.args.held most (g.D.Device.cells c.args.device.now) h in
+    let begins = plan_begins c.args.layout first c.args.redo.now c.args.running.now c.args.checkpoint c.args.held most (g.D.Device.cells c.args.device.now) h in
+    let total = planned_total c.args.layout first c.args.redo.now c.args.running.now c.args.checkpoint c.args.held most (g.D.Device.cells c.args.device.now) h in
+    let undoes = c.in-Made.ensures.made refl first total begins (omega (arith, fits, enough)) in
+    let len = total_is c.args.layout first total c.bring_back.new.held (g.D.Device.cells c.bring_back.new.device) undoes in
+    let left = c.in-Made.ensures.spare_left first total begins (omega (arith, fits, enough)) in
+    let behind = subst (λ n. g.D.Device.spare c.bring_back.new.device ≤ g.D.Device.spare c.clear.new.device + clear_events c.args.layout c.args.checkpoint n) len c.clear.ensures.spare_left in
+    omega (arith, fits, left, behind)
 
 pub returns-clause-header : goal.returns-clause-header
 returns-clause-header g c =

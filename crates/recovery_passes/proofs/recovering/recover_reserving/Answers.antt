@@ -1,4 +1,4 @@
-use Rattle.std.proofs.Common.{◌≡◌, ◌+◌, ◌-◌, refl, sym, ap, subst, arith}
+use Rattle.std.proofs.Common.{◌≡◌, ◌+◌, ◌-◌, refl, sym, ap, ◌∙◌, subst, arith}
 use Rattle.persist_model.specs.Region.{Region}
 use Rattle.lane_traits.specs.Device.{Counts}
 use Rattle.region_layout.specs.Layout.{layout_shape}
@@ -8,8 +8,8 @@ use Rattle.recovery_analysis.specs.Conditions.{IsSoundImage}
 use Rattle.recovery_analysis.proofs.Soundly.{state_of_image}
 use Rattle.recovery_analysis.proofs.Whole.{merge_sound}
 use Rattle.recovery_passes.proofs.Results.{start_of, IsReady, ready_of, fates_of, few_are, header_there, stopped_there, restored_there, finished_there, idle_there, counted_there, made_counts, made_few, made_rises, stopped_counts, stopped_few}
-use Rattle.recovery_passes.proofs.recovering.recover_read.Goals as goal
-use Rattle.recovery_passes.proofs.recovering.recover_read.Goals.{After-as_slice-2, In-Stopped, In-Made, After-events}
+use Rattle.recovery_passes.proofs.recovering.recover_reserving.Goals as goal
+use Rattle.recovery_passes.proofs.recovering.recover_reserving.Goals.{After-as_slice-2, In-Stopped, In-Made, After-events}
 
 -- ---- before the first event
 
@@ -99,7 +99,15 @@ returns-in-Made-clause-owed g c =
           let now = c.events.ensures in
           let before = c.events-before.ensures in
           omega (arith, same, now, before));
+      same = λ finished. (idle_there _ _ _ h.start finished h.plan c.in_ok-make_room.ensures.cells c.in-Made.ensures.idle).cells ∙ c.in_ok-make_room.ensures.cells;
     }
+
+pub returns-in-Made-clause-room : goal.returns-in-Made-clause-room
+returns-in-Made-clause-room g c =
+    let h = ready g (goal.at.returns-in-Made-clause-room g c).After-as_slice-2 in
+    let left = c.in-Made.ensures.spare_left _ _ h.plan c.in_ok-make_room.ensures.spare in
+    let more = c.in_ok-make_room.ensures.more in
+    omega (arith, left, more)
 
 pub returns-in-Made-clause-header : goal.returns-in-Made-clause-header
 returns-in-Made-clause-header g c =
