@@ -42,9 +42,10 @@ begun_plain shape h number part words = record {
     changed = λ a r last. absurd last.among;
     unchanged = λ a none u. refl;
     covered = λ v m. absurd m;
+    unzeroed = refl;
     writes_own = λ v m. absurd m;
   };
-  ended = λ over. record { has_end = λ some. absurd some.1; committed = λ commits some. absurd some.1 };
+  ended = λ over. record { has_end = λ some. absurd some.1; committed = λ commits some. absurd some.1; commits_is = λ c. absurd c.1 };
   deletions = λ a r m. absurd m;
   given = λ g m. absurd m;
   gifts_own = λ g m. absurd m;

@@ -55,9 +55,10 @@ told_ended shape log h x ended t = record {
     changed = g.changed;
     unchanged = g.unchanged;
     covered = g.covered;
+    unzeroed = g.unzeroed;
     writes_own = g.writes_own;
   });
-  ended = λ over. record { has_end = (t.ended over).has_end; committed = (t.ended over).committed };
+  ended = λ over. record { has_end = (t.ended over).has_end; committed = (t.ended over).committed; commits_is = (t.ended over).commits_is };
   deletions = t.deletions;
   given = t.given;
   gifts_own = t.gifts_own;

@@ -10,4 +10,5 @@ pub mod Beginning
 pub mod Storing
 pub mod LogEvents
 pub mod GoingOn
+pub mod Gaining
 mod Examples

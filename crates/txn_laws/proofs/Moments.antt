@@ -5,7 +5,7 @@ use Rattle.std.proofs.lemmas.List.{take_all}
 use Rattle.persist_model.specs.Region.{Words, Region, IsCandidate, MayStand, newest}
 use Rattle.persist_model.specs.Kinds.{CHECKPOINT}
 use Rattle.persist_model.specs.Progress.{latest}
-use Rattle.persist_model.specs.Records.{Record, Log, IsAmong, Has, HasNo, IsOf, IsRollback, IsDeletion, NamesWord, IsRunning, IsEnded}
+use Rattle.persist_model.specs.Records.{Record, Log, IsAmong, Has, HasNo, IsOf, IsRollback, IsDeletion, NamesWord, IsRunning, IsEnded, IsCommitted}
 use Rattle.persist_model.specs.Standing.{IsToDelete, IsLatest}
 use Rattle.persist_model.specs.Order.{undo_point}
 use Rattle.persist_model.specs.Need.{to_undo}
@@ -50,44 +50,22 @@ over_when : (n made : ℕ) → n < made + 2 → not (nat_lt (made + 1) n) ≡ tr
 over_when n made lt = grind (arith, nat_tests, lt)
 
 -- the record of an append that adds this
-abbrev record_by : Adding → Added → Record
+abbrev pub record_by : Adding → Added → Record
 record_by adding added = appended adding.place adding.number (cell_of added)
 
-append_part : (shape : Shape) (p : ℕ) (w : Words) (chain : List ℕ) (place : Place) (r : Record) → IsAllowed shape → p < shape.partitions → CanAppend shape p w chain place r → part_of shape r.at ≡ p
+pub append_part : (shape : Shape) (p : ℕ) (w : Words) (chain : List ℕ) (place : Place) (r : Record) → IsAllowed shape → p < shape.partitions → CanAppend shape p w chain place r → part_of shape r.at ≡ p
 append_part shape p w chain place r ok inside can = ap (part_of shape) can.at ∙ part_of_cell shape p place.bucket place.cell ok inside (by place.fresh can.is_place) can.below
   where
     by : (fresh : Bool) → IsPlaceBy shape p w chain place fresh → IsBucketOf shape p place.bucket
     by true is = is.bucket
     by false is = Each-among (IsBucketOf shape p) chain place.bucket can.at_rest.buckets is.bucket
 
-module _ (shape : Shape) (base : Words) (s : State) (chains : ℕ → List ℕ) (start : Words) (w : World) (region : Region) (world : IsWorldAt shape base s chains start w region)
-    (i : Words) (image : MayStand i region) where
+module _ (shape : Shape) (base : Words) (s : State) (chains : ℕ → List ℕ) (start : Words) (w : World) (region : Region) (world : IsWorldAt shape base s chains start w region) where
   abbrev h : Words
   h = fold start w.history
 
   abbrev lane : ℕ → Txn
   lane l = txn_at w.lanes l
-
-  -- ---- what the image has of a lane's own words
-
-  found_there : (l a : ℕ) → (lane l).fenced ≡ true → IsMine (lane l) a → heap_words shape i a ≡ newest (region.at a)
-  found_there l a fenced mine =
-      let m = world.owners.heap_words l a mine in
-      let size = world.log.logged.size in
-      let below = m.1 in
-      heap_word_is shape i a m ∙ kept_is l (lane l) region a (i a) (world.kept l) fenced mine (image a (omega (arith, size, below)))
-
-  -- all that it wrote, where nothing waits for a fence
-  values_there : (l a : ℕ) → (lane l).over ≡ false → (lane l).fenced ≡ true → (lane l).stored ≡ length (lane l).updates → IsMine (lane l) a →
-      heap_words shape i a ≡ latest (recorded (lane l)) a (h a)
-  values_there l a runs fenced all mine =
-      found_there l a fenced mine
-      ∙ world.heap.now a (world.owners.heap_words l a mine) (not_deleted shape s.log h w.lanes world.owners world.transactions l a mine ((world.transactions.each l).going runs).running)
-      ∙ now_own w.lanes h l a (λ j k m n. world.owners.apart j k a m n) mine
-      ∙ ap (λ ws. latest ws a (h a)) written_is
-    where
-      written_is : written (lane l) ≡ recorded (lane l)
-      written_is = rw runs (ap (λ n. take n (lane l).writes) all)
 
   -- ---- an append under way
 
@@ -104,7 +82,7 @@ module _ (shape : Shape) (base : Words) (s : State) (chains : ℕ → List ℕ) 
       free = word_free shape s.log h w.lanes world.owners world.transactions l r of mine;
     }
 
-    can_add : (adding : Adding) (made : ℕ) → IsAppendOf shape s h p (lane l) adding made → part_of shape (record_of_adding adding).at ≡ p → CanAdd shape s (record_of_adding adding) adding.added
+    pub can_add : (adding : Adding) (made : ℕ) → IsAppendOf shape s h p (lane l) adding made → part_of shape (record_of_adding adding).at ≡ p → CanAdd shape s (record_of_adding adding) adding.added
     can_add adding made fits there = by adding.added fits.next fits.own fits.of there
       where
         some : (r : Record) → r.transaction ≡ (lane l).number → 1 ≤ r.transaction
@@ -147,19 +125,11 @@ module _ (shape : Shape) (base : Words) (s : State) (chains : ℕ → List ℕ) 
         }
         by (a_commit_end t) next own of there = record { transaction = some (record_by adding (a_commit_end t)) of; kept = next.1.cells; running = running_of (record_by adding (a_commit_end t)) fits.here fits.runs of there }
 
+  module _ (l : ℕ) where
     -- no commit in flight writes a word that is the lane's own
     flight_leaves : (e : Entry) (a k : ℕ) → IsEntryAt w.lanes k e → IsMine (lane l) a → k ≢ l → LeavesWord e a
     flight_leaves e a k entry mine other = subst (λ f. LeavesWord f a) (sym entry.entry)
         (entry_leaves shape s.log h (lane k) a (world.transactions.each k) ((world.transactions.each k).going entry.flying.over_is) (λ m. other (world.owners.apart k l a m mine)))
-
-    -- each word that the transaction changed has its last NEW
-    last_there : (t : ℕ) → t ≡ (lane l).number → (lane l).over ≡ false → (lane l).fenced ≡ true → (lane l).stored ≡ length (lane l).updates →
-        (a : ℕ) (r : Record) → IsLatest (IsChangeBy t a) s.log r → heap_words shape i a ≡ r.after
-    last_there t is runs fenced all a r last =
-        let latest_is = subst (λ n. IsLatest (IsChangeBy n a) s.log r) is last in
-        let going = (world.transactions.each l).going runs in
-        values_there l a runs fenced all (changed_own shape s.log h (lane l) a r (world.transactions.each l) going.running latest_is.among latest_is.has)
-        ∙ sym (going.changed a r latest_is)
 
     in_flight_there : (t : ℕ) → t ≡ (lane l).number → 1 ≤ (lane l).number → IsFlying (lane l) → length (lane l).updates ≡ length (lane l).writes →
         IsInFlight s.log h (flight_of w.lanes) t
@@ -180,76 +150,6 @@ module _ (shape : Shape) (base : Words) (s : State) (chains : ℕ → List ℕ) 
             | inr c ↦ changed_own shape s.log h (lane l) a c.0 of going.running c.1 (c.2.0, c.2.1, c.2.2 ∙ is)
           ]) k.1);
         }
-
-    serves_there : (adding : Adding) (made : ℕ) → IsAppendOf shape s h p (lane l) adding made → IsStored shape p adding made →
-        Serves shape s h (flight_of w.lanes) (heap_words shape i) (record_of_adding adding) adding.added
-    serves_there adding made fits stored = by adding.added fits.next fits.own fits.of fits.ended_is stored
-      where
-        by : (added : Added) → let r = record_by adding added in ComesNext shape s h (lane l) r added → (NamesWord r → IsMine (lane l) r.word) →
-            r.transaction ≡ (lane l).number → (lane l).ended ≡ (if is_end added then is_over (region_append shape p adding.place (record_by adding added)) (made + 1) else false) → length (region_append shape p adding.place r) < made + 2 →
-            Serves shape s h (flight_of w.lanes) (heap_words shape i) r added
-        by (an_update u) next own of ended stored =
-            let going = (world.transactions.each l).going fits.runs in record {
-              undo_next = next.point_is ∙ sym going.point_is ∙ sym (ap (λ t. undo_point t s.log) of);
-              own = λ x last. next.of_write.before ∙ sym (going.changed u.word x (subst (λ n. IsLatest (IsChangeBy n u.word) s.log x) of last));
-              plain = λ none. next.of_write.before ∙ going.unchanged u.word (λ x m c. none x m (c.0, c.1, c.2 ∙ sym of)) (h u.word);
-              alone = λ e m. (
-                  let k = flight_from w.lanes e m in
-                  flight_leaves e u.word k.0 k.1 (own (inl (inl refl))) (λ same. (let on = k.1.flying.ended_is in let e = sym (ap (λ j. (lane j).ended) same) ∙ on in let off = sym e ∙ ended in cc)));
-            }
-        by (a_deletion g) next own of ended stored = tt
-        by (a_rollback t) next own of ended stored = tt
-        by (a_compensation u cell) next own of ended stored = tt
-        by (an_undone_end t) next own of ended stored = λ force a r last. last_there t of fits.runs next.1.fenced_is next.1.stored_is a r last
-        by (a_commit_end t) next own of ended stored = (
-          (λ force a r none last. last_there t of fits.runs next.1.fenced_is next.1.stored_is a r last),
-          in_flight_there t of fits.number (record { commits_is = next.1.commits_is; ended_is = ended ∙ over_when _ made stored; over_is = fits.runs }) next.0,
-        )
-
-    -- ---- a part under way
-
-    running_in : (u : UnderWay) → w.keeping.runs p ≡ run_of u → Fits shape s h p (lane l) u → CanRun shape p base s (chains p) (run_of u).part →
-        IsRunningIn shape base s h (flight_of w.lanes) (heap_words shape i) p u
-    running_in nothing is fits can = tt
-    running_in (appends adding made) is fits can = record {
-      chain = chains p;
-      can = can;
-      ready = λ stored. record {
-        passes = fits.passes;
-        can = can_add adding made fits (append_part shape p _ (chains p) adding.place (record_of_adding adding) world.log.logged.allowed inside can);
-        serves = serves_there adding made fits stored;
-      };
-    }
-    running_in (closes gates ends made) is fits can = record {
-      force = world.force;
-      groups = can.0;
-      here = λ r m on. (world.transactions.each l).in_part r m (fits.own r m on) ∙ fits.here;
-      ended = λ r m on. (let of = fits.own r m on in (of.1, subst (IsEnded s.log) (sym of.0) (((world.transactions.each l).ended fits.is_over).has_end (r, m, of))));
-      whole = λ e m on end r k of. inr (inl (fits.rest e m on end r k (of.0 ∙ (fits.own e m on).0, of.1)));
-      zero = λ r m on deletion committed. (
-          let of = fits.own r m on in
-          let mine = (world.transactions.each l).names r m of (inr (deletion, committed)) in
-          let g = (world.transactions.each l).deletions r.word r m (deletion, refl, of.0) in
-          found_there l r.word fits.fenced_all mine
-          ∙ sym (ap (λ a. newest (region.at a)) g.2)
-          ∙ world.heap.found l g.0 fits.is_over (subst (λ gs. IsAmong gs g.0) (sym (take_all (lane l).zeroed (lane l).gifts (let n = fits.zeroed_all in omega (arith, n)))) g.1));
-    }
-    running_in (takes_back gates made) is fits can = record {
-      deferred = λ a m. (
-          let d = can.0 a m in
-          let of = fits.own d.0 d.1 (subst (IsAmong gates) (sym d.2.0) m) in
-          (d.0, d.1, (d.2.0, (d.2.1, subst (IsRunning s.log) (sym of.0) ((world.transactions.each l).going fits.runs).running))));
-      here = λ d m on. can.1 d.at on;
-    }
-    running_in (drops r made) is fits can = can
-
-  -- ---- all partitions
-
-  run_there : (p : ℕ) → p < shape.partitions → IsRunningIn shape base s h (flight_of w.lanes) (heap_words shape i) p (w.under p)
-  run_there p lt =
-      let part = world.parts p lt in
-      running_in (w.keeping.holder p) p lt (w.under p) part.run part.fits
-      (subst (λ (run : Running). CanRun shape p base s (chains p) run.part) part.run (world.log.logged.can p lt))
 
   -- what is known of a record that is under way
   record IsAddedBy (p : ℕ) (r : Record) : Type 0 where
@@ -296,36 +196,136 @@ module _ (shape : Shape) (base : Words) (s : State) (chains : ℕ → List ℕ) 
       let n = world.log.fits.noted p f.place r lt f.run in
       subst (λ x. x.lsn < w.next) n.2 (world.log.ordered.below n.0 n.1)
 
-  below_next : (r : Record) → IsAmong s.log r → r.lsn < w.next
+  pub below_next : (r : Record) → IsAmong s.log r → r.lsn < w.next
   below_next r m =
       let n = in_ledger w.keeping.ledger r (subst (λ log. IsAmong log r) world.log.logged.records m) in
       subst (λ x. x.lsn < w.next) n.2 (world.log.ordered.below n.0 n.1)
 
-  pub moment : IsMoment shape base s h (flight_of w.lanes) w.under (heap_words shape i)
-  moment = record {
-    allowed = world.log.logged.allowed;
-    has = world.log.logged.has;
-    sound = world.log.sound;
-    runs = run_there;
-    together = together;
-    in_flight = λ e m. (
-        let k = flight_from w.lanes e m in
-        subst (IsRunning s.log) (sym (ap (λ (f : Entry). f.transaction) k.1.entry)) ((world.transactions.each k.0).going k.1.flying.over_is).running);
-    spare = λ two. absurd (world.force two);
-    top = w.next;
-    above = below_next;
-    drawn = drawn;
-    numbers = world.log.numbers;
-    standing = λ a m. (
-        let size = world.log.logged.size in
-        let below = m.1 in
-        stands_word shape.policy s.log (λ b. i a) (heap_words shape i) a (h a) (sym (heap_word_is shape i a m)) (world.stands a (i a) m (image a (omega (arith, size, below)))));
-  }
+  -- ---- words of the heap that a stop may leave
+
+  module _ (i : Words) (image : (a : ℕ) → IsHeapWord shape a → IsCandidate (region.at a) (i a)) where
+    -- ---- what the image has of a lane's own words
+
+    found_there : (l a : ℕ) → (lane l).fenced ≡ true → IsMine (lane l) a → heap_words shape i a ≡ newest (region.at a)
+    found_there l a fenced mine =
+        let m = world.owners.heap_words l a mine in
+        heap_word_is shape i a m ∙ kept_is l (lane l) region a (i a) (world.kept l) fenced mine (image a m)
+
+    -- all that it wrote, where nothing waits for a fence
+    values_there : (l a : ℕ) → (lane l).over ≡ false → (lane l).fenced ≡ true → (lane l).stored ≡ length (lane l).updates → IsMine (lane l) a →
+        heap_words shape i a ≡ latest (recorded (lane l)) a (h a)
+    values_there l a runs fenced all mine =
+        found_there l a fenced mine
+        ∙ world.heap.now a (world.owners.heap_words l a mine) (not_deleted shape s.log h w.lanes world.owners world.transactions l a mine ((world.transactions.each l).going runs).running)
+        ∙ now_own w.lanes h l a (λ j k m n. world.owners.apart j k a m n) mine
+        ∙ ap (λ ws. latest ws a (h a)) written_is
+      where
+        written_is : written (lane l) ≡ recorded (lane l)
+        written_is = rw runs (ap (λ n. take n (lane l).writes) all)
+
+    module _ (l p : ℕ) (inside : p < shape.partitions) where
+      -- each word that the transaction changed has its last NEW
+      last_there : (t : ℕ) → t ≡ (lane l).number → (lane l).over ≡ false → (lane l).fenced ≡ true → (lane l).stored ≡ length (lane l).updates →
+          (a : ℕ) (r : Record) → IsLatest (IsChangeBy t a) s.log r → heap_words shape i a ≡ r.after
+      last_there t is runs fenced all a r last =
+          let latest_is = subst (λ n. IsLatest (IsChangeBy n a) s.log r) is last in
+          let going = (world.transactions.each l).going runs in
+          values_there l a runs fenced all (changed_own shape s.log h (lane l) a r (world.transactions.each l) going.running latest_is.among latest_is.has)
+          ∙ sym (going.changed a r latest_is)
+
+      pub serves_there : (adding : Adding) (made : ℕ) → IsAppendOf shape s h p (lane l) adding made → IsStored shape p adding made →
+          Serves shape s h (flight_of w.lanes) (heap_words shape i) (record_of_adding adding) adding.added
+      serves_there adding made fits stored = by adding.added fits.next fits.own fits.of fits.ended_is stored
+        where
+          by : (added : Added) → let r = record_by adding added in ComesNext shape s h (lane l) r added → (NamesWord r → IsMine (lane l) r.word) →
+              r.transaction ≡ (lane l).number → (lane l).ended ≡ (if is_end added then is_over (region_append shape p adding.place (record_by adding added)) (made + 1) else false) → length (region_append shape p adding.place r) < made + 2 →
+              Serves shape s h (flight_of w.lanes) (heap_words shape i) r added
+          by (an_update u) next own of ended stored =
+              let going = (world.transactions.each l).going fits.runs in record {
+                undo_next = next.point_is ∙ sym going.point_is ∙ sym (ap (λ t. undo_point t s.log) of);
+                own = λ x last. next.of_write.before ∙ sym (going.changed u.word x (subst (λ n. IsLatest (IsChangeBy n u.word) s.log x) of last));
+                plain = λ none. next.of_write.before ∙ going.unchanged u.word (λ x m c. none x m (c.0, c.1, c.2 ∙ sym of)) (h u.word);
+                alone = λ e m. (
+                    let k = flight_from w.lanes e m in
+                    flight_leaves l e u.word k.0 k.1 (own (inl (inl refl))) (λ same. (let on = k.1.flying.ended_is in let e = sym (ap (λ j. (lane j).ended) same) ∙ on in let off = sym e ∙ ended in cc)));
+              }
+          by (a_deletion g) next own of ended stored = tt
+          by (a_rollback t) next own of ended stored = tt
+          by (a_compensation u cell) next own of ended stored = tt
+          by (an_undone_end t) next own of ended stored = λ force a r last. last_there t of fits.runs next.1.fenced_is next.1.stored_is a r last
+          by (a_commit_end t) next own of ended stored = (
+            (λ force a r none last. last_there t of fits.runs next.1.fenced_is next.1.stored_is a r last),
+            in_flight_there l t of fits.number (record { commits_is = next.1.commits_is; ended_is = ended ∙ over_when _ made stored; over_is = fits.runs }) next.0,
+          )
+
+      -- ---- a part under way
+
+      running_in : (u : UnderWay) → w.keeping.runs p ≡ run_of u → Fits shape s h p (lane l) u → CanRun shape p base s (chains p) (run_of u).part →
+          IsRunningIn shape base s h (flight_of w.lanes) (heap_words shape i) p u
+      running_in nothing is fits can = tt
+      running_in (appends adding made) is fits can = record {
+        chain = chains p;
+        can = can;
+        ready = λ stored. record {
+          passes = fits.passes;
+          can = can_add l p inside adding made fits (append_part shape p _ (chains p) adding.place (record_of_adding adding) world.log.logged.allowed inside can);
+          serves = serves_there adding made fits stored;
+        };
+      }
+      running_in (closes gates ends made) is fits can = record {
+        force = world.force;
+        groups = can.0;
+        here = λ r m on. (world.transactions.each l).in_part r m (fits.own r m on) ∙ fits.here;
+        ended = λ r m on. (let of = fits.own r m on in (of.1, subst (IsEnded s.log) (sym of.0) (((world.transactions.each l).ended fits.is_over).has_end (r, m, of))));
+        whole = λ e m on end r k of. inr (inl (fits.rest e m on end r k (of.0 ∙ (fits.own e m on).0, of.1)));
+        zero = λ r m on deletion committed. (
+            let of = fits.own r m on in
+            let mine = (world.transactions.each l).names r m of (inr (deletion, committed)) in
+            let g = (world.transactions.each l).deletions r.word r m (deletion, refl, of.0) in
+            found_there l r.word fits.fenced_all mine
+            ∙ sym (ap (λ a. newest (region.at a)) g.2)
+            ∙ world.heap.found l g.0 fits.is_over (subst (λ gs. IsAmong gs g.0) (sym (take_all (lane l).zeroed (lane l).gifts (let n = fits.zeroed_all (((world.transactions.each l).ended fits.is_over).commits_is (subst (IsCommitted s.log) of.0 committed)) in omega (arith, n)))) g.1));
+      }
+      running_in (takes_back gates made) is fits can = record {
+        deferred = λ a m. (
+            let d = can.0 a m in
+            let of = fits.own d.0 d.1 (subst (IsAmong gates) (sym d.2.0) m) in
+            (d.0, d.1, (d.2.0, (d.2.1, subst (IsRunning s.log) (sym of.0) ((world.transactions.each l).going fits.runs).running))));
+        here = λ d m on. can.1 d.at on;
+      }
+      running_in (drops r made) is fits can = can
+
+    -- ---- all partitions
+
+    run_there : (p : ℕ) → p < shape.partitions → IsRunningIn shape base s h (flight_of w.lanes) (heap_words shape i) p (w.under p)
+    run_there p lt =
+        let part = world.parts p lt in
+        running_in (w.keeping.holder p) p lt (w.under p) part.run part.fits
+        (subst (λ (run : Running). CanRun shape p base s (chains p) run.part) part.run (world.log.logged.can p lt))
+
+    pub moment : IsMoment shape base s h (flight_of w.lanes) w.under (heap_words shape i)
+    moment = record {
+      allowed = world.log.logged.allowed;
+      has = world.log.logged.has;
+      sound = world.log.sound;
+      runs = run_there;
+      together = together;
+      in_flight = λ e m. (
+          let k = flight_from w.lanes e m in
+          subst (IsRunning s.log) (sym (ap (λ (f : Entry). f.transaction) k.1.entry)) ((world.transactions.each k.0).going k.1.flying.over_is).running);
+      spare = λ two. absurd (world.force two);
+      top = w.next;
+      above = below_next;
+      drawn = drawn;
+      numbers = world.log.numbers;
+      standing = λ a m. (
+          stands_word shape.policy s.log (λ b. i a) (heap_words shape i) a (h a) (sym (heap_word_is shape i a m)) (world.stands a (i a) m (image a m)));
+    }
 
 pub worlds_stand : WorldsStand
 worlds_stand shape base s chains start w region world i image =
     kept_regions_stand base s chains w.keeping region start w.history (flight_of w.lanes) w.under world.log.header
     (subst (λ z. IsLoggedAt z base s chains w.keeping region) (sym world.log.of_shape) world.log.logged)
     (λ p lt. (world.parts p (subst (λ (z : Shape). p < z.partitions) world.log.of_shape lt)).run)
-    (λ j may. subst (λ z. IsMoment z base s (fold start w.history) (flight_of w.lanes) w.under (heap_words z j)) (sym world.log.of_shape) (moment shape base s chains start w region world j may))
+    (λ j may. subst (λ z. IsMoment z base s (fold start w.history) (flight_of w.lanes) w.under (heap_words z j)) (sym world.log.of_shape) (moment shape base s chains start w region world j (λ a m. (let size = world.log.logged.size in let below = m.1 in may a (omega (arith, size, below))))))
     i image

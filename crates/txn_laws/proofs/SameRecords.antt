@@ -54,6 +54,7 @@ going_same log later h x same going = record {
   changed = λ a r last. going.changed a r (latest_was x.number log later same a r last);
   unchanged = λ a none u. going.unchanged a (λ r m k. none r (forth x.number log later same r m (change_of x.number a r k)) k) u;
   covered = λ v m. (let u = going.covered v m in let one = u.2.0 in (u.0, forth x.number log later same u.0 u.1 (u.2.2, (λ five. omega (arith, one, five))), u.2));
+  unzeroed = going.unzeroed;
   writes_own = going.writes_own;
 }
 
@@ -68,6 +69,7 @@ transaction_same shape log later h x same t = record {
     committed = λ commits some. (
         let e = (t.ended over).committed commits (some.0, back x.number log later same some.0 some.1 some.2, some.2) in
         (e.0, forth x.number log later same e.0 e.1 (end_of x.number e.0 e.2.0), e.2));
+    commits_is = λ c. (t.ended over).commits_is (committed_back x.number log later same c);
   };
   deletions = λ a r m d. t.deletions a r (back x.number log later same r m (deletion_of x.number a r d)) d;
   given = λ g m. (let d = t.given g m in (d.0, forth x.number log later same d.0 d.1 (deletion_of x.number g.word d.0 d.2), d.2));

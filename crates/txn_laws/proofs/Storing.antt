@@ -244,6 +244,7 @@ module _ (shape : Shape) (base : Words) (s : State) (chains : ℕ → List ℕ) 
         changed = going.changed;
         unchanged = going.unchanged;
         covered = all;
+        unzeroed = going.unzeroed;
         writes_own = going.writes_own;
       };
       ended = λ over. (let e = sym runs ∙ over in cc);
@@ -338,7 +339,7 @@ module _ (shape : Shape) (base : Words) (s : State) (chains : ℕ → List ℕ) 
         (record {
           in_part = t.in_part;
           going = λ runs. (let e = sym over ∙ runs in cc);
-          ended = λ on. record { has_end = (t.ended over).has_end; committed = (t.ended over).committed };
+          ended = λ on. record { has_end = (t.ended over).has_end; committed = (t.ended over).committed; commits_is = (t.ended over).commits_is };
           deletions = t.deletions;
           given = t.given;
           gifts_own = t.gifts_own;
@@ -381,9 +382,10 @@ module _ (shape : Shape) (base : Words) (s : State) (chains : ℕ → List ℕ) 
       changed = g.changed;
       unchanged = g.unchanged;
       covered = g.covered;
+      unzeroed = g.unzeroed;
       writes_own = g.writes_own;
     });
-    ended = λ over. record { has_end = (t.ended over).has_end; committed = (t.ended over).committed };
+    ended = λ over. record { has_end = (t.ended over).has_end; committed = (t.ended over).committed; commits_is = (t.ended over).commits_is };
     deletions = t.deletions;
     given = t.given;
     gifts_own = t.gifts_own;

@@ -36,12 +36,14 @@ pub record IsGoing (log : Log) (h : Words) (x : Txn) : Type 0 where
   pub changed : (a : ℕ) (r : Record) → IsLatest (IsChangeBy x.number a) log r → r.after ≡ latest (recorded x) a (h a)
   pub unchanged : (a : ℕ) → HasNo (IsChangeBy x.number a) log → (u : ℕ) → latest (recorded x) a u ≡ u
   pub covered : (v : Write) → IsAmong (take x.stored x.writes) v → Has (λ r. IsUpdate r × (r.word ≡ v.address) × (r.transaction ≡ x.number)) log
+  pub unzeroed : x.zeroed ≡ 0
   pub writes_own : (v : Write) → IsAmong x.writes v → IsMine x v.address
 
 -- What it has of one whose end is fenced, while a record of it is left.
 pub record IsOver (log : Log) (x : Txn) : Type 0 where
   pub has_end : Has (IsOf x.number) log → IsEnded log x.number
   pub committed : x.commits ≡ true → Has (IsOf x.number) log → IsCommitted log x.number
+  pub commits_is : IsCommitted log x.number → x.commits ≡ true
 
 -- The settled log has of each transaction what its lane has, all in one partition; its deletions stand at the gates of its gifts.
 pub record IsTransaction (shape : Shape) (log : Log) (h : Words) (x : Txn) : Type 0 where

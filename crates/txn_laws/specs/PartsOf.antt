@@ -11,13 +11,13 @@ use Rattle.history_laws.specs.UnderWay.{UnderWay, nothing, appends, closes, take
 use Rattle.txn_laws.specs.Txns.{Txn, txn_at}
 use Rattle.txn_laws.specs.NextRecords.{IsAppendOf}
 
--- A group of the closing of an ended transaction: first all of its records but the end, where the owner words of what it gave are durably 0;
--- then the end, and nothing else is left.
+-- A group of the closing of an ended transaction: first all of its records but the end, where behind a commit the owner words of what it gave
+-- are durably 0; then the end, and nothing else is left.
 pub record IsClosingOf (log : Log) (p : ℕ) (x : Txn) (gates ends : List ℕ) : Type 0 where
   pub number : 1 ≤ x.number
   pub here : x.part ≡ p
   pub is_over : x.over ≡ true
-  pub zeroed_all : x.zeroed ≡ length x.gifts
+  pub zeroed_all : x.commits ≡ true → x.zeroed ≡ length x.gifts
   pub fenced_all : x.fenced ≡ true
   pub own : (r : Record) → IsAmong log r → IsListed gates ends [] r → IsOf x.number r
   pub first : ends ≡ [] → (r : Record) → IsAmong log r → IsOf x.number r → (IsEnd r → ⊥) → IsAmong gates r.at
