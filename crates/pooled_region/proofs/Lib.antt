@@ -1,0 +1,10 @@
+pub mod Steps
+pub mod Apart
+pub mod Pushed
+pub mod Relinked
+pub mod Shortened
+pub mod Fences
+pub mod Freed
+pub mod Listed
+pub mod Found
+pub mod Regions
