@@ -3,9 +3,11 @@
 
 mod checks;
 mod log_checks;
+mod making;
 
 pub use checks::{Change, has_list};
 pub use log_checks::{Log, log_at_rest};
+pub use making::{is_inside, make_event};
 
 #[cfg(test)]
 mod append_tests;

@@ -1,14 +1,14 @@
 //! Lists through a stop at each event of each plan, and through the repair behind it.
 ghost use Rattle.std.specs.Prelude.{◌≤◌, length, slice_index, IsTrue};
-ghost use Rattle.lane_traits.specs.Device.{IsWithin};
 ghost use Rattle.atomic_list.specs.Reads.{HasList};
 ghost use Rattle.atomic_list.specs.Repairing.{CanRepair};
 
 use crate::checks::{Change, has_list};
+use crate::making::make_event;
 use atomic_list::{
     Insert, Remove, Repair, insert_event, next_bucket, remove_event, repair_event, repair_of,
 };
-use lane_traits::{Device, Done};
+use lane_traits::Device;
 use persist_model::format::{TO_APPEND, TO_REMOVE};
 use persist_model::{Event, Look, Pick};
 use std::alloc::Global;
@@ -68,26 +68,11 @@ fn image(alloc: Global, chain: &[u32]) -> Result<Vec<u64>, Fail> {
     Ok(words)
 }
 
-pub(crate) fn is_inside(event: Event, size: u32) -> bool
-    ensures { IsTrue result → IsWithin size event }
-{
-    match event {
-        Event::Store(a, _) => a < size,
-        Event::PStore(a, _) => a < size,
-        Event::WriteBack(a) => a < size,
-        Event::Fence => true,
-    }
-}
-
 // Makes one event on the region.
 pub(crate) fn make<D: Device>(rt: &impl Abort, region: &mut D, lane: u32, event: Event)
     requires { lane ≤ 16 }
 {
-    if !is_inside(event, region.size()) {
-        panic!(rt; "outside the region");
-    }
-    assert!(rt; region.reserve(1).is_ok());
-    assert_eq!(rt; region.event(lane, event), Done::Made);
+    assert!(rt; make_event(region, lane, event));
 }
 
 fn can_repair(repair: Repair) -> bool

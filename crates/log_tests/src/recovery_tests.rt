@@ -5,8 +5,8 @@ ghost use Rattle.log_clearing.specs.Plans.{closing_plan};
 
 use crate::append_tests::{check_scan, word};
 use crate::clearing_tests::{cell_of, end, gates, open, update, with_records};
-use crate::list_tests::is_inside;
 use crate::log_checks::log_at_rest;
+use crate::making::is_inside;
 use bucket_log::{append_event, place};
 use lane_traits::{Device, Done};
 use log_clearing::ClearList;

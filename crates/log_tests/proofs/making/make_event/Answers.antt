@@ -1,7 +1,7 @@
 use Rattle.std.proofs.Common.{◌≡◌, length, refl, ap, sym, ◌∙◌, subst}
 use Rattle.lane_traits.specs.Device.{IsWithin}
 use Rattle.persist_model.proofs.Images.{length-newest_words}
-use Rattle.log_tests.proofs.list_tests.make.Goals as goal
+use Rattle.log_tests.proofs.making.make_event.Goals as goal
 
 pub event-requires-clause-address : goal.event-requires-clause-address
 event-requires-clause-address g c =
