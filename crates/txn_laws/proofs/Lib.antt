@@ -11,4 +11,7 @@ pub mod Storing
 pub mod LogEvents
 pub mod GoingOn
 pub mod Gaining
+pub mod FitsBeside
+pub mod Settling
+pub mod Settles
 mod Examples

@@ -11,3 +11,4 @@ pub mod StartLaws
 pub mod Beginnings
 pub mod Stores
 pub mod Going
+pub mod Settled

@@ -4,6 +4,7 @@ ghost use Rattle.txn_laws.specs.StartLaws.{WorldsStart};
 ghost use Rattle.txn_laws.specs.Beginnings.{BeginsKeep, LeavesKeep};
 ghost use Rattle.txn_laws.specs.Stores.{WritesAreStored, WritesAreTakenBack, GiftsAreZeroed, FencesKeep};
 ghost use Rattle.txn_laws.specs.Going.{PartsKeep};
+ghost use Rattle.txn_laws.specs.Settled.{AppendsSettle};
 
 /// Each image stands for the history and those commits in flight that it has.
 pub fn worlds_stand()
@@ -48,4 +49,10 @@ pub fn fences_keep()
 /// An event of a part of the log that isn't its last settles nothing.
 pub fn parts_keep()
     ensures { PartsKeep }
+{}
+
+/// With the last event of an append its record is settled: an update, a deletion, a rollback record, a compensation or an end. Behind a commit's
+/// end the history has its entry.
+pub fn appends_settle()
+    ensures { AppendsSettle }
 {}
