@@ -8,3 +8,5 @@ pub mod Freed
 pub mod Listed
 pub mod Found
 pub mod Regions
+pub mod Counts
+pub mod Examples

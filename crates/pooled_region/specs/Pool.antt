@@ -1,5 +1,5 @@
 -- The candidates of each word: an oldest one, and later ones in places of a pool.
-use Rattle.std.specs.Prelude.{◌≡◌, ℕ, zero, suc, ◌<◌, ◌≤◌, Bool, not, List, [], ◌∷◌, ◌++◌, length, slice_index_or, ◌==◌}
+use Rattle.std.specs.Prelude.{◌≡◌, ℕ, zero, suc, ◌<◌, ◌≤◌, Bool, not, List, [], ◌∷◌, ◌++◌, length, sum_by, slice_index_or, ◌==◌}
 use Rattle.persist_model.specs.declared.event.Candidate.{Candidate}
 use Rattle.persist_model.specs.Region.{Region, candidate}
 use Rattle.pooled_region.specs.declared.pool.Place.{Place}
@@ -71,6 +71,10 @@ pub record HasPlaces (places : List Place) (word : Word) : Type 0 where
 
 abbrev pub AreWithin : List Place → List Word → Type 0
 AreWithin places words = (a : ℕ) → HasPlaces places (slice_index_or words a no_word)
+
+-- how many places have a later candidate of a word
+abbrev pub later_count : List Word → ℕ
+later_count words = sum_by (λ (w : Word). w.later) words
 
 -- ---- settled words
 

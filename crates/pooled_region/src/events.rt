@@ -2,7 +2,7 @@
 ghost use Rattle.std.specs.Prelude.{◌≡◌, ℕ, ◌+◌, ◌<◌, ◌≤◌, length, vec_capacity};
 ghost use Rattle.persist_model.specs.Region.{after};
 ghost use Rattle.lane_traits.specs.Device.{IsWithin, stores_of};
-ghost use Rattle.pooled_region.specs.Pool.{ArePooled, cells_of};
+ghost use Rattle.pooled_region.specs.Pool.{ArePooled, cells_of, later_count};
 ghost use Rattle.pooled_region.specs.Marks.{AreListed, AreFound};
 
 use crate::marks::{fence, list_word};
@@ -29,6 +29,7 @@ pub fn apply(
     requires list_room { length positions.old ≤ vec_capacity listed.old }
     ensures cells { cells_of places.new words.new ≡ after (cells_of places.old words.old) lane event }
     ensures room { free.old.count ≤ free.new.count + stores_of event }
+    ensures none_lost { later_count words.new + free.new.count ≡ later_count words.old + free.old.count }
     ensures pooled { ArePooled places.new words.new free.new }
     ensures listed { AreListed listed.new.items positions.new }
     ensures found { AreFound places.new words.new listed.new.items positions.new }

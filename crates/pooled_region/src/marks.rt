@@ -2,7 +2,7 @@
 ghost use Rattle.std.specs.Prelude.{◌≡◌, ◌≢◌, ℕ, ◌+◌, ◌<◌, ◌≤◌, ◌↔◌, true, false, [], ◌∷◌, ◌++◌, length, slice_index, slice_index_or, take, All, IsTrue, vec_len, vec_capacity};
 ghost use Rattle.std.specs.List.{list_any};
 ghost use Rattle.persist_model.specs.Region.{fenced};
-ghost use Rattle.pooled_region.specs.Pool.{ArePooled, AreWithin, candidates_at, is_marked};
+ghost use Rattle.pooled_region.specs.Pool.{ArePooled, AreWithin, candidates_at, is_marked, later_count};
 ghost use Rattle.pooled_region.specs.Marks.{AreListed, IsListed, AreFound, AreSifted, IsLeft};
 
 use crate::pool::{Free, Place, Word, fence_word};
@@ -62,6 +62,7 @@ fn fence_words(
     ensures pooled { ArePooled places.new words.new free.new }
     ensures fenced { (a : ℕ) → candidates_at places.new words.new a ≡ fenced mark (candidates_at places.old words.old a) }
     ensures room { free.old.count ≤ free.new.count }
+    ensures none_lost { later_count words.new + free.new.count ≡ later_count words.old + free.old.count }
 {
     for index in 0..listed.len() {
         fence_word(places, words, free, listed[index], mark);
@@ -147,6 +148,7 @@ pub fn fence(
     ensures pooled { ArePooled places.new words.new free.new }
     ensures fenced { (a : ℕ) → candidates_at places.new words.new a ≡ fenced mark (candidates_at places.old words.old a) }
     ensures room { free.old.count ≤ free.new.count }
+    ensures none_lost { later_count words.new + free.new.count ≡ later_count words.old + free.old.count }
     ensures listed { AreListed listed.new.items positions.new }
     ensures found { AreFound places.new words.new listed.new.items positions.new }
     ensures list_room { vec_capacity listed.new ≡ vec_capacity listed.old }

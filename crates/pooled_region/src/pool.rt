@@ -1,7 +1,7 @@
 // The pool of places: each is free, or has a later candidate of one word.
 ghost use Rattle.std.specs.Prelude.{◌≡◌, ◌≢◌, ℕ, ◌+◌, ◌-◌, ◌<◌, ◌≤◌, [], ◌∷◌, ◌++◌, length, slice_index_or};
 ghost use Rattle.persist_model.specs.Region.{fenced, mark_last, picked};
-ghost use Rattle.pooled_region.specs.Pool.{ArePooled, no_place, no_word, word_of, candidates_at};
+ghost use Rattle.pooled_region.specs.Pool.{ArePooled, no_place, no_word, word_of, candidates_at, later_count};
 
 use crate::walks::{newer_count, place_behind, read_place, read_word, without_mark};
 use persist_model::Candidate;
@@ -43,6 +43,7 @@ pub fn push(
     ensures here { candidates_at places.new words.new address ≡ candidates_at places.old words.old address ++ candidate ∷ [] }
     ensures others { (b : ℕ) → b ≢ address → candidates_at places.new words.new b ≡ candidates_at places.old words.old b }
     ensures room { free.new.count + 1 ≡ free.old.count }
+    ensures none_lost { later_count words.new + free.new.count ≡ later_count words.old + free.old.count }
 {
     let word = read_word(words, address);
     let taken = free.first;
@@ -69,6 +70,7 @@ pub fn mark_newest(places: &mut [Place], words: &mut [Word], free: &Free, addres
     ensures pooled { ArePooled places.new words.new free.now }
     ensures here { candidates_at places.new words.new address ≡ mark_last mark (candidates_at places.old words.old address) }
     ensures others { (b : ℕ) → b ≢ address → candidates_at places.new words.new b ≡ candidates_at places.old words.old b }
+    ensures none_lost { later_count words.new ≡ later_count words.old }
 {
     let word = read_word(words, address);
     if word.later == 0 {
@@ -109,6 +111,7 @@ fn cut(
         candidates_at places.new words.new address ≡ word_of places.old (record word { oldest = oldest; later = kept }) }
     ensures others { (b : ℕ) → b ≢ address → candidates_at places.new words.new b ≡ candidates_at places.old words.old b }
     ensures room { free.old.count ≤ free.new.count }
+    ensures none_lost { later_count words.new + free.new.count ≡ later_count words.old + free.old.count }
 {
     let word = read_word(words, address);
     let first = place_behind(places, word.newest, kept);
@@ -143,6 +146,7 @@ pub fn fence_word(
     ensures here { candidates_at places.new words.new address ≡ fenced mark (candidates_at places.old words.old address) }
     ensures others { (b : ℕ) → b ≢ address → candidates_at places.new words.new b ≡ candidates_at places.old words.old b }
     ensures room { free.old.count ≤ free.new.count }
+    ensures none_lost { later_count words.new + free.new.count ≡ later_count words.old + free.old.count }
 {
     let word = read_word(words, address);
     let kept = newer_count(places, word, mark);

@@ -2,7 +2,7 @@ ghost use Rattle.std.specs.Prelude.{◌≡◌, ℕ, ◌+◌, ◌-◌, ◌^◌, �
 ghost use Rattle.std.specs.Option.{option_copied};
 ghost use Rattle.persist_model.specs.Region.{loaded, newest_words};
 ghost use Rattle.lane_traits.specs.Device.{MAX_WORDS, fresh, common_pick};
-ghost use Rattle.pooled_region.specs.Pool.{ArePooled, cells_of};
+ghost use Rattle.pooled_region.specs.Pool.{ArePooled, cells_of, later_count};
 ghost use Rattle.pooled_region.specs.Marks.{AreListed, AreFound};
 ghost use Rattle.std.proofs.Common.{arith};
 
@@ -38,6 +38,7 @@ pub struct Cells {
     restarts: u64,
     pick: Option<Pick>,
     ghost pooled: { ArePooled places.items words.items free },
+    ghost none_lost: { later_count words.items + free.count ≡ vec_len places },
     ghost are_listed: { AreListed listed.items positions.items },
     ghost are_found: { AreFound places.items words.items listed.items positions.items },
     ghost long: { length positions.items ≡ length words.items },

@@ -50,6 +50,7 @@ fn grow_by(places: &mut Vec<Place>, free: &mut Free, more: usize)
     ensures same { (words : List Word) → ArePooled places.old.items words free.old
         → (a : ℕ) → candidates_at places.new.items words a ≡ candidates_at places.old.items words a }
     ensures count { free.new.count ≡ free.old.count + more }
+    ensures longer { vec_len places.new ≡ vec_len places.old + more }
 {
     for _made in 0..more {
         grow(places, free);
@@ -65,6 +66,7 @@ pub fn make_room(places: &mut Vec<Place>, free: &mut Free, stores: u64) -> Resul
     ensures count { OnOk result (stores ≤ free.new.count) }
     ensures no_less { free.old.count ≤ free.new.count }
     ensures err_count { OnErr result (free.new.count ≡ free.old.count) }
+    ensures none_lost { vec_len places.new + free.old.count ≡ vec_len places.old + free.new.count }
 {
     let stores = stores as usize;
     if stores > free.count {

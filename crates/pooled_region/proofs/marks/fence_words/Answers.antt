@@ -6,7 +6,7 @@ use Rattle.pooled_region.proofs.Fences.{fenced_here, fenced_each, fenced_done, f
 use Rattle.pooled_region.proofs.marks.fence_words.Goals as goal
 
 pub loop-index-init : goal.loop-index-init
-loop-index-init c = record { pooled = c.requires.pooled; state = λ a. inl refl; done = λ i lt. absurd (omega arith); room = omega arith }
+loop-index-init c = record { pooled = c.requires.pooled; state = λ a. inl refl; done = λ i lt. absurd (omega arith); room = omega arith; none_lost = refl }
 
 pub fence_word-requires : goal.fence_word-requires
 fence_word-requires c = record {
@@ -28,6 +28,7 @@ loop-index-preserved c =
           (λ i lt. fenced_done c.args.mark word before now later (get_or c.args.listed.now i 0) c.requires.mark inv.state c.fence_word.ensures.here c.fence_word.ensures.others (inv.done i lt))
           (fenced_here c.args.mark (before word) (now word) (later word) c.requires.mark (inv.state word) c.fence_word.ensures.here);
       room = omega arith;
+      none_lost = c.fence_word.ensures.none_lost ∙ inv.none_lost;
     }
 
 pub returns-clause-fenced : goal.returns-clause-fenced

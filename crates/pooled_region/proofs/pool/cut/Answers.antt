@@ -4,6 +4,7 @@ use Rattle.pooled_region.specs.declared.pool.Word.{Word}
 use Rattle.pooled_region.specs.declared.pool.Free.{Free}
 use Rattle.pooled_region.specs.Pool.{no_place, no_word, place_at, ArePooled}
 use Rattle.pooled_region.proofs.Steps.{place_at-sum}
+use Rattle.pooled_region.proofs.Counts.{count_set}
 use Rattle.pooled_region.proofs.Shortened.{cut_pool, cut_fits, cut_here, cut_others}
 use Rattle.pooled_region.proofs.pool.cut.Goals as goal
 
@@ -85,3 +86,14 @@ returns-clause-others c =
     rw (c.read_place-place.ensures, c.place_behind-last.ensures, c.place_behind-first.ensures, c.read_word-word.ensures)
     (cut_others c.args.places.now c.args.words.now c.args.free.now c.args.address c.args.kept (word.later - c.args.kept - 1) c.args.oldest
     c.requires.pooled (long word c.args.kept c.requires.kept))
+
+pub returns-clause-none_lost : goal.returns-clause-none_lost
+returns-clause-none_lost c =
+    let later : c.read_word-word.result.later ≡ (get_or c.args.words.now c.args.address no_word).later = same_later c.read_word-word.result (get_or c.args.words.now c.args.address no_word) c.read_word-word.ensures in
+    omega (
+      arith,
+      later,
+      c.requires.kept,
+      count_set c.args.words.now c.args.address
+          (record { oldest = c.args.oldest; newest = c.read_word-word.result.newest; later = c.args.kept }) c.requires.address,
+    )

@@ -7,6 +7,7 @@ use Rattle.pooled_region.specs.declared.pool.Place.{Place}
 use Rattle.pooled_region.specs.declared.pool.Word.{Word}
 use Rattle.pooled_region.specs.Pool.{no_place, no_word, place_at, later_of, word_of, candidates_at}
 use Rattle.pooled_region.proofs.Apart.{read_within}
+use Rattle.pooled_region.proofs.Counts.{count_set}
 use Rattle.pooled_region.proofs.Relinked.{oldest_pool}
 use Rattle.pooled_region.proofs.Fences.{fenced_first, fenced_at}
 use Rattle.pooled_region.proofs.pool.fence_word.Goals as goal
@@ -63,3 +64,13 @@ returns-clause-here c = c.cut.ensures.here
     ∙ fenced_cut c.args.places.now (get_or c.args.words.now c.args.address no_word) c.read_word-word.result c.args.mark c.newer_count-kept.result c.place_behind-first.result c.read_place.result
     c.without_mark-oldest.result c.read_word-word.ensures c.place_behind-first.ensures c.read_place.ensures c.without_mark-oldest.ensures c.newer_count-kept.ensures.fewer c.if-kept-word.false
     c.newer_count-kept.ensures.marked c.newer_count-kept.ensures.none
+
+pub returns-then-kept-word-clause-none_lost : goal.returns-then-kept-word-clause-none_lost
+returns-then-kept-word-clause-none_lost c =
+    let later : c.read_word-word.result.later ≡ (get_or c.args.words.now c.args.address no_word).later = ap (λ (w : Word). w.later) c.read_word-word.ensures in
+    omega (
+      arith,
+      later,
+      count_set c.args.words.now c.args.address
+          (record { oldest = c.without_mark.result; newest = c.read_word-word.result.newest; later = c.read_word-word.result.later }) c.requires.address,
+    )

@@ -1,6 +1,8 @@
 use Rattle.std.proofs.Common.{◌≡◌, ◌≢◌, ◌+◌, ◌-◌, ◌<◌, ◌≤◌, zero, suc, length, arith, sym, ap, ◌∙◌, subst, ℕ, get_or}
 use Rattle.pooled_region.specs.declared.pool.Word.{Word}
 use Rattle.pooled_region.specs.Pool.{no_word}
+use Rattle.persist_model.specs.Region.{candidate}
+use Rattle.pooled_region.proofs.Counts.{count_set}
 use Rattle.pooled_region.proofs.Relinked.{oldest_pool, oldest_here, oldest_others, marked_pool, marked_here, marked_others}
 use Rattle.pooled_region.proofs.pool.mark_newest.Goals as goal
 
@@ -43,3 +45,13 @@ returns-else-word-eq0-clause-here c = rw (c.read_place-place.ensures, c.read_wor
 pub returns-else-word-eq0-clause-others : goal.returns-else-word-eq0-clause-others
 returns-else-word-eq0-clause-others c = rw (c.read_place-place.ensures, c.read_word-word.ensures)
     (marked_others c.args.places.now c.args.words.now c.args.free.now c.args.address c.args.mark (some _ c.read_word-word.result c.read_word-word.ensures c.if-word-eq0.false) c.requires.pooled)
+
+pub returns-then-word-eq0-clause-none_lost : goal.returns-then-word-eq0-clause-none_lost
+returns-then-word-eq0-clause-none_lost c =
+    let later : c.read_word-word.result.later ≡ (get_or c.args.words.now c.args.address no_word).later = ap (λ (w : Word). w.later) c.read_word-word.ensures in
+    omega (
+      arith,
+      later,
+      count_set c.args.words.now c.args.address
+          (record { oldest = candidate c.read_word-word.result.oldest.value c.args.mark; newest = c.read_word-word.result.newest; later = c.read_word-word.result.later }) c.requires.address,
+    )

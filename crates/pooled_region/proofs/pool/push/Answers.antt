@@ -3,6 +3,7 @@ use Rattle.std.proofs.lemmas.List.{length-set}
 use Rattle.pooled_region.specs.declared.pool.Word.{Word}
 use Rattle.pooled_region.specs.Pool.{no_word}
 use Rattle.pooled_region.proofs.Apart.{count_fits}
+use Rattle.pooled_region.proofs.Counts.{count_set}
 use Rattle.pooled_region.proofs.Pushed.{pushed_pool, pushed_here, pushed_others}
 use Rattle.pooled_region.proofs.pool.push.Goals as goal
 
@@ -31,3 +32,14 @@ returns-clause-here c = rw (c.read_word-word.ensures)
 pub returns-clause-others : goal.returns-clause-others
 returns-clause-others c = rw (c.read_word-word.ensures)
     (pushed_others c.args.places.now c.args.words.now c.args.free.now c.args.address c.args.candidate c.requires.pooled c.requires.room)
+
+pub returns-clause-none_lost : goal.returns-clause-none_lost
+returns-clause-none_lost c =
+    let later : c.read_word-word.result.later ≡ (get_or c.args.words.now c.args.address no_word).later = ap (λ (w : Word). w.later) c.read_word-word.ensures in
+    omega (
+      arith,
+      later,
+      c.requires.room,
+      count_set c.args.words.now c.args.address
+          (record { oldest = c.read_word-word.result.oldest; newest = c.args.free.now.first; later = c.read_word-word.result.later + 1 }) c.requires.address,
+    )

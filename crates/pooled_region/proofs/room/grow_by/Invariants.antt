@@ -10,6 +10,7 @@ invariant-loop-made l = record {
   same : (words : List Word) → ArePooled l.initial.places.items words l.initial.free
       → (a : ℕ) → candidates_at l.places.items words a ≡ candidates_at l.initial.places.items words a;
   count : l.free.count ≡ l.initial.free.count + l._made;
+  longer : vec_len l.places ≡ vec_len l.initial.places + l._made;
   room : vec_len l.places + l.fn.more ≤ vec_capacity l.places + l._made;
   fewer : l.free.count ≤ vec_len l.places;
 }

@@ -16,6 +16,7 @@ invariant_of-self c =
     let self = c.args.self.now in
     record {
       pooled = c.make_room.ensures.pooled self.words.items self.pooled;
+      none_lost = omega (arith, c.make_room.ensures.none_lost, self.none_lost);
       are_listed = self.are_listed;
       are_found = λ a own. self.are_found a (ap (list_any is_marked) (sym (c.make_room.ensures.same self.words.items self.pooled a)) ∙ own);
       long = self.long;
