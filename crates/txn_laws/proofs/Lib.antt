@@ -14,4 +14,5 @@ pub mod Gaining
 pub mod FitsBeside
 pub mod Settling
 pub mod Settles
+pub mod Asking
 mod Examples

@@ -230,16 +230,16 @@ module _ (shape : Shape) (base : Words) (s : State) (chains : ℕ → List ℕ) 
       where
         by : (added : Added) → let q = record_by adding added in CanAdd shape s q added → Serves shape s h (flight_of w.lanes) (heap_words shape v) q added → (NamesWord q → IsMine x q.word) →
             ((b : ℕ) → IsMine x b → HasNo (IsChangeBy q.transaction b) s.log → h b ≡ heap_words shape v b) → HeapMeets shape s (heap_words shape v) q added
-        by (an_update u) can serves own same = olds_meet shape s (record_by adding (an_update u)) (heap_words shape v) world.log.sound can.running.running can.free serves.undo_next (record {
-          own = serves.own;
+        by (an_update u) able served own same = olds_meet shape s (record_by adding (an_update u)) (heap_words shape v) world.log.sound able.running.running able.free served.undo_next (record {
+          own = served.own;
           redone = λ none q newest. absurd (world.force newest.has.0);
-          plain = λ none never. serves.plain none ∙ same u.word (own (inl (inl refl))) none;
+          plain = λ none never. served.plain none ∙ same u.word (own (inl (inl refl))) none;
         })
-        by (a_deletion g) can serves own same = tt
-        by (a_rollback t) can serves own same = tt
-        by (a_compensation u cell) can serves own same = tt
-        by (an_undone_end t) can serves own same = serves
-        by (a_commit_end t) can serves own same = serves.0
+        by (a_deletion g) able served own same = tt
+        by (a_rollback t) able served own same = tt
+        by (a_compensation u cell) able served own same = tt
+        by (an_undone_end t) able served own same = served
+        by (a_commit_end t) able served own same = served.0
 
     pub leaves_there : Leaves shape v s (with_record p s r) adding.added
     leaves_there = whole_leaves shape p base v s (chains p) adding adding.added may can meets reached

@@ -12,3 +12,4 @@ pub mod Beginnings
 pub mod Stores
 pub mod Going
 pub mod Settled
+pub mod Asks

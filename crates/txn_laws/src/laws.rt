@@ -5,6 +5,7 @@ ghost use Rattle.txn_laws.specs.Beginnings.{BeginsKeep, LeavesKeep};
 ghost use Rattle.txn_laws.specs.Stores.{WritesAreStored, WritesAreTakenBack, GiftsAreZeroed, FencesKeep};
 ghost use Rattle.txn_laws.specs.Going.{PartsKeep};
 ghost use Rattle.txn_laws.specs.Settled.{AppendsSettle};
+ghost use Rattle.txn_laws.specs.Asks.{AsksKeep, AppendsBegin, PartsBegin, LatchesKeep};
 
 /// Each image stands for the history and those commits in flight that it has.
 pub fn worlds_stand()
@@ -55,4 +56,24 @@ pub fn parts_keep()
 /// end the history has its entry.
 pub fn appends_settle()
     ensures { AppendsSettle }
+{}
+
+/// A transaction means to write more words, and to end so or so.
+pub fn asks_keep()
+    ensures { AsksKeep }
+{}
+
+/// Where nothing is under way in a partition the append of the record that comes next begins,
+pub fn appends_begin()
+    ensures { AppendsBegin }
+{}
+
+/// or a group of a closing, or a removal,
+pub fn parts_begin()
+    ensures { PartsBegin }
+{}
+
+/// or its latch is taken or let go.
+pub fn latches_keep()
+    ensures { LatchesKeep }
 {}
