@@ -15,4 +15,5 @@ pub mod FitsBeside
 pub mod Settling
 pub mod Settles
 pub mod Asking
+pub mod Dropping
 mod Examples

@@ -13,3 +13,4 @@ pub mod Stores
 pub mod Going
 pub mod Settled
 pub mod Asks
+pub mod Dropped

@@ -5,6 +5,7 @@ ghost use Rattle.txn_laws.specs.Beginnings.{BeginsKeep, LeavesKeep};
 ghost use Rattle.txn_laws.specs.Stores.{WritesAreStored, WritesAreTakenBack, GiftsAreZeroed, FencesKeep};
 ghost use Rattle.txn_laws.specs.Going.{PartsKeep};
 ghost use Rattle.txn_laws.specs.Settled.{AppendsSettle};
+ghost use Rattle.txn_laws.specs.Dropped.{RemovalsSettle};
 ghost use Rattle.txn_laws.specs.Asks.{AsksKeep, AppendsBegin, PartsBegin, LatchesKeep};
 
 /// Each image stands for the history and those commits in flight that it has.
@@ -76,4 +77,9 @@ pub fn parts_begin()
 /// or its latch is taken or let go.
 pub fn latches_keep()
     ensures { LatchesKeep }
+{}
+
+/// With the last event of a removal the partition has the cells of a bucket more room.
+pub fn removals_settle()
+    ensures { RemovalsSettle }
 {}
