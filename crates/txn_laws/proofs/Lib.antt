@@ -16,4 +16,5 @@ pub mod Settling
 pub mod Settles
 pub mod Asking
 pub mod Dropping
+pub mod Taking
 mod Examples

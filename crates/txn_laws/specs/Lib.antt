@@ -14,3 +14,4 @@ pub mod Going
 pub mod Settled
 pub mod Asks
 pub mod Dropped
+pub mod Takes

@@ -6,6 +6,7 @@ ghost use Rattle.txn_laws.specs.Stores.{WritesAreStored, WritesAreTakenBack, Gif
 ghost use Rattle.txn_laws.specs.Going.{PartsKeep};
 ghost use Rattle.txn_laws.specs.Settled.{AppendsSettle};
 ghost use Rattle.txn_laws.specs.Dropped.{RemovalsSettle};
+ghost use Rattle.txn_laws.specs.Takes.{TakesKeep};
 ghost use Rattle.txn_laws.specs.Asks.{AsksKeep, AppendsBegin, PartsBegin, LatchesKeep};
 
 /// Each image stands for the history and those commits in flight that it has.
@@ -82,4 +83,9 @@ pub fn latches_keep()
 /// With the last event of a removal the partition has the cells of a bucket more room.
 pub fn removals_settle()
     ensures { RemovalsSettle }
+{}
+
+/// Words that nobody has come to a transaction that runs.
+pub fn takes_keep()
+    ensures { TakesKeep }
 {}
