@@ -1,4 +1,7 @@
 pub mod Written
+pub mod StayFit
+pub mod PartEnds
+pub mod Removals
 pub mod Flying
 pub mod Finding
 pub mod Records

@@ -1,4 +1,5 @@
 pub mod Txns
+pub mod Removals
 pub mod Flights
 pub mod Owners
 pub mod Heaps
