@@ -1,4 +1,7 @@
 pub mod Written
+pub mod LeftOpen
+pub mod ClosedTxns
+pub mod Closings
 pub mod StayFit
 pub mod PartEnds
 pub mod Removals

@@ -1,5 +1,5 @@
 -- What is under way fits on where the log loses records of others.
-use Rattle.std.proofs.Common.{◌≡◌, inl, inr, ℕ, ◌≤◌, Bool, true, false, if◌then◌else◌, sym, ◌∙◌, subst, arith}
+use Rattle.std.proofs.Common.{◌≡◌, ◌≢◌, inl, inr, ℕ, zero, suc, ◌<◌, ◌≤◌, Bool, true, false, if◌then◌else◌, List, [], ◌∷◌, length, sym, ◌∙◌, subst, arith}
 use Rattle.persist_model.specs.Region.{Words}
 use Rattle.persist_model.specs.Records.{Record, IsAmong}
 use Rattle.persist_model.specs.Need.{has_of, need_in}
@@ -8,12 +8,14 @@ use Rattle.persist_model.specs.State.{State}
 use Rattle.log_laws.specs.MoveRoom.{HasCells, HasItsCells}
 use Rattle.log_laws.proofs.Needs.{has_of_true}
 use Rattle.plan_records.specs.Courses.{own_records}
-use Rattle.history_laws.specs.UnderWay.{Added, an_update, a_deletion, a_rollback, a_compensation, an_undone_end, a_commit_end, Adding, record_of_adding, UnderWay, nothing, appends, closes, takes_back, drops}
+use Rattle.log_keeper.specs.Parts.{waits_for}
+use Rattle.history_laws.specs.UnderWay.{Added, an_update, a_deletion, a_rollback, a_compensation, an_undone_end, a_commit_end, Adding, record_of_adding, UnderWay, nothing, appends, closes, takes_back, drops, run_of}
 use Rattle.history_laws.proofs.Owning.{of_cases}
-use Rattle.txn_laws.specs.Txns.{Txn}
+use Rattle.txn_laws.specs.Txns.{Txn, txn_at, with_txn}
 use Rattle.txn_laws.specs.NextRecords.{IsNextEnd, ComesNext, IsAppendOf}
-use Rattle.txn_laws.specs.PartsOf.{Fits}
+use Rattle.txn_laws.specs.PartsOf.{IsClosingOf, IsTakingBackOf, Fits}
 use Rattle.txn_laws.proofs.SameRecords.{back, forth}
+use Rattle.txn_laws.proofs.Lanes.{with_other}
 
 -- Beside a transaction's own records the later log has no record more; it needs no more, and has no less room.
 pub record KeepsFor (shape : Shape) (s y : State) (t : ℕ) : Type 0 where
@@ -97,3 +99,18 @@ module _ (shape : Shape) (s y : State) where
   }
   fits_stay h p x (takes_back gates made) keeps is = record { number = is.number; here = is.here; runs = is.runs; unended = is.unended; own = λ d m. is.own d (keeps.among d m) }
   fits_stay h p x (drops r made) keeps is = tt
+
+  -- what is under way elsewhere, where lane l's transaction becomes another
+  module _ (h : Words) (l : ℕ) (z : Txn) (lanes : List Txn) (keeps : (j : ℕ) → j ≢ l → KeepsFor shape s y (txn_at lanes j).number) where
+    pub others_fit : (q j : ℕ) (u : UnderWay) → waits_for (run_of u).part j ≢ l → Fits shape s h q (txn_at lanes j) u → Fits shape y h q (txn_at (with_txn l z lanes) j) u
+    others_fit q j nothing alone is = tt
+    others_fit q j (appends adding n) alone is = subst (λ v. IsAppendOf shape y h q v adding n) (sym (with_other l j z lanes alone)) (fits_stay h q (txn_at lanes j) (appends adding n) (keeps j alone) is)
+    others_fit q j (closes gates ends n) alone is = subst (λ v. IsClosingOf y.log q v gates ends) (sym (with_other l j z lanes alone)) (fits_stay h q (txn_at lanes j) (closes gates ends n) (keeps j alone) is)
+    others_fit q j (takes_back gates n) alone is = subst (λ v. IsTakingBackOf y.log q v gates) (sym (with_other l j z lanes alone)) (fits_stay h q (txn_at lanes j) (takes_back gates n) (keeps j alone) is)
+    others_fit q j (drops r n) alone is = tt
+
+-- a lane with a number is one of them
+pub some_lane : (l : ℕ) (lanes : List Txn) → 1 ≤ (txn_at lanes l).number → l < length lanes
+some_lane l [] one = absurd (omega (arith, one))
+some_lane zero (x ∷ lanes) one = omega arith
+some_lane (suc l) (x ∷ lanes) one = let lt = some_lane l lanes one in omega (arith, lt)

@@ -1,4 +1,5 @@
 pub mod Txns
+pub mod Closings
 pub mod Removals
 pub mod Flights
 pub mod Owners
