@@ -58,7 +58,7 @@ module _ (shape : Shape) (log : Log) (h : Words) (x : Txn) (r : Record) (t : IsT
       named (inl k) = k.0
       named (inr k) = inr k.0
 
-  given_more : (g : Gift) → IsAmong x.gifts g → Has (IsDeletionBy x.number g.word) (r ∷ log)
+  given_more : (g : Gift) → IsAmong x.gifts g → Has (λ d. IsDeletionBy x.number g.word d × (d.at ≡ g.gate)) (r ∷ log)
   given_more g m = let d = t.given g m in (d.0, inr d.1, d.2)
 
   deletions_more : r.kind ≢ DELETION → (a : ℕ) (q : Record) → IsAmong (r ∷ log) q → IsDeletionBy x.number a q → (g : Gift) × IsAmong x.gifts g × (g.word ≡ a) × (g.gate ≡ q.at)
@@ -245,7 +245,7 @@ module _ (shape : Shape) (log : Log) (h : Words) (x : Txn) (r : Record) (t : IsT
         | inr k ↦ (let g = t.deletions a q k d in (g.0, inr g.1, g.2, g.3))
       ];
       given = λ g m. elim m [
-        | inl e ↦ (r, inl refl, (deletion, sym (ap (λ (z : Gift). z.word) e), of))
+        | inl e ↦ (r, inl refl, ((deletion, sym (ap (λ (z : Gift). z.word) e), of), sym (ap (λ (z : Gift). z.gate) e)))
         | inr k ↦ given_more g k
       ];
       gifts_own = λ g m. elim m [

@@ -61,7 +61,7 @@ entry_is shape log h x t going all = record {
     ungiven a none u = latest_elsewhere (map zero_of x.gifts) a u (λ w m e. (
         let g = among_zeros x.gifts w m in
         let d = t.given g.0 g.1 in
-        none d.0 d.1 (d.2.0, d.2.1 ∙ sym (ap (λ (v : Write). v.address) g.2) ∙ e, d.2.2)))
+        none d.0 d.1 (d.2.0.0, d.2.0.1 ∙ sym (ap (λ (v : Write). v.address) g.2) ∙ e, d.2.0.2)))
 
 module _ (shape : Shape) (log : Log) (h : Words) (lanes : List Txn) (owners : AreOwners shape lanes) (all : AreTransactions shape log h lanes) where
   -- whoever's record bars others from a word has it

@@ -72,7 +72,7 @@ transaction_same shape log later h x same t = record {
     commits_is = λ c. (t.ended over).commits_is (committed_back x.number log later same c);
   };
   deletions = λ a r m d. t.deletions a r (back x.number log later same r m (deletion_of x.number a r d)) d;
-  given = λ g m. (let d = t.given g m in (d.0, forth x.number log later same d.0 d.1 (deletion_of x.number g.word d.0 d.2), d.2));
+  given = λ g m. (let d = t.given g m in (d.0, forth x.number log later same d.0 d.1 (deletion_of x.number g.word d.0 d.2.0), d.2));
   gifts_own = t.gifts_own;
   names = λ r m of bars. t.names r (back x.number log later same r m of) of (bars_back x.number log later same r of.0 bars);
 }

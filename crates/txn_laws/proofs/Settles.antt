@@ -124,9 +124,9 @@ module _ (shape : Shape) (base : Words) (s : State) (chains : ℕ → List ℕ) 
         let g = among_zeros x.gifts v m in
         let d = told_it.given g.0 g.1 in
         none d.0 (inserted_in r s.log d.0 (inr d.1)) (
-          d.2.0,
-          d.2.1 ∙ sym (ap (λ (z : Write). z.address) g.2) ∙ on,
-          (r, inserted_in r s.log r (inl refl), ((end, fits_it.of ∙ sym d.2.2), outcome)),
+          d.2.0.0,
+          d.2.0.1 ∙ sym (ap (λ (z : Write). z.address) g.2) ∙ on,
+          (r, inserted_in r s.log r (inl refl), ((end, fits_it.of ∙ sym d.2.0.2), outcome)),
         )))
 
     pub settled_commit : IsWorldAt shape (base_behind shape p adding base) (state_behind shape p adding base s) (with_chain p (chain_behind adding.place (chains p)) chains) start_heap

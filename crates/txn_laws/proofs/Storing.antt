@@ -329,7 +329,7 @@ module _ (shape : Shape) (base : Words) (s : State) (chains : ℕ → List ℕ) 
 
     deleted_is : Has (IsToDelete s.log g.word) s.log
     deleted_is = let d = t.given g among in
-        (d.0, d.1, (d.2.0, d.2.1, subst (IsCommitted s.log) (sym d.2.2) ((t.ended over).committed commits (d.0, d.1, deletion_of x.number g.word d.0 d.2))))
+        (d.0, d.1, (d.2.0.0, d.2.0.1, subst (IsCommitted s.log) (sym d.2.0.2) ((t.ended over).committed commits (d.0, d.1, deletion_of x.number g.word d.0 d.2.0))))
 
     written_none : written x ≡ []
     written_none = rw over refl

@@ -51,7 +51,7 @@ pub record IsTransaction (shape : Shape) (log : Log) (h : Words) (x : Txn) : Typ
   pub going : x.over ≡ false → IsGoing log h x
   pub ended : x.over ≡ true → IsOver log x
   pub deletions : (a : ℕ) (r : Record) → IsAmong log r → IsDeletionBy x.number a r → (g : Gift) × IsAmong x.gifts g × (g.word ≡ a) × (g.gate ≡ r.at)
-  pub given : (g : Gift) → IsAmong x.gifts g → Has (IsDeletionBy x.number g.word) log
+  pub given : (g : Gift) → IsAmong x.gifts g → Has (λ d. IsDeletionBy x.number g.word d × (d.at ≡ g.gate)) log
   pub gifts_own : (g : Gift) → IsAmong x.gifts g → IsMine x g.word
   pub names : NamesItsOwn log x
 
