@@ -1,4 +1,6 @@
 pub mod Written
+pub mod TakenTxns
+pub mod TakingsBack
 pub mod LeftOpen
 pub mod ClosedTxns
 pub mod Closings

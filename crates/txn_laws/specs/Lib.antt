@@ -1,4 +1,5 @@
 pub mod Txns
+pub mod TakingsBack
 pub mod Closings
 pub mod Removals
 pub mod Flights

@@ -1,6 +1,7 @@
 //! What the last events of the log's parts keep.
 ghost use Rattle.txn_laws.specs.Removals.{RemovalsEnd};
 ghost use Rattle.txn_laws.specs.Closings.{GroupsEnd};
+ghost use Rattle.txn_laws.specs.TakingsBack.{TakingsBackEnd};
 
 /// Behind the last event of a removal its partition has more room.
 pub fn removals_end()
@@ -10,4 +11,9 @@ pub fn removals_end()
 /// Behind that of a group of a closing the log has its records no more, and the words that they barred may be given away.
 pub fn groups_end()
     ensures { GroupsEnd }
+{}
+
+/// Behind that of a taking back the log has these deletions no more, and their words aren't given.
+pub fn takings_back_end()
+    ensures { TakingsBackEnd }
 {}
