@@ -1,4 +1,5 @@
 pub mod Written
+pub mod AllLatches
 pub mod TakenTxns
 pub mod TakingsBack
 pub mod LeftOpen

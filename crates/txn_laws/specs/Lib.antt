@@ -1,4 +1,5 @@
 pub mod Txns
+pub mod AllLatches
 pub mod TakingsBack
 pub mod Closings
 pub mod Removals
