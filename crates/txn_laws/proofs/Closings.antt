@@ -1,5 +1,5 @@
 -- The last event of a group of a closing.
-use Rattle.std.proofs.Common.{◌≡◌, ◌≢◌, inl, inr, ℕ, zero, suc, ◌<◌, ◌≤◌, ◌==◌, Bool, true, false, if◌then◌else◌, List, [], ◌∷◌, length, take, refl, sym, ap, ◌∙◌, subst, arith}
+use Rattle.std.proofs.Common.{◌≡◌, ◌≢◌, inl, inr, ℕ, ◌<◌, ◌≤◌, ◌==◌, Bool, true, false, if◌then◌else◌, List, [], length, take, refl, sym, ap, ◌∙◌, subst, arith}
 use Rattle.std.proofs.lemmas.Bool.Decides.{eqb_tells}
 use Rattle.std.proofs.lemmas.List.{take_all}
 use Rattle.persist_model.specs.declared.event.Event.{Event}
@@ -28,13 +28,12 @@ use Rattle.log_keeper.proofs.Made.{groups_are_made}
 use Rattle.log_keeper.proofs.Sounding.{groups_stay_sound}
 use Rattle.log_keeper.proofs.LeftNeeds.{closings_need}
 use Rattle.history_laws.specs.Histories.{fold}
-use Rattle.history_laws.specs.UnderWay.{UnderWay, nothing, appends, closes, takes_back, drops, run_of}
+use Rattle.history_laws.specs.UnderWay.{nothing, closes}
 use Rattle.txn_laws.specs.Txns.{Txn, txn_at, with_txn, written}
 use Rattle.txn_laws.specs.Owners.{IsMine, IsNobodys, AreOwners}
 use Rattle.txn_laws.specs.Heaps.{IsHeapOf, IsKept}
 use Rattle.txn_laws.specs.AreTransactions.{IsTransaction, AreTransactions}
-use Rattle.txn_laws.specs.NextRecords.{IsAppendOf}
-use Rattle.txn_laws.specs.PartsOf.{IsClosingOf, IsTakingBackOf, Fits, IsPartIn}
+use Rattle.txn_laws.specs.PartsOf.{IsClosingOf, Fits, IsPartIn}
 use Rattle.txn_laws.specs.Going.{with_under}
 use Rattle.txn_laws.specs.Worlds.{World, IsWorldAt}
 use Rattle.txn_laws.specs.Closings.{HasLeft, with_words, world_closed, GroupsEnd}

@@ -1,18 +1,16 @@
 -- What the log has of a transaction that takes deletions back.
-use Rattle.std.proofs.Common.{◌≡◌, ◌≢◌, ◌⊎◌, inl, inr, ℕ, ◌<◌, ◌≤◌, Bool, true, false, if◌then◌else◌, List, [], ◌∷◌, refl, sym, ap, ◌∙◌, subst, arith}
+use Rattle.std.proofs.Common.{◌≡◌, ◌≢◌, inl, inr, ℕ, Bool, true, false, if◌then◌else◌, List, [], ◌∷◌, refl, sym, ap, ◌∙◌, subst, arith}
 use Rattle.persist_model.specs.Region.{Words}
-use Rattle.persist_model.specs.Records.{Record, Log, IsAmong, Has, HasNo, IsOf, IsUpdate, IsDeletion, IsRunning, IsCommitted}
+use Rattle.persist_model.specs.Records.{Record, Log, IsAmong, IsDeletion, IsCommitted}
 use Rattle.persist_model.specs.Order.{is_kind_of, undo_point, Bars}
 use Rattle.persist_model.specs.Need.{rest, to_undo}
-use Rattle.persist_model.specs.Standing.{IsLatest}
 use Rattle.persist_model.specs.ImageRecords.{record_at}
 use Rattle.persist_model.specs.Shape.{Shape, log_words}
 use Rattle.persist_model.specs.State.{State}
 use Rattle.persist_model.specs.Sound.{HasState}
 use Rattle.log_laws.specs.Closing.{IsSublog, empty, stays, goes}
-use Rattle.log_laws.specs.Moves.{IsDeferred, IsDeletionBy, IsChangeBy}
+use Rattle.log_laws.specs.Moves.{IsDeferred, IsChangeBy}
 use Rattle.std.proofs.lemmas.Bool.Decides.{eqb_tells}
-use Rattle.log_clearing.specs.Closed.{IsListed}
 use Rattle.log_keeper.specs.Ledger.{is_in, is_listed, left_open}
 use Rattle.log_keeper.proofs.Groups.{in_told, in_found, listed_found}
 use Rattle.log_keeper.proofs.Progressing.{only_gates}

@@ -1,10 +1,9 @@
 -- The last event of a taking back.
-use Rattle.std.proofs.Common.{◌≡◌, ◌≢◌, ◌⊎◌, inl, inr, ℕ, ◌+◌, ◌<◌, ◌≤◌, Bool, true, false, if◌then◌else◌, List, [], ◌∷◌, length, take, refl, sym, ap, ◌∙◌, subst, arith}
-use Rattle.std.proofs.lemmas.Bool.Decides.{eqb_tells}
+use Rattle.std.proofs.Common.{◌≡◌, ◌≢◌, ℕ, ◌<◌, ◌≤◌, true, false, List, [], length, take, refl, sym, ap, ◌∙◌, subst, arith}
 use Rattle.persist_model.specs.declared.event.Event.{Event}
 use Rattle.persist_model.specs.Region.{Words, Region, IsCandidate, newest}
 use Rattle.persist_model.specs.Progress.{latest}
-use Rattle.persist_model.specs.Records.{Record, Log, IsAmong, Has, HasNo, IsOf, IsDeletion, IsRunning}
+use Rattle.persist_model.specs.Records.{Record, Log, IsAmong, HasNo, IsDeletion, IsRunning}
 use Rattle.persist_model.specs.Standing.{IsToDelete, Stands}
 use Rattle.persist_model.specs.Need.{need_in}
 use Rattle.persist_model.specs.Shape.{Shape, part_of, IsHeapWord}
@@ -24,7 +23,7 @@ use Rattle.log_keeper.proofs.Made.{takings_back_are_made}
 use Rattle.log_keeper.proofs.Sounding.{takings_back_stay_sound}
 use Rattle.history_laws.specs.Histories.{fold}
 use Rattle.history_laws.specs.UnderWay.{takes_back}
-use Rattle.txn_laws.specs.Txns.{Gift, Txn, txn_at, with_txn, written}
+use Rattle.txn_laws.specs.Txns.{Txn, txn_at, with_txn, written}
 use Rattle.txn_laws.specs.Owners.{IsMine, AreOwners}
 use Rattle.txn_laws.specs.Heaps.{IsHeapOf, IsKept}
 use Rattle.txn_laws.specs.AreTransactions.{IsTransaction, AreTransactions}
