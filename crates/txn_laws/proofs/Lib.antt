@@ -1,4 +1,5 @@
 pub mod Written
+mod LogEventExamples
 pub mod AllLatches
 pub mod TakenTxns
 pub mod TakingsBack
