@@ -8,7 +8,6 @@ pub mod ClosedTxns
 pub mod Closings
 pub mod StayFit
 pub mod PartEnds
-pub mod Removals
 pub mod Flying
 pub mod Finding
 pub mod Records

@@ -11,7 +11,7 @@ use Rattle.log_keeper.specs.Events.{IsLastEvent, region_made}
 use Rattle.history_laws.specs.UnderWay.{closes}
 use Rattle.txn_laws.specs.Txns.{Txn, txn_at}
 use Rattle.txn_laws.specs.Worlds.{World, with_lane, IsWorldAt}
-use Rattle.txn_laws.specs.Removals.{world_ended}
+use Rattle.txn_laws.specs.Dropped.{dropped}
 
 -- The invariant holds with some state that has this log and no less room.
 pub record HasLeft (shape : Shape) (base : Words) (s : State) (chains : ℕ → List ℕ) (start : Words) (w : World) (region : Region) (log : Log) : Type 0 where
@@ -26,7 +26,7 @@ with_words words x = record x { words = words; gifts = []; zeroed = 0 }
 
 -- the world behind the group, with these words left to the holder
 abbrev pub world_closed : Shape → ℕ → (ℕ → Bool) → World → World
-world_closed shape p words w = with_lane (w.keeping.holder p) (with_words words (txn_at w.lanes (w.keeping.holder p))) (world_ended shape p w)
+world_closed shape p words w = with_lane (w.keeping.holder p) (with_words words (txn_at w.lanes (w.keeping.holder p))) (dropped shape p w)
 
 -- The log has the records of the group no more. Of its words, which no record bars others from any more, the transaction may keep any.
 abbrev pub GroupsEnd : Type 0

@@ -2,7 +2,6 @@ pub mod Txns
 pub mod AllLatches
 pub mod TakingsBack
 pub mod Closings
-pub mod Removals
 pub mod Flights
 pub mod Owners
 pub mod Heaps

@@ -10,7 +10,7 @@ use Rattle.log_keeper.specs.Events.{IsLastEvent, region_made}
 use Rattle.history_laws.specs.UnderWay.{takes_back}
 use Rattle.txn_laws.specs.Txns.{Gift, Txn, txn_at}
 use Rattle.txn_laws.specs.Worlds.{World, with_lane, IsWorldAt}
-use Rattle.txn_laws.specs.Removals.{world_ended}
+use Rattle.txn_laws.specs.Dropped.{dropped}
 use Rattle.txn_laws.specs.Closings.{HasLeft}
 
 -- the gifts whose deletions stand at none of these gates
@@ -22,7 +22,7 @@ abbrev pub with_gifts_left : List ℕ → Txn → Txn
 with_gifts_left gates x = record x { gifts = gifts_left gates x.gifts }
 
 abbrev pub world_taken : Shape → ℕ → List ℕ → World → World
-world_taken shape p gates w = with_lane (w.keeping.holder p) (with_gifts_left gates (txn_at w.lanes (w.keeping.holder p))) (world_ended shape p w)
+world_taken shape p gates w = with_lane (w.keeping.holder p) (with_gifts_left gates (txn_at w.lanes (w.keeping.holder p))) (dropped shape p w)
 
 -- The log has them no more, and the transaction doesn't give their words any more.
 abbrev pub TakingsBackEnd : Type 0
