@@ -120,170 +120,104 @@ fn append_and_store(
     Ok(plan)
 }
 
-/// A stop behind so many events, and what is closed then of the records at 40 and 56, for the oldest and the newest
-/// candidates, and how many buckets are in the chain.
-#[derive(Clone, Copy)]
-struct Stop<'a> {
-    events: u64,
-    done: Done,
-    chain: &'a [u32],
-    closed: [&'a [u32]; 2],
-}
+/// A stop behind so many events: whether the part was made, the buckets of the chain, and what is closed then of the records at
+/// 40 and 56, for the oldest and the newest candidates.
+type Stop = (u64, Done, &'static [u32], [&'static [u32]; 2]);
 
 const RECORDS: [u32; 2] = [40, 56];
+
+const NONE: &[u32] = &[];
+
+const FIRST: &[u32] = &[40];
+
+const SECOND: &[u32] = &[56];
+
+const ONE_BUCKET: &[u32] = &[0];
+
+const TWO_BUCKETS: &[u32] = &[0, 1];
 
 // What is left in the log for the oldest and the newest candidates.
 fn check_left(
     rt: &impl Abort,
     alloc: Global,
     mut region: PlainCells,
-    stop: &Stop,
     pick: Pick,
+    chain: &[u32],
     closed: &[u32],
 ) -> Result<(), Fail> {
     region.restart(pick);
     let left = open(alloc, &RECORDS, closed)?;
-    check_scan(rt, alloc, &region, 0, stop.chain, &left)
+    check_scan(rt, alloc, &region, 0, chain, &left)
 }
+
+// A fresh bucket of one cell: a gate, 11 events of the list, and 10 of the cell, of which the ninth is its gate.
+const APPEND_STOPS: &[Stop] = &[
+    (0, Done::Stopped, ONE_BUCKET, [SECOND, SECOND]),
+    (1, Done::Stopped, ONE_BUCKET, [SECOND, SECOND]),
+    (12, Done::Stopped, TWO_BUCKETS, [SECOND, SECOND]),
+    (20, Done::Stopped, TWO_BUCKETS, [SECOND, SECOND]),
+    (21, Done::Stopped, TWO_BUCKETS, [SECOND, NONE]),
+    (22, Done::Made, TWO_BUCKETS, [NONE, NONE]),
+    (30, Done::Made, TWO_BUCKETS, [NONE, NONE]),
+];
 
 #[test]
 fn an_append_is_run_to_its_end_or_stopped(rt: HostRuntime) -> Result<(), Fail> {
     let alloc = rt.alloc();
-    let first: &[u32] = &[0];
-    let both: &[u32] = &[0, 1];
-    let second: &[u32] = &[56];
-    // a fresh bucket of one cell: a gate, 11 events of the list, and 10 of the cell, of which the ninth is its gate
-    let stops = [
-        Stop {
-            events: 0,
-            done: Done::Stopped,
-            chain: first,
-            closed: [second, second],
-        },
-        Stop {
-            events: 1,
-            done: Done::Stopped,
-            chain: first,
-            closed: [second, second],
-        },
-        Stop {
-            events: 12,
-            done: Done::Stopped,
-            chain: both,
-            closed: [second, second],
-        },
-        Stop {
-            events: 20,
-            done: Done::Stopped,
-            chain: both,
-            closed: [second, second],
-        },
-        Stop {
-            events: 21,
-            done: Done::Stopped,
-            chain: both,
-            closed: [second, &[]],
-        },
-        Stop {
-            events: 22,
-            done: Done::Made,
-            chain: both,
-            closed: [&[], &[]],
-        },
-        Stop {
-            events: 30,
-            done: Done::Made,
-            chain: both,
-            closed: [&[], &[]],
-        },
-    ];
-    for stop in &stops {
-        for (pick, closed) in [Pick::Old, Pick::New].iter().zip(stop.closed.iter()) {
+    for (events, done, chain, closed) in APPEND_STOPS {
+        for (pick, closed) in [Pick::Old, Pick::New].iter().zip(closed.iter()) {
             let region = with_records(&rt, alloc, 1, &[update(1)])?;
             let plan = second_append(&rt, alloc, &region)?;
-            let mut cut = Cut::new(region, stop.events);
-            assert_eq!(rt;
-                run_events(&rt, &mut cut, &plan),
-                stop.done,
-                "{}",
-                stop.events
-            );
-            assert_eq!(rt; cut.used_up(), stop.events <= 22);
-            check_left(&rt, alloc, cut.into_inner(), stop, *pick, closed)?;
+            let mut cut = Cut::new(region, *events);
+            assert_eq!(rt; run_events(&rt, &mut cut, &plan), *done, "{events}");
+            assert_eq!(rt; cut.used_up(), *events <= 22);
+            check_left(&rt, alloc, cut.into_inner(), *pick, chain, closed)?;
         }
     }
     let mut region = with_records(&rt, alloc, 1, &[update(1)])?;
     let plan = second_append(&rt, alloc, &region)?;
     assert_eq!(rt; run_events(&rt, &mut region, &plan), Done::Made);
-    check_left(&rt, alloc, region, &stops[5], Pick::Old, &[])
+    check_left(&rt, alloc, region, Pick::Old, TWO_BUCKETS, NONE)
 }
+
+const CLOSING_STOPS: &[Stop] = &[
+    (0, Done::Stopped, TWO_BUCKETS, [NONE, NONE]),
+    (1, Done::Stopped, TWO_BUCKETS, [NONE, FIRST]),
+    (2, Done::Stopped, TWO_BUCKETS, [FIRST, FIRST]),
+    (3, Done::Stopped, TWO_BUCKETS, [FIRST, &RECORDS]),
+    (4, Done::Made, TWO_BUCKETS, [&RECORDS, &RECORDS]),
+];
 
 #[test]
 fn records_are_closed_to_the_end_or_stopped(rt: HostRuntime) -> Result<(), Fail> {
     let alloc = rt.alloc();
-    let both: &[u32] = &[0, 1];
-    let first: &[u32] = &[40];
-    let all: &[u32] = &[40, 56];
-    let stops = [
-        Stop {
-            events: 0,
-            done: Done::Stopped,
-            chain: both,
-            closed: [&[], &[]],
-        },
-        Stop {
-            events: 1,
-            done: Done::Stopped,
-            chain: both,
-            closed: [&[], first],
-        },
-        Stop {
-            events: 2,
-            done: Done::Stopped,
-            chain: both,
-            closed: [first, first],
-        },
-        Stop {
-            events: 3,
-            done: Done::Stopped,
-            chain: both,
-            closed: [first, all],
-        },
-        Stop {
-            events: 4,
-            done: Done::Made,
-            chain: both,
-            closed: [all, all],
-        },
-    ];
     let list = ClearList {
-        gates: gates(alloc, &[40])?,
-        ends: gates(alloc, &[56])?,
+        gates: gates(alloc, FIRST)?,
+        ends: gates(alloc, SECOND)?,
         checkpoints: List::new(alloc),
     };
-    for stop in &stops {
-        for (pick, closed) in [Pick::Old, Pick::New].iter().zip(stop.closed.iter()) {
+    for (events, done, chain, closed) in CLOSING_STOPS {
+        for (pick, closed) in [Pick::Old, Pick::New].iter().zip(closed.iter()) {
             let region = with_records(&rt, alloc, 1, &[update(1), end(1)])?;
-            let mut cut = Cut::new(region, stop.events);
-            assert_eq!(rt; close(&rt, &mut cut, &list), stop.done, "{}", stop.events);
-            check_left(&rt, alloc, cut.into_inner(), stop, *pick, closed)?;
+            let mut cut = Cut::new(region, *events);
+            assert_eq!(rt; close(&rt, &mut cut, &list), *done, "{events}");
+            check_left(&rt, alloc, cut.into_inner(), *pick, chain, closed)?;
         }
     }
     let mut region = with_records(&rt, alloc, 1, &[update(1), end(1)])?;
     assert_eq!(rt; close(&rt, &mut region, &list), Done::Made);
-    check_left(&rt, alloc, region, &stops[4], Pick::Old, all)
+    check_left(&rt, alloc, region, Pick::Old, TWO_BUCKETS, &RECORDS)
 }
 
 #[test]
 fn a_word_is_stored_behind_its_record(rt: HostRuntime) -> Result<(), Fail> {
     let alloc = rt.alloc();
-    let second: &[u32] = &[56];
     // the word at 97 is a block's: its store isn't fenced, so that the oldest candidate is the one before
     let cases = [
-        (20, Pick::New, Done::Stopped, second, 0),
-        (22, Pick::New, Done::Stopped, &[], 0),
-        (23, Pick::New, Done::Made, &[], 7),
-        (23, Pick::Old, Done::Made, &[], 0),
+        (20, Pick::New, Done::Stopped, SECOND, 0),
+        (22, Pick::New, Done::Stopped, NONE, 0),
+        (23, Pick::New, Done::Made, NONE, 7),
+        (23, Pick::Old, Done::Made, NONE, 0),
     ];
     for (events, pick, done, closed, value) in &cases {
         let region = with_records(&rt, alloc, 1, &[update(1)])?;
@@ -298,7 +232,7 @@ fn a_word_is_stored_behind_its_record(rt: HostRuntime) -> Result<(), Fail> {
             alloc,
             &region,
             0,
-            &[0, 1],
+            TWO_BUCKETS,
             &open(alloc, &RECORDS, closed)?,
         )?;
     }
