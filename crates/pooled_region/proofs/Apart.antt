@@ -1,11 +1,10 @@
 -- Lists of places that have no place in common.
-use Rattle.std.proofs.Common.{◌≡◌, ◌≢◌, ◌⊎◌, inl, inr, ⊎_elim, ℕ, zero, suc, ◌+◌, ◌-◌, ◌<◌, ◌≤◌, Bool, true, false, List, [], ◌∷◌, ◌++◌, length, refl, sym, ◌∙◌, ap, subst, arith, if◌then◌else◌, ◌==◌, eq-eqb, get_or}
-use Rattle.std.proofs.lemmas.Bool.{cases_lt, cases_eq}
+use Rattle.std.proofs.Common.{◌≡◌, ◌≢◌, ◌⊎◌, inl, inr, ⊎_elim, ℕ, zero, suc, ◌<◌, ◌≤◌, true, List, length, refl, sym, ◌∙◌, ap, subst, arith, if◌then◌else◌, ◌==◌, eq-eqb, get_or}
 use Rattle.std.proofs.lemmas.Bool.Decides.{eqb_tells}
 use Rattle.pooled_region.specs.declared.pool.Place.{Place}
 use Rattle.pooled_region.specs.declared.pool.Word.{Word}
 use Rattle.pooled_region.specs.declared.pool.Free.{Free}
-use Rattle.pooled_region.specs.Pool.{no_place, no_word, next_of, place_at, start_of, count_of, StaysWithin, ArePooled}
+use Rattle.pooled_region.specs.Pool.{no_word, place_at, start_of, count_of, StaysWithin, ArePooled}
 
 pub eqb_same : (n : ℕ) → (n == n) ≡ true
 eqb_same n = eq-eqb n n refl

@@ -1,5 +1,5 @@
 -- Which words stand in the list, after each event.
-use Rattle.std.proofs.Common.{◌≡◌, ◌≢◌, ⊎_elim, ℕ, zero, suc, ◌<◌, Bool, true, false, not, ◌||◌, List, [], ◌∷◌, ◌++◌, length, refl, sym, ◌∙◌, ap, subst, arith, ◌==◌, get_or}
+use Rattle.std.proofs.Common.{◌≡◌, ◌≢◌, ⊎_elim, ℕ, suc, ◌<◌, Bool, true, false, ◌||◌, List, [], ◌∷◌, ◌++◌, refl, sym, ◌∙◌, ap, subst, arith, get_or}
 use Rattle.std.specs.List.{list_any}
 use Rattle.std.proofs.lemmas.Bool.Decides.{eqb_tells}
 use Rattle.std.proofs.lemmas.List.Folds.{list_any-append}
@@ -8,7 +8,7 @@ use Rattle.persist_model.specs.Region.{candidate, fenced}
 use Rattle.pooled_region.specs.declared.pool.Place.{Place}
 use Rattle.pooled_region.specs.declared.pool.Word.{Word}
 use Rattle.pooled_region.specs.declared.pool.Free.{Free}
-use Rattle.pooled_region.specs.Pool.{no_place, no_word, later_of, word_of, candidates_at, is_marked, ArePooled, AreBare, AreWithin}
+use Rattle.pooled_region.specs.Pool.{no_word, later_of, candidates_at, is_marked, ArePooled, AreBare, AreWithin}
 use Rattle.pooled_region.specs.Marks.{AreFound, IsListed}
 use Rattle.pooled_region.proofs.Apart.{count_fits}
 use Rattle.pooled_region.proofs.Fences.{fenced_marks}

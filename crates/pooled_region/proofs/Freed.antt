@@ -1,12 +1,12 @@
 -- All places free, and one place more.
-use Rattle.std.proofs.Common.{◌≡◌, ◌≢◌, ⊎_elim, ℕ, zero, suc, ◌+◌, ◌-◌, ◌<◌, ◌≤◌, List, [], ◌∷◌, ◌++◌, length, refl, sym, ◌∙◌, ap, subst, arith, get_or}
+use Rattle.std.proofs.Common.{◌≡◌, ℕ, zero, suc, ◌+◌, ◌<◌, ◌≤◌, List, [], ◌∷◌, ◌++◌, length, refl, sym, ◌∙◌, ap, arith, get_or}
 use Rattle.std.proofs.lemmas.List.{get_or_append_left, get_or_at, length-append}
 use Rattle.persist_model.specs.declared.event.Candidate.{Candidate}
 use Rattle.persist_model.specs.Region.{candidate}
 use Rattle.pooled_region.specs.declared.pool.Place.{Place}
 use Rattle.pooled_region.specs.declared.pool.Word.{Word}
 use Rattle.pooled_region.specs.declared.pool.Free.{Free}
-use Rattle.pooled_region.specs.Pool.{no_place, no_word, next_of, place_at, later_of, word_of, candidates_at, start_of, count_of, ArePooled}
+use Rattle.pooled_region.specs.Pool.{no_place, no_word, next_of, place_at, candidates_at, start_of, count_of, ArePooled}
 use Rattle.pooled_region.proofs.Steps.{place_at-next, place_at-same, later_of-same}
 
 -- ---- each place linked to the next one

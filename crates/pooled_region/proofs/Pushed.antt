@@ -1,12 +1,12 @@
 -- A free place becomes the newest of a word.
-use Rattle.std.proofs.Common.{◌≡◌, ◌≢◌, ⊎_elim, ℕ, zero, suc, ◌+◌, ◌-◌, ◌<◌, ◌≤◌, true, false, List, [], ◌∷◌, ◌++◌, length, refl, sym, ◌∙◌, ap, subst, arith, if◌then◌else◌, ◌==◌, get_or, set}
+use Rattle.std.proofs.Common.{◌≡◌, ◌≢◌, ⊎_elim, ℕ, zero, suc, ◌+◌, ◌-◌, ◌<◌, false, List, [], ◌∷◌, ◌++◌, length, refl, sym, ◌∙◌, ap, subst, arith, if◌then◌else◌, ◌==◌, get_or, set}
 use Rattle.std.proofs.lemmas.Bool.Decides.{eqb_tells}
 use Rattle.std.proofs.lemmas.List.{get_or-set_same, get_or-set_other, length-set}
 use Rattle.persist_model.specs.declared.event.Candidate.{Candidate}
 use Rattle.pooled_region.specs.declared.pool.Place.{Place}
 use Rattle.pooled_region.specs.declared.pool.Word.{Word}
 use Rattle.pooled_region.specs.declared.pool.Free.{Free}
-use Rattle.pooled_region.specs.Pool.{no_place, no_word, next_of, place_at, later_of, word_of, candidates_at, start_of, count_of, ArePooled}
+use Rattle.pooled_region.specs.Pool.{no_place, no_word, next_of, place_at, later_of, word_of, candidates_at, count_of, ArePooled}
 use Rattle.pooled_region.proofs.Steps.{place_at-same, later_of-same}
 use Rattle.pooled_region.proofs.Apart.{eqb_same, Comes, pooled_from}
 

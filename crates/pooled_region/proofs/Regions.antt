@@ -1,11 +1,11 @@
 -- What the calls leave, as cells.
-use Rattle.std.proofs.Common.{◌≡◌, ◌≢◌, ⊎_elim, ℕ, zero, suc, ◌<◌, ◌≤◌, List, [], ◌∷◌, ◌++◌, length, map, refl, sym, ◌∙◌, ap, arith, get_or}
+use Rattle.std.proofs.Common.{◌≡◌, ◌≢◌, ⊎_elim, ℕ, zero, suc, ◌<◌, ◌≤◌, List, [], ◌∷◌, length, map, refl, sym, ◌∙◌, ap, arith, get_or}
 use Rattle.std.proofs.lemmas.Bool.{cases_lt}
 use Rattle.std.proofs.lemmas.List.{get_or_past, length-map}
 use Rattle.persist_model.specs.declared.event.Candidate.{Candidate}
 use Rattle.persist_model.specs.declared.pick.Pick.{Pick}
 use Rattle.persist_model.specs.Pick.{index_of_pick}
-use Rattle.persist_model.specs.Region.{candidate, with_word, fenced, fenced_by, mark_last, loaded, picked, restarted}
+use Rattle.persist_model.specs.Region.{candidate, with_word, fenced, fenced_by, loaded, picked, restarted}
 use Rattle.persist_model.proofs.Candidates.{same_cells, with_word_is}
 use Rattle.pooled_region.specs.declared.pool.Place.{Place}
 use Rattle.pooled_region.specs.declared.pool.Word.{Word}

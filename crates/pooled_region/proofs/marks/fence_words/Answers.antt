@@ -1,6 +1,5 @@
-use Rattle.std.proofs.Common.{◌≡◌, ◌≢◌, inl, ℕ, ◌<◌, ◌≤◌, true, length, refl, sym, ◌∙◌, ap, subst, arith, get_or, below_more}
-use Rattle.std.specs.List.{list_any}
-use Rattle.persist_model.specs.Region.{has_mark, fenced}
+use Rattle.std.proofs.Common.{◌≡◌, inl, ◌<◌, refl, ◌∙◌, subst, arith, get_or, below_more}
+use Rattle.persist_model.specs.Region.{fenced}
 use Rattle.pooled_region.specs.Pool.{candidates_at}
 use Rattle.pooled_region.proofs.Fences.{fenced_here, fenced_each, fenced_done, fenced_all, mark_is_some}
 use Rattle.pooled_region.proofs.marks.fence_words.Goals as goal

@@ -1,4 +1,4 @@
-use Rattle.std.proofs.Common.{◌≡◌, ◌+◌, ◌<◌, ◌≤◌, ℕ, true, false, List, length, sym, subst, arith, vec_len}
+use Rattle.std.proofs.Common.{◌≡◌, ◌+◌, ◌≤◌, ℕ, true, false, List, length, sym, subst, arith}
 use Rattle.pooled_region.specs.Marks.{IsListed}
 use Rattle.pooled_region.proofs.Listed.{listed_more, listed_room}
 use Rattle.pooled_region.proofs.marks.list_word.Goals as goal

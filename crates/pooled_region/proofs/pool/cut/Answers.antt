@@ -1,8 +1,8 @@
-use Rattle.std.proofs.Common.{◌≡◌, ◌≢◌, ℕ, ◌+◌, ◌-◌, ◌<◌, ◌≤◌, zero, suc, List, length, sym, ◌∙◌, ap, subst, arith, get_or}
+use Rattle.std.proofs.Common.{◌≡◌, ℕ, ◌+◌, ◌-◌, ◌<◌, ◌≤◌, suc, List, length, sym, ◌∙◌, ap, subst, arith, get_or}
 use Rattle.pooled_region.specs.declared.pool.Place.{Place}
 use Rattle.pooled_region.specs.declared.pool.Word.{Word}
 use Rattle.pooled_region.specs.declared.pool.Free.{Free}
-use Rattle.pooled_region.specs.Pool.{no_place, no_word, place_at, ArePooled}
+use Rattle.pooled_region.specs.Pool.{no_word, place_at, ArePooled}
 use Rattle.pooled_region.proofs.Steps.{place_at-sum}
 use Rattle.pooled_region.proofs.Counts.{count_set}
 use Rattle.pooled_region.proofs.Shortened.{cut_pool, cut_fits, cut_here, cut_others}

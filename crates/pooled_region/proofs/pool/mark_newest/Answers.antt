@@ -1,9 +1,9 @@
-use Rattle.std.proofs.Common.{◌≡◌, ◌≢◌, ◌+◌, ◌-◌, ◌<◌, ◌≤◌, zero, suc, length, arith, sym, ap, ◌∙◌, subst, ℕ, get_or}
+use Rattle.std.proofs.Common.{◌≡◌, ◌≢◌, ◌-◌, ◌<◌, zero, suc, length, arith, sym, ap, subst, get_or}
 use Rattle.pooled_region.specs.declared.pool.Word.{Word}
 use Rattle.pooled_region.specs.Pool.{no_word}
 use Rattle.persist_model.specs.Region.{candidate}
 use Rattle.pooled_region.proofs.Counts.{count_set}
-use Rattle.pooled_region.proofs.Relinked.{oldest_pool, oldest_here, oldest_others, marked_pool, marked_here, marked_others}
+use Rattle.pooled_region.proofs.Relinked.{oldest_pool, marked_pool, marked_here, marked_others}
 use Rattle.pooled_region.proofs.pool.mark_newest.Goals as goal
 
 -- a word with a later candidate

@@ -1,5 +1,4 @@
-use Rattle.std.proofs.Common.{◌≡◌, ◌+◌, ◌<◌, ◌≤◌, zero, suc, length, arith, ap, get_or}
-use Rattle.std.proofs.lemmas.List.{length-set}
+use Rattle.std.proofs.Common.{◌≡◌, ◌+◌, ◌<◌, zero, suc, length, arith, ap, get_or}
 use Rattle.pooled_region.specs.declared.pool.Word.{Word}
 use Rattle.pooled_region.specs.Pool.{no_word}
 use Rattle.pooled_region.proofs.Apart.{count_fits}

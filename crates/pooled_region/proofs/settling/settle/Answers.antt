@@ -1,4 +1,4 @@
-use Rattle.std.proofs.Common.{◌≡◌, ◌≢◌, ⊎_elim, ℕ, ◌+◌, ◌<◌, ◌≤◌, length, refl, sym, ◌∙◌, ap, subst, arith, get_or, set, below_more}
+use Rattle.std.proofs.Common.{◌≡◌, ⊎_elim, ◌<◌, length, sym, ◌∙◌, ap, subst, arith, get_or, set, below_more}
 use Rattle.std.proofs.lemmas.Bool.{cases_lt}
 use Rattle.std.proofs.lemmas.List.{get_or-set_same, get_or-set_other, get_or_past}
 use Rattle.persist_model.specs.Region.{picked}

@@ -1,8 +1,8 @@
-use Rattle.std.proofs.Common.{◌≡◌, ◌<◌, ◌≤◌, ℕ, false, true, not, ◌||◌, suc, length, sym, ◌∙◌, ap, subst, arith, get_or, add-one, below_more, eq-eqb, ne_eqb}
+use Rattle.std.proofs.Common.{◌≡◌, false, not, ◌||◌, sym, ◌∙◌, ap, arith, get_or, add-one, below_more, eq-eqb, ne_eqb}
 use Rattle.std.specs.List.{list_any}
 use Rattle.std.proofs.Math.Bool.{or-true}
 use Rattle.pooled_region.specs.declared.pool.Place.{Place}
-use Rattle.pooled_region.specs.Pool.{no_place, next_of, place_at, later_of, is_marked}
+use Rattle.pooled_region.specs.Pool.{no_place, place_at, later_of, is_marked}
 use Rattle.pooled_region.proofs.Steps.{place_at-next, none_along, some_along}
 use Rattle.pooled_region.proofs.walks.bears_mark.Goals as goal
 

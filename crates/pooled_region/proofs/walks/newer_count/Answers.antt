@@ -1,7 +1,7 @@
-use Rattle.std.proofs.Common.{◌≡◌, ◌<◌, ◌≤◌, ⊎_elim, ℕ, false, suc, length, sym, ◌∙◌, ap, subst, arith, get_or, add-one, below_more, eq-eqb, ne_eqb}
+use Rattle.std.proofs.Common.{◌≡◌, ◌<◌, false, length, sym, ◌∙◌, ap, subst, arith, get_or, add-one, below_more, ne_eqb}
 use Rattle.persist_model.specs.Region.{has_mark}
 use Rattle.pooled_region.specs.declared.pool.Place.{Place}
-use Rattle.pooled_region.specs.Pool.{no_place, next_of, place_at}
+use Rattle.pooled_region.specs.Pool.{no_place, place_at}
 use Rattle.pooled_region.proofs.Steps.{place_at-next, none_along}
 use Rattle.pooled_region.proofs.walks.newer_count.Goals as goal
 

@@ -1,6 +1,5 @@
-use Rattle.std.proofs.Common.{◌≡◌, ◌≢◌, ℕ, ◌+◌, ◌-◌, ◌<◌, ◌≤◌, zero, suc, List, ◌∷◌, length, map, sym, ◌∙◌, ap, refl, arith, get_or}
+use Rattle.std.proofs.Common.{◌≡◌, ◌≢◌, ℕ, ◌+◌, ◌-◌, ◌<◌, zero, suc, List, length, map, sym, ◌∙◌, ap, refl, arith, get_or}
 use Rattle.std.proofs.lemmas.List.{get_or-map}
-use Rattle.persist_model.specs.declared.event.Candidate.{Candidate}
 use Rattle.persist_model.specs.declared.pick.Pick.{Pick}
 use Rattle.persist_model.specs.Region.{candidate, value_of, picked}
 use Rattle.persist_model.specs.Pick.{index_of_pick}

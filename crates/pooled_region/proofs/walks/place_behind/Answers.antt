@@ -1,4 +1,4 @@
-use Rattle.std.proofs.Common.{◌≡◌, ◌<◌, suc, length, sym, ◌∙◌, ap, subst, arith, get_or, add-one}
+use Rattle.std.proofs.Common.{◌<◌, length, sym, ◌∙◌, ap, subst, add-one}
 use Rattle.pooled_region.specs.declared.pool.Place.{Place}
 use Rattle.pooled_region.specs.Pool.{next_of, place_at}
 use Rattle.pooled_region.proofs.Steps.{place_at-next}

@@ -1,4 +1,4 @@
-use Rattle.std.proofs.Common.{◌≡◌, ◌+◌, arith, length}
+use Rattle.std.proofs.Common.{◌≡◌, arith}
 use Rattle.std.specs.Vec.{with_items}
 use Rattle.pooled_region.specs.Pool.{later_count}
 use Rattle.pooled_region.proofs.Counts.{bare_count}

@@ -1,6 +1,5 @@
-use Rattle.std.proofs.Common.{◌≡◌, ◌≤◌, true, List, length, sym, ap, ◌∙◌, arith, subst, zero}
+use Rattle.std.proofs.Common.{◌≤◌, length, sym, ap, ◌∙◌, arith, zero}
 use Rattle.std.specs.List.{list_any}
-use Rattle.persist_model.specs.declared.event.Candidate.{Candidate}
 use Rattle.pooled_region.specs.Pool.{is_marked}
 use Rattle.pooled_region.proofs.Apart.{count_fits}
 use Rattle.pooled_region.proofs.pooled.CellsDevice.reserve.Goals as goal
