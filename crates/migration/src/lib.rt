@@ -10,3 +10,6 @@ mod plan;
 pub use kinds::wrong_line;
 pub use migrating::{migrate, migrate_read};
 pub use plan::{EVENTS, migration_event};
+
+#[cfg(test)]
+mod tests;
