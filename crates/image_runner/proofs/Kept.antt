@@ -35,6 +35,10 @@ sound_loaded words cells is sound = subst (λ (r : Region). IsSound r.size (newe
 pub shape_loaded : (words : List ℕ) (cells : Region) (shape : Shape) → cells ≡ loaded words → shape ≡ shape_of (slice_index words) → shape ≡ shape_of (newest_at cells)
 shape_loaded words cells shape is same = same ∙ sym (ap (λ (w : Words). shape_of w) (ap newest_at is ∙ reads_loaded words))
 
+-- what is said of the words is said of the device's
+pub of_loaded : (P : Words → Type 0) (words : List ℕ) (cells : Region) → cells ≡ loaded words → P (slice_index words) → P (newest_at cells)
+of_loaded P words cells is h = subst P (sym (ap newest_at is ∙ reads_loaded words)) h
+
 -- ---- its header stays
 
 list_words_low : (p : ℕ) → 8 ≤ list_words p

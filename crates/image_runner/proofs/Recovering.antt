@@ -1,12 +1,11 @@
 -- What the end of a recovery says of the image that was loaded.
-use Rattle.std.proofs.Common.{◌≡◌, ℕ, ◌+◌, ◌≤◌, List, length, refl, sym, ◌∙◌, ap, subst, arith}
-use Rattle.persist_model.specs.ImageRules.{rule_number}
+use Rattle.std.proofs.Common.{◌≡◌, ℕ, ◌+◌, ◌≤◌, List, length, refl, sym, ◌∙◌, ap, subst, arith, Err}
 use Rattle.persist_model.specs.Region.{Words, Region, AreSettled, loaded, newest_words}
 use Rattle.persist_model.specs.Shape.{Shape, shape_of, heap}
+use Rattle.persist_model.specs.Faults.{IsFirstFault}
 use Rattle.persist_model.proofs.Images.{AreFull, length-newest_words}
 use Rattle.lane_traits.specs.Device.{Counts, counted, since_load, MAX_WORDS}
 use Rattle.region_layout.specs.declared.layout.Kind.{Kind}
-use Rattle.region_layout.specs.declared.reading.ImageFault.{ImageFault}
 use Rattle.image_text.specs.declared.image.Image.{Image}
 use Rattle.image_text.specs.Written.{IsWritable}
 use Rattle.image_text.specs.Grammar.{IsImageText}
@@ -14,41 +13,22 @@ use Rattle.recovery_run.specs.Edges.{KeepsWords, IsPlainHeaderWord}
 use Rattle.recovery_run.specs.Reached.{newest_at}
 use Rattle.recovery_passes.specs.declared.recovering.Recovered.{Recovered}
 use Rattle.recovery_passes.specs.Recovered.{IsFinished, Restores, EachStands, AreFates, AreFew}
+use Rattle.recovery_passes.specs.Recovery.{HasFinished, HasHalted, IsRecoveryOfSound, KeepsHeader}
 use Rattle.image_runner.specs.declared.runner.Wanted.{Wanted}
 use Rattle.image_runner.specs.declared.runner.Wanted.TheVariants as want
 use Rattle.image_runner.specs.declared.runner.Ended.{Ended}
 use Rattle.image_runner.specs.declared.runner.Ended.TheVariants as ended
-use Rattle.image_runner.specs.Ends.{AreStanding, words_of, IsAdmitted, IsRefusedBy, IsLoaded, IsRecovered, EachRecoversAs, WasRecovered, IsTold, IsHalted, unmade, behind, IsEndOfImage}
+use Rattle.image_runner.specs.Ends.{AreStanding, words_of, IsAdmitted, IsRefusedBy, unsound, IsLoaded, IsRecovered, EachRecoversAs, WasRecovered, IsTold, IsHalted, unmade, behind, IsEndOfImage}
 use Rattle.recovery_passes.specs.declared.recovering.Unfinished.{Unfinished}
 use Rattle.recovery_passes.specs.declared.recovering.Unfinished.TheVariants as failed
 use Rattle.sound_check.specs.declared.fault.CheckFault.{CheckFault}
 use Rattle.sound_check.specs.declared.fault.CheckFault.TheVariants as refusal
+use Rattle.sound_check.specs.Faulty.{IfUnsound}
 use Rattle.image_runner.specs.Tells.{end_of_refusal, end_of_fault, Tells, TellsText}
 use Rattle.image_runner.proofs.Kept.{reads_loaded, same_standing, recovered_by}
 use Rattle.image_runner.proofs.Again.{each_recovers}
 use Rattle.image_runner.proofs.Contents.{AreSameFrom, hold_there, broken_there}
 use Rattle.image_text.proofs.Meanings.{written_reads}
-
--- what a finished recovery owes
-pub record HasFinished (cells later : Region) (counts later_counts : Counts) (done : Recovered) : Type 0 where
-  pub fates : AreFates (newest_at cells) done.winners done.losers
-  pub restored : Restores (newest_at cells) (newest_at later)
-  pub settled : AreSettled later
-  pub finished : IsFinished later.size (newest_at later)
-  pub size : later.size ≡ cells.size
-  pub events : later_counts ≡ record counts { events = counts.events + done.events }
-  pub few : AreFew (newest_at cells) done.events
-  pub again : IsFinished cells.size (newest_at cells) → done.events ≡ 0
-  pub header : KeepsWords (IsPlainHeaderWord (shape_of (newest_at cells))) cells later
-
--- what a stopped one owes
-pub record HasHalted (cells later : Region) (counts later_counts : Counts) : Type 0 where
-  pub stands : EachStands (newest_at cells) later
-  pub counted_is : later_counts ≡ record counts { events = counts.budget; stopped = counted counts.stopped }
-  pub early : (n : ℕ) → counts.events + n ≡ counts.budget → AreFew (newest_at cells) (n + 1)
-  pub unfinished : IsFinished cells.size (newest_at cells) → ⊥
-  pub size : later.size ≡ cells.size
-  pub header : KeepsWords (IsPlainHeaderWord (shape_of (newest_at cells))) cells later
 
 module _ (i : Image) (cells later : Region) (before counts later_counts : Counts) (is_loaded : cells ≡ loaded i.words) (since : counts ≡ since_load before) (admitted : IsAdmitted i) where
   reads : newest_at cells ≡ words_of i
@@ -60,42 +40,37 @@ module _ (i : Image) (cells later : Region) (before counts later_counts : Counts
   back : (P : ℕ → Words → Type 0) → P (length i.words) (words_of i) → P cells.size (newest_at cells)
   back P h = subst (λ (w : Words). P cells.size w) (sym reads) (subst (λ n. P n (words_of i)) (sym (ap (λ (r : Region). r.size) is_loaded)) h)
 
-  header_there : KeepsWords (IsPlainHeaderWord (shape_of (newest_at cells))) cells later → KeepsWords (IsPlainHeaderWord (shape_of (words_of i))) (loaded i.words) later
+  header_there : KeepsHeader cells later → KeepsWords (IsPlainHeaderWord (shape_of (words_of i))) (loaded i.words) later
   header_there header = subst (λ (r : Region). KeepsWords (IsPlainHeaderWord (shape_of (words_of i))) r later) is_loaded
-      (there (λ n w. KeepsWords (IsPlainHeaderWord (shape_of w)) cells later) header)
+      (there (λ n w. KeepsWords (IsPlainHeaderWord (shape_of w)) cells later) header.words)
 
-  again_by : later.size ≡ cells.size → KeepsWords (IsPlainHeaderWord (shape_of (newest_at cells))) cells later → EachStands (words_of i) later → EachRecoversAs i later
-  again_by size header stands = each_recovers i later admitted (size ∙ ap (λ (r : Region). r.size) is_loaded) (header_there header) stands
+  again_by : KeepsHeader cells later → EachStands (words_of i) later → EachRecoversAs i later
+  again_by header stands = each_recovers i later admitted (header.size ∙ ap (λ (r : Region). r.size) is_loaded) (header_there header) stands
 
-  pub halted_end : HasHalted cells later counts later_counts → IsHalted i before later later_counts
-  halted_end h = record {
+  halted_end : KeepsHeader cells later → HasHalted cells counts later later_counts → IsHalted i before later later_counts
+  halted_end header h = record {
     admitted = admitted;
     stands = there (λ n w. EachStands w later) h.stands;
-    counted = h.counted_is ∙ ap (λ (c : Counts). record c { events = c.budget; stopped = counted c.stopped }) since;
+    counted = h.stopped ∙ ap (λ (c : Counts). record c { events = c.budget; stopped = counted c.stopped }) since;
     early = λ n e. there (λ m w. AreFew w (n + 1)) (h.early n (ap (λ (c : Counts). c.events + n) since ∙ e ∙ sym (ap (λ (c : Counts). c.budget) since)));
     unfinished = λ finished. h.unfinished (back IsFinished finished);
-    again = again_by h.size h.header (there (λ n w. EachStands w later) h.stands);
+    again = again_by header (there (λ n w. EachStands w later) h.stands);
   }
 
-  -- what is promised of a recovery that wasn't finished, whatever its fault
-  pub record HasFailed (fault : Unfinished) : Type 0 where
-    pub memory_cells : fault ≡ failed.NoMemory → later ≡ cells
-    pub memory_counts : fault ≡ failed.NoMemory → later_counts ≡ counts
-    pub halted : fault ≡ failed.Stopped → HasHalted cells later counts later_counts
+  pub failed_end : (wanted : Wanted) (region : Region) (fault : Unfinished) → KeepsHeader cells later → IsRecoveryOfSound cells counts later later_counts (Err fault)
+      → IsEndOfImage wanted i region before later later_counts (end_of_fault fault)
+  failed_end wanted region failed.Stopped header h = halted_end header h
+  failed_end wanted region failed.NoMemory header h = unmade (record { words = h.cells ∙ is_loaded; unmade = h.unmade ∙ since })
 
-  pub failed_end : (wanted : Wanted) (region : Region) (fault : Unfinished) → HasFailed fault → IsEndOfImage wanted i region before later later_counts (end_of_fault fault)
-  failed_end wanted region failed.Stopped h = halted_end (h.halted refl)
-  failed_end wanted region failed.NoMemory h = unmade (record { words = h.memory_cells refl ∙ is_loaded; unmade = h.memory_counts refl ∙ since })
-
-  module _ (full : AreFull later) (done : Recovered) (h : HasFinished cells later counts later_counts done) where
+  module _ (full : AreFull later) (done : Recovered) (header : KeepsHeader cells later) (h : HasFinished cells counts later later_counts done) where
     size_is : later.size ≡ length i.words
-    size_is = h.size ∙ ap (λ (r : Region). r.size) is_loaded
+    size_is = header.size ∙ ap (λ (r : Region). r.size) is_loaded
 
     restored_is : Restores (words_of i) (newest_at later)
     restored_is = there (λ n w. Restores w (newest_at later)) h.restored
 
     header_is : KeepsWords (IsPlainHeaderWord (shape_of (words_of i))) (loaded i.words) later
-    header_is = header_there h.header
+    header_is = header_there header
 
     pub recovered_is : IsRecovered (words_of i) later
     recovered_is = recovered_by i.words later full size_is admitted.sound header_is restored_is h.settled h.finished
@@ -110,7 +85,7 @@ module _ (i : Image) (cells later : Region) (before counts later_counts : Counts
         few = there (λ n w. AreFew w done.events) h.few;
         again = λ finished. h.again (back IsFinished finished);
       };
-      again = again_by h.size h.header recovered_is.each;
+      again = again_by header recovered_is.each;
     }
 
     same_words : (z : Words) → AreStanding (words_of i) z → AreSameFrom (heap (shape_of (words_of i))) (newest_at later) z
@@ -151,11 +126,16 @@ module _ (i : Image) (cells later : Region) (before counts later_counts : Counts
       told_end wanted region ended.NoMemory h = behind was
       told_end wanted region (ended.Done text) h = record { recovery = was; told = told_text wanted text h }
 
+-- the first rule that a check found broken refuses the image
+pub refused_by : (i : Image) (why : CheckFault) → IfUnsound why (IsFirstFault (length i.words) (words_of i)) → IfUnsound why (IsRefusedBy i)
+refused_by i (refusal.Unsound found) h = unsound h
+refused_by i refusal.NoMemory h = tt
+
 -- an image that was refused
 pub refused_end : (wanted : Wanted) (i : Image) (region later : Region) (counts later_counts : Counts) (why : CheckFault) → IsLoaded i counts later later_counts
-    → ((found : ImageFault) → why ≡ refusal.Unsound found → IsRefusedBy i (rule_number found.rule) found.address) → IsEndOfImage wanted i region counts later later_counts (end_of_refusal why)
-refused_end wanted i region later counts later_counts (refusal.Unsound found) is_loaded first = (first found refl, is_loaded)
-refused_end wanted i region later counts later_counts refusal.NoMemory is_loaded first = unmade is_loaded
+    → IfUnsound why (IsRefusedBy i) → IsEndOfImage wanted i region counts later later_counts (end_of_refusal why)
+refused_end wanted i region later counts later_counts (refusal.Unsound found) is_loaded by = (by, is_loaded)
+refused_end wanted i region later counts later_counts refusal.NoMemory is_loaded by = unmade is_loaded
 
 pub tells_by : (wanted : Wanted) (shape shape' : Shape) (kinds kinds' : List Kind) (done : Recovered) (words words' : List ℕ) (end : Ended)
     → shape ≡ shape' → kinds ≡ kinds' → words ≡ words' → Tells wanted (heap shape) kinds done words end → Tells wanted (heap shape') kinds' done words' end

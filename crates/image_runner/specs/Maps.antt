@@ -1,5 +1,5 @@
 -- The maps of a region's structures, and the first structure whose words are none.
-use Rattle.std.specs.Prelude.{◌≡◌, ℕ, ◌+◌, List, [], ◌∷◌, take, map, Some}
+use Rattle.std.specs.Prelude.{◌≡◌, ℕ, ◌+◌, List, [], ◌∷◌, take, map, Some, Result, Ok, Err}
 use Rattle.std.specs.List.{slice_get}
 use Rattle.persist_model.specs.Region.{Words}
 use Rattle.lane_traits.specs.declared.words.Pair.{Pair}
@@ -9,6 +9,8 @@ use Rattle.region_layout.specs.HeapBlocks.{root_of}
 use Rattle.region_layout.specs.Contents.{IsMapOf}
 use Rattle.region_layout.specs.Contents.{IsMap}
 use Rattle.rewind_script.specs.declared.report.PairList.{PairList}
+use Rattle.image_runner.specs.declared.maps.MapFault.{MapFault}
+use Rattle.image_runner.specs.declared.maps.MapFault.TheVariants as fault
 
 abbrev pub entry_of : Pair → ℕ × ℕ
 entry_of pair = (pair.key, pair.value)
@@ -16,6 +18,17 @@ entry_of pair = (pair.key, pair.value)
 -- the entries that the pairs are
 abbrev pub entries_of : List Pair → FiniteMap
 entries_of pairs = map entry_of pairs
+
+-- The structure holds no map of this kind, and a is its root block.
+pub record HoldsNone (kind : Kind) (heap : ℕ) (w : Words) (structure a : ℕ) : Type 0 where
+  pub none : IsMap kind heap w structure → ⊥
+  pub root : a ≡ root_of heap structure
+
+-- what was read of a structure of this kind: the pairs of its map, or the root block where it holds none
+abbrev pub ReadsMap : Kind → ℕ → Words → ℕ → Result (List Pair) MapFault → Type 0
+ReadsMap kind heap w structure (Ok pairs) = IsMapOf kind heap w structure (entries_of pairs)
+ReadsMap kind heap w structure (Err (fault.At a)) = HoldsNone kind heap w structure a
+ReadsMap kind heap w structure (Err fault.NoMemory) = Unit {0}
 
 -- the structures of these kinds, the first of which is s, hold these maps
 abbrev pub HoldFrom : ℕ → Words → ℕ → List Kind → List PairList → Type 0

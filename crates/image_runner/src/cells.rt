@@ -2,6 +2,7 @@
 ghost use Rattle.std.specs.Prelude.{◌≡◌, ◌≢◌, ◌↔◌, ◌+◌, ◌*◌, ◌<◌, ◌≤◌, ℕ, length, slice_index, IsTrue, IfOk};
 ghost use Rattle.persist_model.specs.Shape.{heap, block, words_of_shape};
 ghost use Rattle.region_layout.specs.Layout.{layout_shape};
+ghost use Rattle.region_layout.specs.CellsMap.{CELL_KEYS as keys_of_cells};
 ghost use Rattle.image_runner.specs.Cells.{OwnsRootAlone, AreCellsBelow, with_cell};
 ghost use Rattle.lane_traits.specs.Device.{MAX_WORDS};
 
@@ -45,7 +46,7 @@ pub(crate) fn pairs_of_cells<L: Look>(
 ) -> Result<List<Pair>, NoMemory>
     requires inside { root + 16 ≤ length (L.words words.now) }
     requires small { length (L.words words.now) ≤ MAX_WORDS }
-    ensures { IfOk result (λ pairs. AreCellsBelow 12 (slice_index (L.words words.now)) root pairs) }
+    ensures { IfOk result (λ pairs. AreCellsBelow keys_of_cells (slice_index (L.words words.now)) root pairs) }
 {
     let mut pairs = List::new(alloc);
     for key in 0..CELL_KEYS {

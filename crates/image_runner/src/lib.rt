@@ -2,7 +2,6 @@
 #![tactic(auto)]
 
 mod cells;
-mod checking;
 pub mod laws;
 mod map_lines;
 mod maps;

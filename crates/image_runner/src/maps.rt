@@ -1,11 +1,9 @@
 //! What the structures of a region hold.
 ghost use Rattle.std.specs.Prelude.{◌≡◌, ◌<◌, ◌≤◌, ◌++◌, ◌∷◌, [], ℕ, Err, length, slice_index, IfOk, OnOk};
-ghost use Rattle.persist_model.specs.Shape.{heap, block, words_of_shape};
+ghost use Rattle.persist_model.specs.Shape.{heap, words_of_shape};
 ghost use Rattle.region_layout.specs.Layout.{layout_shape};
-ghost use Rattle.region_layout.specs.Contents.{IsMapOf};
 ghost use Rattle.region_layout.specs.declared.layout.Kind.TheVariants as kind;
-ghost use Rattle.region_layout.specs.Contents.{IsMap};
-ghost use Rattle.image_runner.specs.Maps.{entries_of, HoldMaps, IsFirstBroken};
+ghost use Rattle.image_runner.specs.Maps.{ReadsMap, HoldMaps, IsFirstBroken};
 
 use crate::cells::{owns_root_alone, pairs_of_cells};
 use crate::reader::words_of_structure;
@@ -42,9 +40,7 @@ fn read_cells<L: Look>(
 ) -> Result<List<Pair>, MapFault>
     requires long { length (L.words words.now) ≡ words_of_shape (layout_shape layout) }
     requires structure { structure < layout.structures }
-    ensures read { IfOk result (λ pairs. IsMapOf kind.Cells (heap (layout_shape layout)) (slice_index (L.words words.now)) structure (entries_of pairs)) }
-    ensures root { (at : ℕ) → result ≡ Err (MapFault.At at) → at ≡ block (layout_shape layout) structure }
-    ensures broken { (at : ℕ) → result ≡ Err (MapFault.At at) → IsMap kind.Cells (heap (layout_shape layout)) (slice_index (L.words words.now)) structure → ⊥ }
+    ensures { ReadsMap kind.Cells (heap (layout_shape layout)) (slice_index (L.words words.now)) structure result }
 {
     let root = layout.block(structure);
     if !owns_root_alone(words, layout, structure) {
@@ -61,9 +57,7 @@ fn read_tree<L: Look>(
 ) -> Result<List<Pair>, MapFault>
     requires long { length (L.words words.now) ≡ words_of_shape (layout_shape layout) }
     requires structure { structure < layout.structures }
-    ensures read { IfOk result (λ pairs. IsMapOf kind.Tree (heap (layout_shape layout)) (slice_index (L.words words.now)) structure (entries_of pairs)) }
-    ensures root { (at : ℕ) → result ≡ Err (MapFault.At at) → at ≡ block (layout_shape layout) structure }
-    ensures broken { (at : ℕ) → result ≡ Err (MapFault.At at) → IsMap kind.Tree (heap (layout_shape layout)) (slice_index (L.words words.now)) structure → ⊥ }
+    ensures { ReadsMap kind.Tree (heap (layout_shape layout)) (slice_index (L.words words.now)) structure result }
 {
     let root = layout.block(structure);
     match persist_tree::sound(words, layout, structure) {
@@ -82,9 +76,7 @@ fn read_hash<L: Look>(
 ) -> Result<List<Pair>, MapFault>
     requires long { length (L.words words.now) ≡ words_of_shape (layout_shape layout) }
     requires structure { structure < layout.structures }
-    ensures read { IfOk result (λ pairs. IsMapOf kind.Hash (heap (layout_shape layout)) (slice_index (L.words words.now)) structure (entries_of pairs)) }
-    ensures root { (at : ℕ) → result ≡ Err (MapFault.At at) → at ≡ block (layout_shape layout) structure }
-    ensures broken { (at : ℕ) → result ≡ Err (MapFault.At at) → IsMap kind.Hash (heap (layout_shape layout)) (slice_index (L.words words.now)) structure → ⊥ }
+    ensures { ReadsMap kind.Hash (heap (layout_shape layout)) (slice_index (L.words words.now)) structure result }
 {
     match persist_hash::sound(alloc, words, layout, structure) {
         Err(persist_hash::Broken::At(root)) => return Err(MapFault::At(root)),
@@ -105,9 +97,7 @@ fn read_map<L: Look>(
 ) -> Result<List<Pair>, MapFault>
     requires long { length (L.words words.now) ≡ words_of_shape (layout_shape layout) }
     requires structure { structure < layout.structures }
-    ensures read { IfOk result (λ pairs. IsMapOf kind (heap (layout_shape layout)) (slice_index (L.words words.now)) structure (entries_of pairs)) }
-    ensures root { (at : ℕ) → result ≡ Err (MapFault.At at) → at ≡ block (layout_shape layout) structure }
-    ensures broken { (at : ℕ) → result ≡ Err (MapFault.At at) → IsMap kind (heap (layout_shape layout)) (slice_index (L.words words.now)) structure → ⊥ }
+    ensures { ReadsMap kind (heap (layout_shape layout)) (slice_index (L.words words.now)) structure result }
 {
     match kind {
         Kind::Cells => read_cells(alloc, words, layout, structure),

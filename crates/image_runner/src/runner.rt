@@ -1,25 +1,24 @@
 //! Recovers the image of a text on a device.
-ghost use Rattle.std.specs.Prelude.{◌≡◌, ◌≢◌, ◌≤◌, ℕ, Err, length, slice_index, OnOk, IfOk};
-ghost use Rattle.persist_model.specs.ImageRules.{rule_number};
+ghost use Rattle.std.specs.Prelude.{◌≡◌, ◌≢◌, ◌≤◌, length, slice_index, OnOk, IfOk, IfErr};
 ghost use Rattle.persist_model.specs.Region.{Region, loaded};
 ghost use Rattle.persist_model.specs.Shape.{heap, shape_of, words_of_shape};
 ghost use Rattle.lane_traits.specs.Device.{Counts, since_load};
 ghost use Rattle.region_layout.specs.Layout.{layout_shape};
 ghost use Rattle.image_text.specs.Grammar.{IsTextOf};
 ghost use Rattle.image_text.specs.Written.{IsWritable};
+ghost use Rattle.sound_check.specs.Faulty.{IfUnsound};
+ghost use Rattle.recovery_passes.specs.Reading.{IsLogRead};
 ghost use Rattle.image_runner.specs.Ends.{words_of, IsAdmitted, IsRefusedBy, EachRecoversAs, IsEndOfImage, IsEndOf};
 ghost use Rattle.image_runner.specs.Tells.{Tells, end_of_refusal, end_of_fault};
 
-use crate::checking::check;
 use crate::map_lines::wrong_line;
 use crate::maps::{MapFault, read_maps};
 use image_text::{Image, TextFault, read_image, write_image};
 use lane_traits::Device;
 use persist_model::{List, Look, NoMemory};
-use recovery_passes::{Recovered, Unfinished, recover_sound};
+use recovery_passes::{CheckFault, Recovered, SoundLog, Unfinished, read_sound, recover_read};
 use region_layout::{ImageFault, Kind, Layout};
 use rewind_script::{RecoveryReport, write_recovery};
-use sound_check::CheckFault;
 use std::alloc::Global;
 
 /// What is to be told of a recovery.
@@ -56,11 +55,11 @@ pub fn recover_text<D: Device>(alloc: Global, text: &[u8], wanted: Wanted, regio
     // Whatever it leaves of an image that it recovers or begins to recover can be recovered again, in this one's place.
     ensures recovered_again { (i : Image) → IsTextOf text.now i → IsAdmitted i → result ≢ Ended.NoMemory → EachRecoversAs i (D.cells region.new) }
 {
-    recover_read(alloc, text, wanted, region)
+    read_and_recover(alloc, text, wanted, region)
 }
 
 /// Recovers the image that a text says.
-fn recover_read<D: Device>(alloc: Global, text: &[u8], wanted: Wanted, region: &mut D) -> Ended
+fn read_and_recover<D: Device>(alloc: Global, text: &[u8], wanted: Wanted, region: &mut D) -> Ended
     ensures { IsEndOf wanted text.now (D.cells region.old) (D.counts region.old) (D.cells region.new) (D.counts region.new) result }
 {
     match read_image(alloc, text) {
@@ -89,7 +88,7 @@ fn try_image<D: Device>(alloc: Global, image: &Image, wanted: Wanted, region: &m
 {
     match admit(alloc, &*region, image.kinds.as_slice()) {
         Err(refusal) => end_of_refusal(refusal),
-        Ok(layout) => recover_loaded(alloc, layout, image, wanted, region),
+        Ok(read) => recover_loaded(alloc, &read, image, wanted, region),
     }
 }
 
@@ -102,19 +101,19 @@ fn end_of_refusal(refusal: CheckFault) -> Ended
     }
 }
 
-/// The layout of a sound image whose `map` lines fit.
-fn admit<W: Look>(alloc: Global, words: &W, kinds: &[Kind]) -> Result<Layout, CheckFault>
+/// The layout and the records of a sound image whose `map` lines fit.
+fn admit<W: Look>(alloc: Global, words: &W, kinds: &[Kind]) -> Result<SoundLog, CheckFault>
     requires { length kinds.now ≤ 8 }
     ensures admitted { OnOk result (IsAdmitted (record { kinds = kinds.now; words = W.words words.now })) }
-    ensures shape { IfOk result (λ layout. layout_shape layout ≡ shape_of (slice_index (W.words words.now))) }
-    ensures refused { (found : ImageFault) → result ≡ Err (CheckFault.Unsound found)
-        → IsRefusedBy (record { kinds = kinds.now; words = W.words words.now }) (rule_number found.rule) found.address }
+    ensures shape { IfOk result (λ read. layout_shape read.layout ≡ shape_of (slice_index (W.words words.now))) }
+    ensures records { IfOk result (λ read. IsLogRead read.layout read.records (slice_index (W.words words.now))) }
+    ensures refused { IfErr result (λ refusal. IfUnsound refusal (IsRefusedBy (record { kinds = kinds.now; words = W.words words.now }))) }
 {
-    match check(alloc, words) {
+    match read_sound(alloc, words) {
         Err(refusal) => Err(refusal),
-        Ok(layout) => match wrong_line(words, kinds) {
+        Ok(read) => match wrong_line(words, kinds) {
             Some(found) => Err(CheckFault::Unsound(found)),
-            None => Ok(layout),
+            None => Ok(read),
         },
     }
 }
@@ -122,23 +121,24 @@ fn admit<W: Look>(alloc: Global, words: &W, kinds: &[Kind]) -> Result<Layout, Ch
 /// Recovers a device that has been loaded with a sound image, and tells what is wanted.
 fn recover_loaded<D: Device>(
     alloc: Global,
-    layout: Layout,
+    read: &SoundLog,
     image: &Image,
     wanted: Wanted,
     region: &mut D,
 ) -> Ended
     requires loaded { D.cells region.old ≡ loaded image.now.words }
     requires admitted { IsAdmitted image.now }
-    requires shape { layout_shape layout ≡ shape_of (words_of image.now) }
+    requires shape { layout_shape read.now.layout ≡ shape_of (words_of image.now) }
+    requires records { IsLogRead read.now.layout read.now.records (words_of image.now) }
     requires writable { IsWritable image.now.kinds image.now.words }
     ensures { (before : Region) (counts : Counts) → D.counts region.old ≡ since_load counts
         → IsEndOfImage wanted image.now before counts (D.cells region.new) (D.counts region.new) result }
 {
-    match recover_sound(alloc, region, layout) {
+    match recover_read(alloc, region, read.layout, read.records.as_slice()) {
         Err(fault) => end_of_fault(fault),
         Ok(done) => tell(
             alloc,
-            layout,
+            read.layout,
             image.kinds.as_slice(),
             done,
             wanted,

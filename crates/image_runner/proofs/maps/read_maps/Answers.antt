@@ -1,29 +1,29 @@
-use Rattle.std.proofs.Common.{◌≡◌, ℕ, ◌+◌, ◌++◌, ◌∷◌, [], List, slice_index, length, take, get_or, ap, subst, sym, ◌∙◌, arith, Result, Err}
+use Rattle.std.proofs.Common.{◌≡◌, ℕ, ◌+◌, ◌++◌, ◌∷◌, [], List, slice_index, length, take, get_or, ap, subst, sym, arith, Err}
 use Rattle.std.proofs.lemmas.List.{take_more, length-take-le}
 use Rattle.std.proofs.lemmas.Option.{slice_get-get_or}
-use Rattle.persist_model.specs.Shape.{heap, block}
+use Rattle.persist_model.specs.Shape.{heap}
 use Rattle.region_layout.specs.declared.layout.Kind.{Kind}
 use Rattle.region_layout.specs.declared.layout.Kind.TheVariants.{Cells}
 use Rattle.region_layout.specs.Layout.{layout_shape}
-use Rattle.region_layout.specs.Contents.{IsMap}
-use Rattle.lane_traits.specs.declared.words.Pair.{Pair}
 use Rattle.rewind_script.specs.declared.report.PairList.{PairList}
 use Rattle.image_runner.specs.declared.maps.MapFault.{MapFault}
 use Rattle.image_runner.specs.declared.maps.MapFault.TheVariants.{At}
-use Rattle.image_runner.specs.Maps.{HoldMaps}
+use Rattle.image_runner.specs.Maps.{HoldsNone, ReadsMap, HoldMaps}
 use Rattle.image_runner.proofs.MapSteps.{hold_push, are_maps}
 use Rattle.image_runner.proofs.maps.read_maps.Goals as goal
 
 pub returns-in-Err-clause-broken : goal.returns-in-Err-clause-broken
 returns-in-Err-clause-broken g c = λ at same.
-    let this : ◌≡◌ {A = Result (List Pair) MapFault} (Err c.in-Err.fault) (Err (At at)) = cc in record {
+    let kind : Kind = get_or c.args.kinds.now c.loop-kind.kind-index Cells in
+    let this : c.in-Err.fault ≡ At at = cc in
+    let held = subst (λ (s : ℕ). HoldsNone (get_or c.args.kinds.now c.loop-kind.kind-index Cells) (heap (layout_shape c.args.layout)) (slice_index (g.L.Look.words c.args.words.now)) s at) c.loop-kind.invariant.structure
+    (subst (λ (f : MapFault). ReadsMap (get_or c.args.kinds.now c.loop-kind.kind-index Cells) (heap (layout_shape c.args.layout)) (slice_index (g.L.Look.words c.args.words.now)) c.loop-kind.structure (Err f)) this c.in-Err.ensures) in record {
       structure = c.loop-kind.kind-index;
-      kind = get_or c.args.kinds.now c.loop-kind.kind-index Cells;
+      kind = kind;
       of = slice_get-get_or c.args.kinds.now c.loop-kind.kind-index Cells c.loop-kind-test.true;
       before = are_maps (heap (layout_shape c.args.layout)) (slice_index (g.L.Look.words c.args.words.now)) 0 (take c.loop-kind.kind-index c.args.kinds.now) c.loop-kind.maps c.loop-kind.invariant.hold;
-      broken = λ holds. c.in-Err.ensures.broken at this
-          (subst (λ (s : ℕ). IsMap (get_or c.args.kinds.now c.loop-kind.kind-index Cells) (heap (layout_shape c.args.layout)) (slice_index (g.L.Look.words c.args.words.now)) s) (sym c.loop-kind.invariant.structure) holds);
-      root = c.in-Err.ensures.root at this ∙ ap (block (layout_shape c.args.layout)) c.loop-kind.invariant.structure;
+      broken = held.none;
+      root = held.root;
     }
 
 pub loop-kind-preserved : goal.loop-kind-preserved
@@ -36,6 +36,6 @@ loop-kind-preserved g c =
           (subst (λ (ks : List Kind). HoldMaps (heap (layout_shape c.args.layout)) (slice_index (g.L.Look.words c.args.words.now)) ks (c.loop-kind.maps ++ record { pairs = c.in-Ok.pairs } ∷ []))
           (sym (take_more c.args.kinds.now c.loop-kind.kind-index Cells c.loop-kind-test.true))
           (hold_push (heap (layout_shape c.args.layout)) (slice_index (g.L.Look.words c.args.words.now)) 0 c.loop-kind.structure (take c.loop-kind.kind-index c.args.kinds.now) c.loop-kind.maps
-          (get_or c.args.kinds.now c.loop-kind.kind-index Cells) m (omega (arith, long, structure)) c.loop-kind.invariant.hold c.in-Ok.ensures.read));
+          (get_or c.args.kinds.now c.loop-kind.kind-index Cells) m (omega (arith, long, structure)) c.loop-kind.invariant.hold c.in-Ok.ensures));
       structure = ap (λ n. n + 1) structure;
     }

@@ -6,8 +6,11 @@ use Rattle.region_layout.specs.Contents.{IsMap}
 use Rattle.image_runner.proofs.MapSteps.{has_tree, tree_read}
 use Rattle.image_runner.proofs.maps.read_tree.Goals as goal
 
-pub returns-in-Err-clause-broken : goal.returns-in-Err-clause-broken
-returns-in-Err-clause-broken g c = λ at same h. c.in-Err.ensures.not_a_map (record { contents = h.contents; is = h.is })
+pub returns-in-Err : goal.returns-in-Err
+returns-in-Err g c = record {
+  none = λ h. c.in-Err.ensures.not_a_map (record { contents = h.contents; is = h.is });
+  root = c.block-root.ensures;
+}
 
 pub walk-requires : goal.walk-requires
 walk-requires g c =
@@ -15,8 +18,8 @@ walk-requires g c =
     let map : IsMap Tree (heap (layout_shape c.args.layout)) (slice_index (g.L.Look.words c.args.words.now)) c.args.structure = record { contents = held.contents; is = held.is } in
     has_tree (heap (layout_shape c.args.layout)) c.args.structure c.block-root.result (g.L.Look.words c.args.words.now) _ c.words_of_structure-tree.ensures c.block-root.ensures map
 
-pub returns-clause-read : goal.returns-clause-read
-returns-clause-read g c =
+pub returns : goal.returns
+returns g c =
     let held = c.in-Ok.ensures.ok in
     let map : IsMap Tree (heap (layout_shape c.args.layout)) (slice_index (g.L.Look.words c.args.words.now)) c.args.structure = record { contents = held.contents; is = held.is } in
     tree_read (heap (layout_shape c.args.layout)) c.args.structure c.block-root.result (g.L.Look.words c.args.words.now) _ c.words_of_structure-tree.ensures c.block-root.ensures

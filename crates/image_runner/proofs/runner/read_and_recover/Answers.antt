@@ -1,6 +1,6 @@
 use Rattle.std.proofs.Common.{◌∙◌, sym, ap, refl, subst, Err}
 use Rattle.image_text.specs.Grammar.{BreaksAt}
-use Rattle.image_runner.proofs.runner.recover_read.Goals as goal
+use Rattle.image_runner.proofs.runner.read_and_recover.Goals as goal
 
 pub returns-in-Err-Line : goal.returns-in-Err-Line
 returns-in-Err-Line g c =
