@@ -1,0 +1,4 @@
+pub mod Asked
+pub mod Opened
+pub mod Seconds
+pub mod Unrested

@@ -1,0 +1,149 @@
+//! Small images at rest, and what keeps others from it.
+use crate::{RestFault, check_rest};
+use std::alloc::Global;
+use std::test::Fail;
+use test_regions::Row;
+
+/// Values of words, by their addresses.
+type Words<'a> = &'a [(u32, u64)];
+
+/// Stands for `NotRecovered` among the numbers of rules.
+const NOT_RECOVERED: u32 = 10;
+
+/// Four buckets of one cell at 32, 48, 64 and 80, the heap at 96, 352 words in all. What is told of each: the number of the rule and
+/// its address, or twice 0.
+const CASES: [(Words<'static>, (u32, u32)); 7] = [
+    // No bucket is in the chain.
+    (
+        &[
+            (0, 0x5257_4e44_0000_0001),
+            (1, 1),
+            (2, 1),
+            (3, 4),
+            (4, 16),
+            (5, 1),
+            (96, 1),
+        ],
+        (0, 0),
+    ),
+    // One is, and its gate is closed.
+    (
+        &[
+            (0, 0x5257_4e44_0000_0001),
+            (1, 1),
+            (2, 1),
+            (3, 4),
+            (4, 16),
+            (5, 1),
+            (8, 32),
+            (9, 32),
+            (96, 1),
+        ],
+        (0, 0),
+    ),
+    // Two are.
+    (
+        &[
+            (0, 0x5257_4e44_0000_0001),
+            (1, 1),
+            (2, 1),
+            (3, 4),
+            (4, 16),
+            (5, 1),
+            (8, 32),
+            (9, 48),
+            (32, 48),
+            (49, 32),
+            (96, 1),
+        ],
+        (NOT_RECOVERED, 48),
+    ),
+    // A third is being put behind the first.
+    (
+        &[
+            (0, 0x5257_4e44_0000_0001),
+            (1, 1),
+            (2, 1),
+            (3, 4),
+            (4, 16),
+            (5, 1),
+            (8, 32),
+            (9, 32),
+            (10, 64),
+            (11, 32),
+            (65, 32),
+            (96, 1),
+        ],
+        (NOT_RECOVERED, 10),
+    ),
+    // One gate is open.
+    (
+        &[
+            (0, 0x5257_4e44_0000_0001),
+            (1, 1),
+            (2, 1),
+            (3, 4),
+            (4, 16),
+            (5, 1),
+            (8, 32),
+            (9, 32),
+            (40, 1),
+            (41, 1),
+            (42, 1),
+            (43, 103),
+            (45, 7),
+            (96, 1),
+        ],
+        (NOT_RECOVERED, 40),
+    ),
+    // Two are, the older one behind the other.
+    (
+        &[
+            (0, 0x5257_4e44_0000_0001),
+            (1, 1),
+            (2, 1),
+            (3, 4),
+            (4, 16),
+            (5, 1),
+            (8, 48),
+            (9, 32),
+            (33, 48),
+            (48, 32),
+            (40, 2),
+            (41, 2),
+            (42, 1),
+            (43, 104),
+            (45, 8),
+            (56, 1),
+            (57, 1),
+            (58, 1),
+            (59, 103),
+            (61, 7),
+            (96, 1),
+        ],
+        (NOT_RECOVERED, 40),
+    ),
+    // There is no region.
+    (&[], (1, 0)),
+];
+
+// What is told of these words.
+fn verdict(alloc: Global, words: Words) -> Result<(u32, u32), Fail> {
+    let row = Row::of(alloc, words, 352)?;
+    match check_rest(alloc, &row) {
+        Ok(_) => Ok((0, 0)),
+        Err(RestFault::Unsound(found)) => Ok((found.rule.number(), found.address)),
+        Err(RestFault::NotRecovered(address)) => Ok((NOT_RECOVERED, address)),
+        Err(RestFault::NoMemory) => Err("memory".into()),
+    }
+}
+
+#[test]
+fn small_images_are_told(rt: HostRuntime) -> Result<(), Fail> {
+    let alloc = rt.alloc();
+    for (words, wanted) in &CASES {
+        let found = verdict(alloc, words)?;
+        assert_eq!(rt; found, *wanted, "{words:?}");
+    }
+    Ok(())
+}
