@@ -15,3 +15,4 @@ pub mod Appending
 pub mod Promising
 pub mod StoreRows
 pub mod PushedCells
+pub mod Moving

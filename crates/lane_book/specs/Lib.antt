@@ -4,6 +4,7 @@ pub mod FacesOf
 pub mod Entries
 pub mod Steps
 pub mod Books
+pub mod Calls
 pub mod Locks
 pub mod Refusals
 pub mod Reserved

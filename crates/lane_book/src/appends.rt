@@ -1,16 +1,15 @@
 ghost use Rattle.std.specs.Prelude.{◌≡◌, ◌-◌, ◌+◌, ◌*◌, ◌<◌, ◌≤◌, ◌++◌, length, None};
-ghost use Rattle.lane_book.specs.Lanes.{moved, has_room, with_lane};
+ghost use Rattle.lane_book.specs.Lanes.{moved, has_room};
 ghost use Rattle.lane_book.specs.Stocked.{with_items};
 ghost use Rattle.lane_book.specs.FacesOf.{lane_at};
-ghost use Rattle.lane_book.specs.Steps.{Steps};
-ghost use Rattle.lane_book.specs.Books.{IsBook};
+ghost use Rattle.lane_book.specs.Calls.{IsCalling, Moves};
 ghost use Rattle.lane_book.specs.Reserved.{undo_cells};
 ghost use Rattle.lane_book.specs.Appends.{with_update, with_group, with_deletion, with_rollback, with_compensation, with_end, CanUpdate, CanGroup, CanDelete, CanRollBack, CanCompensate, CanEnd, Falls};
 
 use crate::book::Book;
 use crate::lane::Lane;
 use crate::stock::Stock;
-use lane_types::{Deed, Phase, Stepped};
+use lane_types::{Deed, Stepped};
 use region_layout::Cell;
 
 // Puts the cells at the end of the list, for which there is room.
@@ -84,14 +83,10 @@ impl<E> Lane<E> {
 impl<E: Deed> Book<E> {
     /// The update of a write or a take.
     pub fn update_stored(&mut self, lane: u32, update: Cell, part: u64) -> Stepped
-        requires lane { lane < length self.old.lanes.items }
-        requires calling { (lane_at self.old lane).phase ≡ Phase.Calling }
+        requires lane { IsCalling self.old lane }
         requires update { CanUpdate (lane_at self.old lane) }
-        requires book { IsBook self.old }
-        ensures is { self.new ≡ with_lane self.old lane (moved part (with_update update (lane_at self.old lane))) None }
-        ensures step { Steps E.meaning self.old self.new lane result }
+        ensures moves { Moves E.meaning self.old self.new lane None result (moved part (with_update update (lane_at self.old lane))) }
         ensures reserved { Falls 1 self.old self.new lane }
-        ensures book { IsBook self.new }
     {
         self.lanes[lane as usize].log_update(update, part);
         self.touched = None;
@@ -100,14 +95,10 @@ impl<E: Deed> Book<E> {
 
     /// A group of a batch's updates. `spare` are cells that were promised beside them and are let go.
     pub fn group_stored(&mut self, lane: u32, updates: &[Cell], spare: u64, part: u64) -> Stepped
-        requires lane { lane < length self.old.lanes.items }
-        requires calling { (lane_at self.old lane).phase ≡ Phase.Calling }
+        requires lane { IsCalling self.old lane }
         requires group { CanGroup (length updates.now) spare (lane_at self.old lane) }
-        requires book { IsBook self.old }
-        ensures is { self.new ≡ with_lane self.old lane (moved part (with_group updates.now spare (lane_at self.old lane))) None }
-        ensures step { Steps E.meaning self.old self.new lane result }
+        ensures moves { Moves E.meaning self.old self.new lane None result (moved part (with_group updates.now spare (lane_at self.old lane))) }
         ensures reserved { Falls (length updates.now + spare) self.old self.new lane }
-        ensures book { IsBook self.new }
     {
         self.lanes[lane as usize].log_group(updates, spare, part);
         self.touched = None;
@@ -116,14 +107,10 @@ impl<E: Deed> Book<E> {
 
     /// The deletion of a give, whose gate has this address.
     pub fn deletion_stored(&mut self, lane: u32, gate: u32, part: u64) -> Stepped
-        requires lane { lane < length self.old.lanes.items }
-        requires calling { (lane_at self.old lane).phase ≡ Phase.Calling }
+        requires lane { IsCalling self.old lane }
         requires deletion { CanDelete (lane_at self.old lane) }
-        requires book { IsBook self.old }
-        ensures is { self.new ≡ with_lane self.old lane (moved part (with_deletion gate (lane_at self.old lane))) None }
-        ensures step { Steps E.meaning self.old self.new lane result }
+        ensures moves { Moves E.meaning self.old self.new lane None result (moved part (with_deletion gate (lane_at self.old lane))) }
         ensures reserved { Falls 1 self.old self.new lane }
-        ensures book { IsBook self.new }
     {
         self.lanes[lane as usize].log_deletion(gate, part);
         self.touched = None;
@@ -132,14 +119,10 @@ impl<E: Deed> Book<E> {
 
     /// The rollback record of an abort.
     pub fn rollback_stored(&mut self, lane: u32, part: u64) -> Stepped
-        requires lane { lane < length self.old.lanes.items }
-        requires calling { (lane_at self.old lane).phase ≡ Phase.Calling }
+        requires lane { IsCalling self.old lane }
         requires rollback { CanRollBack (lane_at self.old lane) }
-        requires book { IsBook self.old }
-        ensures is { self.new ≡ with_lane self.old lane (moved part (with_rollback (lane_at self.old lane))) None }
-        ensures step { Steps E.meaning self.old self.new lane result }
+        ensures moves { Moves E.meaning self.old self.new lane None result (moved part (with_rollback (lane_at self.old lane))) }
         ensures reserved { Falls 1 self.old self.new lane }
-        ensures book { IsBook self.new }
     {
         self.lanes[lane as usize].log_rollback(part);
         self.touched = None;
@@ -148,14 +131,10 @@ impl<E: Deed> Book<E> {
 
     /// The compensation of the last update that stands.
     pub fn compensation_stored(&mut self, lane: u32, part: u64) -> Stepped
-        requires lane { lane < length self.old.lanes.items }
-        requires calling { (lane_at self.old lane).phase ≡ Phase.Calling }
+        requires lane { IsCalling self.old lane }
         requires compensation { CanCompensate (lane_at self.old lane) }
-        requires book { IsBook self.old }
-        ensures is { self.new ≡ with_lane self.old lane (moved part (with_compensation (lane_at self.old lane))) None }
-        ensures step { Steps E.meaning self.old self.new lane result }
+        ensures moves { Moves E.meaning self.old self.new lane None result (moved part (with_compensation (lane_at self.old lane))) }
         ensures reserved { Falls 1 self.old self.new lane }
-        ensures book { IsBook self.new }
     {
         self.lanes[lane as usize].log_compensation(part);
         self.touched = None;
@@ -164,14 +143,10 @@ impl<E: Deed> Book<E> {
 
     /// The end of a commit or an abort. What undoes the transaction and ends it is let go.
     pub fn end_stored(&mut self, lane: u32, part: u64) -> Stepped
-        requires lane { lane < length self.old.lanes.items }
-        requires calling { (lane_at self.old lane).phase ≡ Phase.Calling }
+        requires lane { IsCalling self.old lane }
         requires end { CanEnd (lane_at self.old lane) }
-        requires book { IsBook self.old }
-        ensures is { self.new ≡ with_lane self.old lane (moved part (with_end (lane_at self.old lane))) None }
-        ensures step { Steps E.meaning self.old self.new lane result }
+        ensures moves { Moves E.meaning self.old self.new lane None result (moved part (with_end (lane_at self.old lane))) }
         ensures reserved { Falls (undo_cells (lane_at self.old lane)) self.old self.new lane }
-        ensures book { IsBook self.new }
     {
         self.lanes[lane as usize].log_end(part);
         self.touched = None;

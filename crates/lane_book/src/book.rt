@@ -6,11 +6,12 @@ ghost use Rattle.lane_book.specs.Lanes.{point_at, noted, closed, moved, stored_o
 ghost use Rattle.lane_book.specs.FacesOf.{lane_at, plain_face, batch_of};
 ghost use Rattle.lane_book.specs.Steps.{Steps, StepsIf, HasEntry, HasEntered, IsNextStored, AreStored, CanTake, held_by};
 ghost use Rattle.lane_book.specs.Books.{IsBook};
+ghost use Rattle.lane_book.specs.Calls.{IsCalling, IsDoing, Moves};
 ghost use Rattle.lane_book.specs.declared.lane.Doing.TheVariants as Doing;
 
 use crate::lane::{Doing, Lane};
 use crate::stock::Stock;
-use lane_types::{Deed, Entry, Face, Phase, Reply, Stepped, What};
+use lane_types::{Deed, Entry, Face, Reply, Stepped, What};
 use offset_alloc::Blocks;
 use persist_model::List;
 
@@ -120,13 +121,9 @@ impl<E: Deed> Book<E> {
 
     /// The call waits for what another lane holds.
     pub fn wait(&mut self, lane: u32, what: What, holder: u32) -> Stepped
-        requires lane { lane < length self.old.lanes.items }
-        requires calling { (lane_at self.old lane).phase ≡ Phase.Calling }
-        requires book { IsBook self.old }
-        ensures is { self.new ≡ with_lane self.old lane (noted (Stepped.Waiting what holder) (lane_at self.old lane)) None }
+        requires { IsCalling self.old lane }
+        ensures moves { Moves E.meaning self.old self.new lane None result (noted (Stepped.Waiting what holder) (lane_at self.old lane)) }
         ensures result { result ≡ Stepped.Waiting what holder }
-        ensures step { Steps E.meaning self.old self.new lane result }
-        ensures book { IsBook self.new }
     {
         let answer = Stepped::Waiting { what, holder };
         self.note(lane, answer);
@@ -135,12 +132,8 @@ impl<E: Deed> Book<E> {
 
     /// The call goes on at this part of its plan.
     pub fn go_on(&mut self, lane: u32, part: u64) -> Stepped
-        requires lane { lane < length self.old.lanes.items }
-        requires calling { (lane_at self.old lane).phase ≡ Phase.Calling }
-        requires book { IsBook self.old }
-        ensures is { self.new ≡ with_lane self.old lane (moved part (lane_at self.old lane)) None }
-        ensures step { Steps E.meaning self.old self.new lane result }
-        ensures book { IsBook self.new }
+        requires { IsCalling self.old lane }
+        ensures { Moves E.meaning self.old self.new lane None result (moved part (lane_at self.old lane)) }
     {
         self.lanes[lane as usize].go_on(part);
         self.touched = None;
@@ -149,10 +142,7 @@ impl<E: Deed> Book<E> {
 
     /// A read is answered with the word.
     pub fn read(&mut self, lane: u32, a: u32, value: u64) -> Stepped
-        requires lane { lane < length self.old.lanes.items }
-        requires calling { (lane_at self.old lane).phase ≡ Phase.Calling }
-        requires doing { (lane_at self.old lane).doing ≡ Doing.Read a }
-        requires book { IsBook self.old }
+        requires { IsDoing (Doing.Read a) self.old lane }
         ensures is { self.new ≡ with_lane self.old lane (closed (Reply.Word value) (lane_at self.old lane)) None }
         ensures step { StepsIf (λ base. (held_by base self.old lane).word a ≡ Some value)
             E.meaning self.old self.new lane result }
@@ -175,11 +165,8 @@ impl<E: Deed> Book<E> {
 
     /// A write is answered, whose word is stored. `touched` is the word, where the value is another.
     pub fn written(&mut self, lane: u32, a: u32, v: u64, touched: Option<u32>) -> Stepped
-        requires lane { lane < length self.old.lanes.items }
-        requires calling { (lane_at self.old lane).phase ≡ Phase.Calling }
-        requires doing { (lane_at self.old lane).doing ≡ Doing.Write a v }
+        requires lane { IsDoing (Doing.Write a v) self.old lane }
         requires few { (lane_at self.old lane).stored < 2 ^ 62 }
-        requires book { IsBook self.old }
         ensures is { self.new ≡ with_lane self.old lane (closed Reply.Written (stored_one (lane_at self.old lane))) touched }
         ensures step { StepsIf (λ base. has_word (held_by base self.old lane) a ≡ true) E.meaning self.old self.new lane result }
         ensures book { IsBook self.new }
@@ -191,10 +178,7 @@ impl<E: Deed> Book<E> {
     /// A batch of so many writes is answered, all of which are stored. `touched` is the word of the one that was stored last,
     /// where the value is another.
     pub fn batched(&mut self, lane: u32, count: u64, touched: Option<u32>) -> Stepped
-        requires lane { lane < length self.old.lanes.items }
-        requires calling { (lane_at self.old lane).phase ≡ Phase.Calling }
-        requires doing { (lane_at self.old lane).doing ≡ Doing.Batch count }
-        requires book { IsBook self.old }
+        requires { IsDoing (Doing.Batch count) self.old lane }
         ensures is { self.new ≡ with_lane self.old lane (closed Reply.Written (stored_all (lane_at self.old lane))) touched }
         ensures step { StepsIf (λ base. has_all (held_by base self.old lane) (batch_of count (lane_at self.old lane)) ≡ true)
             E.meaning self.old self.new lane result }
@@ -207,12 +191,9 @@ impl<E: Deed> Book<E> {
 
     /// A take is answered, whose owner word at this address is stored.
     pub fn taken(&mut self, lane: u32, structure: u32, block: u32, a: u32) -> Stepped
-        requires lane { lane < length self.old.lanes.items }
-        requires calling { (lane_at self.old lane).phase ≡ Phase.Calling }
-        requires doing { (lane_at self.old lane).doing ≡ Doing.Take structure block }
+        requires lane { IsDoing (Doing.Take structure block) self.old lane }
         requires next { IsNextStored (lane_at self.old lane) (record { address = a; value = structure + 1 }) }
         requires few { (lane_at self.old lane).stored < 2 ^ 62 }
-        requires book { IsBook self.old }
         ensures is { self.new ≡ with_lane self.old lane (closed (Reply.Block block) (stored_one (lane_at self.old lane))) None }
         ensures step { StepsIf (CanTake self.old lane structure block a) E.meaning self.old self.new lane result }
         ensures book { IsBook self.new }
@@ -223,13 +204,8 @@ impl<E: Deed> Book<E> {
 
     /// A give is answered, whose record is in the log.
     pub fn given(&mut self, lane: u32, block: u32) -> Stepped
-        requires lane { lane < length self.old.lanes.items }
-        requires calling { (lane_at self.old lane).phase ≡ Phase.Calling }
-        requires doing { (lane_at self.old lane).doing ≡ Doing.Give block }
-        requires book { IsBook self.old }
-        ensures is { self.new ≡ with_lane self.old lane (closed Reply.Given (lane_at self.old lane)) None }
-        ensures step { Steps E.meaning self.old self.new lane result }
-        ensures book { IsBook self.new }
+        requires { IsDoing (Doing.Give block) self.old lane }
+        ensures { Moves E.meaning self.old self.new lane None result (closed Reply.Given (lane_at self.old lane)) }
     {
         self.close(lane, Reply::Given);
         Stepped::Answered(Reply::Given)
@@ -237,12 +213,9 @@ impl<E: Deed> Book<E> {
 
     /// A savepoint is made, for which there is room.
     pub fn save(&mut self, lane: u32) -> Stepped
-        requires lane { lane < length self.old.lanes.items }
-        requires calling { (lane_at self.old lane).phase ≡ Phase.Calling }
-        requires doing { (lane_at self.old lane).doing ≡ Doing.Savepoint }
+        requires lane { IsDoing Doing.Savepoint self.old lane }
         requires stored { AreStored (lane_at self.old lane) }
         requires room { length (lane_at self.old lane).points.items < (lane_at self.old lane).points.capacity }
-        requires book { IsBook self.old }
         ensures is { self.new ≡ with_lane self.old lane (saved (lane_at self.old lane)) None }
         ensures step { Steps E.meaning self.old self.new lane result }
         ensures book { IsBook self.new }
@@ -255,15 +228,10 @@ impl<E: Deed> Book<E> {
 
     /// A way back to a savepoint is answered: all that was written since is taken back in the device.
     pub fn rolled_back(&mut self, lane: u32, n: u64) -> Stepped
-        requires lane { lane < length self.old.lanes.items }
-        requires calling { (lane_at self.old lane).phase ≡ Phase.Calling }
-        requires doing { (lane_at self.old lane).doing ≡ Doing.RollbackTo n }
+        requires lane { IsDoing (Doing.RollbackTo n) self.old lane }
         requires inside { n < length (lane_at self.old lane).points.items }
         requires stored { (lane_at self.old lane).stored ≡ (point_at n (lane_at self.old lane)).writes }
-        requires book { IsBook self.old }
-        ensures is { self.new ≡ with_lane self.old lane (rolled_back n (lane_at self.old lane)) None }
-        ensures step { Steps E.meaning self.old self.new lane result }
-        ensures book { IsBook self.new }
+        ensures { Moves E.meaning self.old self.new lane None result (rolled_back n (lane_at self.old lane)) }
     {
         self.lanes[lane as usize].roll_back(n);
         self.touched = None;
@@ -272,13 +240,8 @@ impl<E: Deed> Book<E> {
 
     /// A checkpoint is answered.
     pub fn checkpointed(&mut self, lane: u32) -> Stepped
-        requires lane { lane < length self.old.lanes.items }
-        requires calling { (lane_at self.old lane).phase ≡ Phase.Calling }
-        requires doing { (lane_at self.old lane).doing ≡ Doing.Checkpoint }
-        requires book { IsBook self.old }
-        ensures is { self.new ≡ with_lane self.old lane (closed Reply.Checkpointed (lane_at self.old lane)) None }
-        ensures step { Steps E.meaning self.old self.new lane result }
-        ensures book { IsBook self.new }
+        requires { IsDoing Doing.Checkpoint self.old lane }
+        ensures { Moves E.meaning self.old self.new lane None result (closed Reply.Checkpointed (lane_at self.old lane)) }
     {
         self.close(lane, Reply::Checkpointed);
         Stepped::Answered(Reply::Checkpointed)
@@ -286,13 +249,8 @@ impl<E: Deed> Book<E> {
 
     /// An abort is answered.
     pub fn aborted(&mut self, lane: u32) -> Stepped
-        requires lane { lane < length self.old.lanes.items }
-        requires calling { (lane_at self.old lane).phase ≡ Phase.Calling }
-        requires doing { (lane_at self.old lane).doing ≡ Doing.Abort }
-        requires book { IsBook self.old }
-        ensures is { self.new ≡ with_lane self.old lane (left Reply.Aborted (lane_at self.old lane)) None }
-        ensures step { Steps E.meaning self.old self.new lane result }
-        ensures book { IsBook self.new }
+        requires { IsDoing Doing.Abort self.old lane }
+        ensures { Moves E.meaning self.old self.new lane None result (left Reply.Aborted (lane_at self.old lane)) }
     {
         self.leave(lane, Reply::Aborted);
         Stepped::Answered(Reply::Aborted)
@@ -300,13 +258,10 @@ impl<E: Deed> Book<E> {
 
     /// The entry of the commit joins the history, and the commit goes on at this part of its plan.
     pub fn join(&mut self, lane: u32, part: u64) -> Stepped
-        requires lane { lane < length self.old.lanes.items }
-        requires calling { (lane_at self.old lane).phase ≡ Phase.Calling }
-        requires doing { (lane_at self.old lane).doing ≡ Doing.Commit }
+        requires lane { IsDoing Doing.Commit self.old lane }
         requires entry { HasEntry lane (lane_at self.old lane) }
         requires few { (lane_at self.old lane).commits < 2 ^ 60 }
         requires room { length self.old.history.items < self.old.history.capacity }
-        requires book { IsBook self.old }
         ensures is { (e : Entry E) → (lane_at self.old lane).entry ≡ Some e
             → self.new ≡ with_history (self.old.history.items ++ e ∷ []) (with_lane self.old lane (moved part (entered_lane (lane_at self.old lane))) None) }
         ensures step { Steps E.meaning self.old self.new lane result }
@@ -321,14 +276,9 @@ impl<E: Deed> Book<E> {
 
     /// A commit whose entry has joined is answered.
     pub fn committed(&mut self, lane: u32) -> Stepped
-        requires lane { lane < length self.old.lanes.items }
-        requires calling { (lane_at self.old lane).phase ≡ Phase.Calling }
-        requires doing { (lane_at self.old lane).doing ≡ Doing.Commit }
+        requires lane { IsDoing Doing.Commit self.old lane }
         requires entered { HasEntered self.old lane }
-        requires book { IsBook self.old }
-        ensures is { self.new ≡ with_lane self.old lane (left Reply.Committed (lane_at self.old lane)) None }
-        ensures step { Steps E.meaning self.old self.new lane result }
-        ensures book { IsBook self.new }
+        ensures { Moves E.meaning self.old self.new lane None result (left Reply.Committed (lane_at self.old lane)) }
     {
         self.leave(lane, Reply::Committed);
         Stepped::Answered(Reply::Committed)
@@ -336,13 +286,10 @@ impl<E: Deed> Book<E> {
 
     /// The entry of a commit joins the history in the step that answers it.
     pub fn commit(&mut self, lane: u32) -> Stepped
-        requires lane { lane < length self.old.lanes.items }
-        requires calling { (lane_at self.old lane).phase ≡ Phase.Calling }
-        requires doing { (lane_at self.old lane).doing ≡ Doing.Commit }
+        requires lane { IsDoing Doing.Commit self.old lane }
         requires entry { HasEntry lane (lane_at self.old lane) }
         requires few { (lane_at self.old lane).commits < 2 ^ 60 }
         requires room { length self.old.history.items < self.old.history.capacity }
-        requires book { IsBook self.old }
         ensures is { (e : Entry E) → (lane_at self.old lane).entry ≡ Some e
             → self.new ≡ with_history (self.old.history.items ++ e ∷ []) (with_lane self.old lane (left Reply.Committed (entered_lane (lane_at self.old lane))) None) }
         ensures step { Steps E.meaning self.old self.new lane result }

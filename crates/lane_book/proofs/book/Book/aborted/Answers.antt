@@ -2,16 +2,16 @@ use Rattle.std.proofs.Common.{None}
 use Rattle.lane_book.specs.FacesOf.{lane_at}
 use Rattle.lane_types.specs.declared.call.Reply.TheVariants as Reply
 use Rattle.lane_types.specs.declared.call.Stepped.TheVariants as Stepped
-use Rattle.lane_book.proofs.Rows.{steps_at, abort_row}
-use Rattle.lane_book.proofs.Keeps.{keeps_lane, left_keeps}
+use Rattle.lane_book.proofs.Rows.{abort_row}
+use Rattle.lane_book.proofs.Keeps.{left_keeps}
+use Rattle.lane_book.specs.Lanes.{left}
+use Rattle.lane_book.proofs.Moving.{moves_so}
 use Rattle.lane_book.proofs.book.Book.aborted.Goals as goal
 
-pub returns-clause-step : goal.returns-clause-step
-returns-clause-step g c = steps_at g.E.Deed.meaning c.args.self.now _ _ c.args.lane (Stepped.Answered Reply.Aborted) c.leave.ensures
-    (abort_row g.E.Deed.meaning c.args.self.now c.args.lane c.requires.lane c.requires.calling c.requires.doing)
-
-pub returns-clause-book : goal.returns-clause-book
-returns-clause-book g c =
+pub returns : goal.returns
+returns g c =
     let book = c.args.self.now in
     let lane = lane_at book c.args.lane in
-    keeps_lane book _ c.args.lane _ None c.requires.lane c.leave.ensures c.requires.book (λ is. left_keeps _ _ lane)
+    moves_so g.E.Deed.meaning book _ c.args.lane None (Stepped.Answered Reply.Aborted) (left Reply.Aborted lane) c.requires.inside c.requires.kept c.leave.ensures
+    (abort_row g.E.Deed.meaning book c.args.lane c.requires.inside c.requires.calling c.requires.call)
+    (λ is. left_keeps _ _ lane)

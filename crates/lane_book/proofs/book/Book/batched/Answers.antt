@@ -16,17 +16,17 @@ returns-clause-is g c =
     let book = c.args.self.now in
     ap (λ (x : Lane _). with_lane book c.args.lane x c.args.touched)
     (c.store_all.ensures ∙ ap (λ (x : Lane _). closed Reply.Written (stored_all x))
-    (lane_read book c.args.lane c.index_mut.result.now c.requires.lane c.index_mut.ensures.value))
+    (lane_read book c.args.lane c.index_mut.result.now c.requires.inside c.index_mut.ensures.value))
 
 pub returns-clause-step : goal.returns-clause-step
 returns-clause-step g c =
     let book = c.args.self.now in
     steps_if_at _ g.E.Deed.meaning book _ _ c.args.lane (Stepped.Answered Reply.Written) (returns-clause-is g c)
-    (batch_row g.E.Deed.meaning book c.args.lane c.args.count c.args.touched c.requires.lane c.requires.calling c.requires.doing
-    (waiting_of _ (lane_at book c.args.lane) c.args.count c.requires.doing (c.requires.book c.args.lane)))
+    (batch_row g.E.Deed.meaning book c.args.lane c.args.count c.args.touched c.requires.inside c.requires.calling c.requires.call
+    (waiting_of _ (lane_at book c.args.lane) c.args.count c.requires.call (c.requires.kept c.args.lane)))
 
 pub returns-clause-book : goal.returns-clause-book
 returns-clause-book g c =
     let book = c.args.self.now in
-    keeps_lane book _ c.args.lane _ c.args.touched c.requires.lane (returns-clause-is g c) c.requires.book
-    (batched_keeps _ (lane_at book c.args.lane) (ap ends c.requires.doing))
+    keeps_lane book _ c.args.lane _ c.args.touched c.requires.inside (returns-clause-is g c) c.requires.kept
+    (batched_keeps _ (lane_at book c.args.lane) (ap ends c.requires.call))

@@ -10,7 +10,7 @@ returns-in-Some-clause-ends g c =
     let book = c.args.self.now in
     begin_waits book _ c.args.lane c.args.set c.in-Some.held.structure c.in-Some.held.lane _ c.wait.ensures.result
     (of_some (λ held. IsLeastHeld book c.args.set held.structure held.lane) c.holder.result c.in-Some.held c.in-Some.is c.holder.ensures.some)
-    c.wait.ensures.is
+    c.wait.ensures.moves.is
 
 pub returns-in-None-clause-ends : goal.returns-in-None-clause-ends
 returns-in-None-clause-ends g c =

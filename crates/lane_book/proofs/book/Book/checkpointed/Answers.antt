@@ -5,16 +5,17 @@ use Rattle.lane_traits.specs.declared.draft.WordWrite.{WordWrite}
 use Rattle.lane_book.specs.FacesOf.{lane_at}
 use Rattle.lane_types.specs.declared.call.Reply.TheVariants as Reply
 use Rattle.lane_types.specs.declared.call.Stepped.TheVariants as Stepped
-use Rattle.lane_book.proofs.Rows.{steps_at, checkpoint_row}
-use Rattle.lane_book.proofs.Keeps.{keeps_lane, closed_keeps}
+use Rattle.lane_book.proofs.Rows.{checkpoint_row}
+use Rattle.lane_book.proofs.Keeps.{closed_keeps}
+use Rattle.lane_book.specs.Lanes.{closed}
+use Rattle.lane_book.proofs.Moving.{moves_so}
 use Rattle.lane_book.proofs.book.Book.checkpointed.Goals as goal
 
-pub returns-clause-step : goal.returns-clause-step
-returns-clause-step g c = steps_at g.E.Deed.meaning c.args.self.now _ _ c.args.lane (Stepped.Answered Reply.Checkpointed) c.close.ensures
-    (checkpoint_row g.E.Deed.meaning c.args.self.now c.args.lane c.requires.lane c.requires.calling c.requires.doing)
-
-pub returns-clause-book : goal.returns-clause-book
-returns-clause-book g c =
+pub returns : goal.returns
+returns g c =
     let book = c.args.self.now in
     let lane = lane_at book c.args.lane in
-    keeps_lane book _ c.args.lane _ None c.requires.lane c.close.ensures c.requires.book (λ is. let cleared : IsEmptied lane = subst (IsAboutIt lane) c.requires.doing is.about in closed_keeps _ _ Doing.Checkpoint lane c.requires.doing refl is (cleared.stored_gone ∙ sym (ap (λ (ws : List WordWrite). length ws) cleared.writes_gone)) (λ e. cleared))
+    moves_so g.E.Deed.meaning book _ c.args.lane None (Stepped.Answered Reply.Checkpointed) (closed Reply.Checkpointed lane) c.requires.inside c.requires.kept c.close.ensures
+    (checkpoint_row g.E.Deed.meaning book c.args.lane c.requires.inside c.requires.calling c.requires.call)
+    (λ is. let cleared : IsEmptied lane = subst (IsAboutIt lane) c.requires.call is.about in
+    closed_keeps _ _ Doing.Checkpoint lane c.requires.call refl is (cleared.stored_gone ∙ sym (ap (λ (ws : List WordWrite). length ws) cleared.writes_gone)) (λ e. cleared))

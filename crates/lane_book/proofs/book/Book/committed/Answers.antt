@@ -2,16 +2,17 @@ use Rattle.std.proofs.Common.{None}
 use Rattle.lane_book.specs.FacesOf.{lane_at}
 use Rattle.lane_types.specs.declared.call.Reply.TheVariants as Reply
 use Rattle.lane_types.specs.declared.call.Stepped.TheVariants as Stepped
-use Rattle.lane_book.proofs.Rows.{steps_at, committed_row}
-use Rattle.lane_book.proofs.Keeps.{keeps_lane, left_keeps}
+use Rattle.lane_book.proofs.Rows.{committed_row}
+use Rattle.lane_book.proofs.Keeps.{left_keeps}
+use Rattle.lane_book.specs.Lanes.{left}
+use Rattle.lane_book.proofs.Moving.{moves_so}
 use Rattle.lane_book.proofs.book.Book.committed.Goals as goal
 
-pub returns-clause-step : goal.returns-clause-step
-returns-clause-step g c = steps_at g.E.Deed.meaning c.args.self.now _ _ c.args.lane (Stepped.Answered Reply.Committed) c.leave.ensures
-    (committed_row g.E.Deed.meaning c.args.self.now c.args.lane c.requires.lane c.requires.calling c.requires.doing c.requires.entered)
-
-pub returns-clause-book : goal.returns-clause-book
-returns-clause-book g c =
+pub returns : goal.returns
+returns g c =
     let book = c.args.self.now in
     let lane = lane_at book c.args.lane in
-    keeps_lane book _ c.args.lane _ None c.requires.lane c.leave.ensures c.requires.book (λ is. left_keeps _ _ lane)
+    moves_so g.E.Deed.meaning book _ c.args.lane None (Stepped.Answered Reply.Committed) (left Reply.Committed lane) c.requires.lane.inside c.requires.lane.kept
+    c.leave.ensures
+    (committed_row g.E.Deed.meaning book c.args.lane c.requires.lane.inside c.requires.lane.calling c.requires.lane.call c.requires.entered)
+    (λ is. left_keeps _ _ lane)

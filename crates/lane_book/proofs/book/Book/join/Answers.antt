@@ -12,7 +12,7 @@ use Rattle.lane_book.proofs.book.Book.join.Goals as goal
 pub returns-in-Some-clause-is : goal.returns-in-Some-clause-is
 returns-in-Some-clause-is g c =
     let book = c.args.self.now in
-    let read = lane_read book c.args.lane c.index_mut.result.now c.requires.lane c.index_mut.ensures.value in
+    let read = lane_read book c.args.lane c.index_mut.result.now c.requires.lane.inside c.index_mut.ensures.value in
     λ e has.
     let out = sym c.in-Some.is ∙ c.join.ensures.entry ∙ ap (λ (x : Lane _). x.entry) read ∙ has in
     let is : c.in-Some.entry ≡ e = cc in
@@ -20,13 +20,13 @@ returns-in-Some-clause-is g c =
     (c.push.ensures ∙ ap (λ (x : Entry _). with_items (book.history.items ++ x ∷ []) book.history) is)
 
 pub returns-in-Some-clause-step : goal.returns-in-Some-clause-step
-returns-in-Some-clause-step g c = join_row g.E.Deed.meaning c.args.self.now _ c.args.lane c.args.part c.requires.lane c.requires.calling c.requires.doing c.requires.entry (λ l. (c.requires.book l).behind)
+returns-in-Some-clause-step g c = join_row g.E.Deed.meaning c.args.self.now _ c.args.lane c.args.part c.requires.lane.inside c.requires.lane.calling c.requires.lane.call c.requires.entry (λ l. (c.requires.lane.kept l).behind)
     (returns-in-Some-clause-is g c)
 
 pub returns-in-Some-clause-book : goal.returns-in-Some-clause-book
 returns-in-Some-clause-book g c =
     let book = c.args.self.now in
-    let read = lane_read book c.args.lane c.index_mut.result.now c.requires.lane c.index_mut.ensures.value in
-    keeps_entered book _ c.args.lane _ c.in-Some.entry c.requires.lane
-    (returns-in-Some-clause-is g c c.in-Some.entry (sym (ap (λ (x : Lane _). x.entry) read) ∙ sym c.join.ensures.entry ∙ c.in-Some.is)) c.requires.book
+    let read = lane_read book c.args.lane c.index_mut.result.now c.requires.lane.inside c.index_mut.ensures.value in
+    keeps_entered book _ c.args.lane _ c.in-Some.entry c.requires.lane.inside
+    (returns-in-Some-clause-is g c c.in-Some.entry (sym (ap (λ (x : Lane _). x.entry) read) ∙ sym c.join.ensures.entry ∙ c.in-Some.is)) c.requires.lane.kept
     (λ is. moved_keeps _ _ _ (entered_keeps _ (lane_at book c.args.lane) is))

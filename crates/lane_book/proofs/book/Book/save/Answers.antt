@@ -9,10 +9,10 @@ use Rattle.lane_book.proofs.book.Book.save.Goals as goal
 pub returns-clause-is : goal.returns-clause-is
 returns-clause-is g c =
     let book = c.args.self.now in
-    ap (λ (x : Lane _). with_lane book c.args.lane x None) (c.save.ensures ∙ ap saved (lane_read book c.args.lane c.index_mut.result.now c.requires.lane c.index_mut.ensures.value))
+    ap (λ (x : Lane _). with_lane book c.args.lane x None) (c.save.ensures ∙ ap saved (lane_read book c.args.lane c.index_mut.result.now c.requires.lane.inside c.index_mut.ensures.value))
 
 pub returns-clause-book : goal.returns-clause-book
 returns-clause-book g c =
     let book = c.args.self.now in
     let lane = lane_at book c.args.lane in
-    keeps_lane book _ c.args.lane _ None c.requires.lane (returns-clause-is g c) c.requires.book (saved_keeps _ lane c.requires.doing)
+    keeps_lane book _ c.args.lane _ None c.requires.lane.inside (returns-clause-is g c) c.requires.lane.kept (saved_keeps _ lane c.requires.lane.call)

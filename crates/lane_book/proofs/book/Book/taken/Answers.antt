@@ -10,10 +10,10 @@ use Rattle.lane_book.proofs.book.Book.taken.Goals as goal
 
 pub returns-clause-step : goal.returns-clause-step
 returns-clause-step g c = steps_if_at _ g.E.Deed.meaning c.args.self.now _ _ c.args.lane (Stepped.Answered (Reply.Block c.args.block)) c.store.ensures
-    (take_row g.E.Deed.meaning c.args.self.now c.args.lane c.args.structure c.args.block c.args.a c.requires.lane c.requires.calling c.requires.doing c.requires.next)
+    (take_row g.E.Deed.meaning c.args.self.now c.args.lane c.args.structure c.args.block c.args.a c.requires.lane.inside c.requires.lane.calling c.requires.lane.call c.requires.next)
 
 pub returns-clause-book : goal.returns-clause-book
 returns-clause-book g c =
     let book = c.args.self.now in
     let lane = lane_at book c.args.lane in
-    keeps_lane book _ c.args.lane _ None c.requires.lane c.store.ensures c.requires.book (stored_keeps _ _ lane _ c.requires.next (λ e. cc) (ap ends c.requires.doing))
+    keeps_lane book _ c.args.lane _ None c.requires.lane.inside c.store.ensures c.requires.lane.kept (stored_keeps _ _ lane _ c.requires.next (λ e. cc) (ap ends c.requires.lane.call))

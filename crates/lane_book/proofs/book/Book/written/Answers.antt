@@ -10,10 +10,10 @@ use Rattle.lane_book.proofs.book.Book.written.Goals as goal
 
 pub returns-clause-step : goal.returns-clause-step
 returns-clause-step g c = steps_if_at _ g.E.Deed.meaning c.args.self.now _ _ c.args.lane (Stepped.Answered Reply.Written) c.store.ensures
-    (written_row g.E.Deed.meaning c.args.self.now c.args.lane c.args.a c.args.v c.args.touched c.requires.lane c.requires.calling c.requires.doing (next_of _ (lane_at c.args.self.now c.args.lane) c.args.a c.args.v c.requires.doing (c.requires.book c.args.lane)))
+    (written_row g.E.Deed.meaning c.args.self.now c.args.lane c.args.a c.args.v c.args.touched c.requires.lane.inside c.requires.lane.calling c.requires.lane.call (next_of _ (lane_at c.args.self.now c.args.lane) c.args.a c.args.v c.requires.lane.call (c.requires.lane.kept c.args.lane)))
 
 pub returns-clause-book : goal.returns-clause-book
 returns-clause-book g c =
     let book = c.args.self.now in
     let lane = lane_at book c.args.lane in
-    keeps_lane book _ c.args.lane _ c.args.touched c.requires.lane c.store.ensures c.requires.book (stored_keeps _ _ lane _ (next_of _ (lane_at c.args.self.now c.args.lane) c.args.a c.args.v c.requires.doing (c.requires.book c.args.lane)) (λ e. cc) (ap ends c.requires.doing))
+    keeps_lane book _ c.args.lane _ c.args.touched c.requires.lane.inside c.store.ensures c.requires.lane.kept (stored_keeps _ _ lane _ (next_of _ (lane_at c.args.self.now c.args.lane) c.args.a c.args.v c.requires.lane.call (c.requires.lane.kept c.args.lane)) (λ e. cc) (ap ends c.requires.lane.call))
