@@ -1,23 +1,22 @@
 -- The definitions on small literal data: two partitions of four buckets with one cell each. Transaction 1 has an update at 40 and an end at 56, and
 -- transaction 2 a deletion at 72; lane 5 appends an update of transaction 3 in the second partition, at 104.
-use Rattle.std.proofs.Common.{◌≡◌, ◌≢◌, ◌⊎◌, inl, inr, ℕ, zero, suc, ◌<◌, ◌==◌, if◌then◌else◌, true, false, List, [], ◌∷◌, length, Some, None, slice_get, refl, sym, ap, subst, arith}
+use Rattle.std.proofs.Common.{◌≡◌, ◌≢◌, inl, inr, ℕ, zero, suc, ◌<◌, ◌==◌, if◌then◌else◌, true, false, List, [], ◌∷◌, length, Some, slice_get, refl, sym, subst, arith}
 use Rattle.persist_model.specs.declared.event.Event.TheVariants.{PStore, Fence}
-use Rattle.persist_model.specs.Records.{Record, Log, IsAmong, IsOf, IsEnd}
+use Rattle.persist_model.specs.Records.{Record, Log, IsAmong}
 use Rattle.persist_model.specs.Shape.{Shape}
 use Rattle.atomic_list.specs.declared.plans.Remove.{Remove}
-use Rattle.region_layout.specs.declared.cell.Cell.{Cell}
 use Rattle.bucket_log.specs.declared.append.Place.{Place}
 use Rattle.bucket_log.specs.declared.scanning.Placed.{Placed}
 use Rattle.log_clearing.specs.Closed.{IsListed}
 use Rattle.plan_records.specs.Passing.{inserted}
-use Rattle.log_keeper.specs.Parts.{LogPart, rests, appends, closes, takes_back, drops, Running, plan_of, waits_for}
+use Rattle.log_keeper.specs.Parts.{LogPart, rests, appends, closes, takes_back, drops, plan_of, waits_for}
 use Rattle.log_keeper.specs.Ledger.{Drawn, Stored, Settled, Noted, AreNewestFirst, settled_log, newest_log, with_stage, left_open, without}
 use Rattle.log_keeper.specs.Logged.{Keeping, resting, plan_in, waiting}
 use Rattle.log_keeper.specs.Making.{made_part}
 use Rattle.log_keeper.specs.Keeper.{appending, begun_in, latched_if, all_latched_if}
 use Rattle.log_keeper.specs.Ordered.{IsOrdered, stage_behind}
 use Rattle.log_keeper.specs.Starting.{found, starting, AreOldestFirst}
-use Rattle.log_keeper.specs.Events.{IsNextEvent, IsLastEvent, region_made}
+use Rattle.log_keeper.specs.Events.{IsNextEvent, IsLastEvent}
 use Rattle.log_keeper.specs.Newest.{AreOver}
 use Rattle.log_keeper.specs.Needs.{need_at}
 use Rattle.log_keeper.specs.Rooms.{IsElsewhere}

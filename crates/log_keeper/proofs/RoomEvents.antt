@@ -1,12 +1,12 @@
 -- What events make of the room in the newest words.
-use Rattle.std.proofs.Common.{◌≡◌, ◌≢◌, ◌⊎◌, inl, inr, ℕ, zero, suc, ◌+◌, ◌<◌, ◌≤◌, ◌==◌, Bool, true, false, cond, if◌then◌else◌, List, [], ◌∷◌, ◌++◌, length, Some, slice_get, refl, sym, ap, ◌∙◌, subst, arith}
-use Rattle.std.proofs.lemmas.Bool.Decides.{eqb_tells, nat_tests}
+use Rattle.std.proofs.Common.{◌≡◌, ◌≢◌, ◌⊎◌, inl, inr, ℕ, zero, suc, ◌+◌, ◌<◌, ◌≤◌, ◌==◌, Bool, true, false, cond, if◌then◌else◌, List, [], ◌∷◌, ◌++◌, Some, slice_get, refl, sym, ap, ◌∙◌, subst, arith}
+use Rattle.std.proofs.lemmas.Bool.Decides.{eqb_tells}
 use Rattle.persist_model.specs.declared.event.Candidate.{Candidate}
 use Rattle.persist_model.specs.declared.event.Event.{Event}
 use Rattle.persist_model.specs.declared.event.Event.TheVariants.{Store, PStore, WriteBack, Fence}
 use Rattle.persist_model.specs.Region.{Words, Region, candidate, with_word, mark_last, after, newest}
 use Rattle.persist_model.specs.Records.{IsAmong}
-use Rattle.persist_model.specs.Shape.{Shape, IsBucketOf, heap, log_words, words_of_shape, count_buckets}
+use Rattle.persist_model.specs.Shape.{Shape, IsBucketOf, log_words, words_of_shape}
 use Rattle.persist_model.specs.Chain.{view, last_or, out_address}
 use Rattle.persist_model.specs.ImageRecords.{cell_address}
 use Rattle.persist_model.specs.State.{State}
@@ -25,8 +25,6 @@ use Rattle.bucket_log.proofs.Partitions.{part_word_below, log_word_out}
 use Rattle.log_clearing.specs.Plans.{closes as shuts, group, closing_plan}
 use Rattle.log_clearing.specs.Closed.{AreGroups}
 use Rattle.log_keeper.specs.Parts.{LogPart, closes, takes_back, plan_of, IsListedGate, CanRun}
-use Rattle.log_keeper.specs.Logged.{Keeping, plan_in, IsLoggedAt}
-use Rattle.log_keeper.specs.Events.{IsNextEvent, region_made}
 use Rattle.log_keeper.specs.Rooms.{IsRoomAt, IsRoomFrom, IsNewestOf, IsElsewhere, RoomsStay, ClosingsRaiseRooms}
 use Rattle.log_keeper.proofs.Progressing.{size_after, deletion_groups}
 use Rattle.log_keeper.proofs.Groups.{no_list_word}

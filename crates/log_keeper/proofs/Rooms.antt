@@ -1,5 +1,5 @@
 -- The room of a partition in the words of one image.
-use Rattle.std.proofs.Common.{◌≡◌, ◌≢◌, ◌⊎◌, inl, inr, ℕ, zero, suc, ◌+◌, ◌<◌, ◌≤◌, ◌==◌, Bool, true, false, if◌then◌else◌, List, [], ◌∷◌, ◌++◌, length, take, map, Some, slice_get, refl, sym, ap, ◌∙◌, subst, arith}
+use Rattle.std.proofs.Common.{◌≡◌, ◌⊎◌, inl, inr, ℕ, zero, suc, ◌+◌, ◌<◌, ◌≤◌, ◌==◌, Bool, true, false, if◌then◌else◌, List, [], ◌∷◌, ◌++◌, length, take, map, Some, slice_get, refl, sym, ap, ◌∙◌, subst, arith}
 use Rattle.std.proofs.lemmas.Bool.Decides.{nat_tests}
 use Rattle.std.proofs.lemmas.List.{take_all, map-append, append_assoc}
 use Rattle.persist_model.specs.declared.event.Event.{Event}
@@ -9,7 +9,7 @@ use Rattle.persist_model.specs.Region.{Words, Region, candidate, IsCandidate, Ma
 use Rattle.persist_model.specs.Progress.{Progress, Wrote, Write, latest, Tracks, Reaches, IsWordOf, start, advance, advance_all}
 use Rattle.persist_model.specs.Runs.{progress_at}
 use Rattle.persist_model.specs.Records.{Record}
-use Rattle.persist_model.specs.Shape.{Shape, IsBucketOf, heap, heap_words, log_words, words_of_shape}
+use Rattle.persist_model.specs.Shape.{Shape, IsBucketOf, heap, heap_words, log_words}
 use Rattle.persist_model.specs.Chain.{view, out_event, out_address}
 use Rattle.persist_model.specs.State.{State}
 use Rattle.persist_model.specs.Sound.{HasState, room_of}
@@ -20,29 +20,27 @@ use Rattle.persist_model.proofs.Projecting.{IsFixed-start, IsFixed-aways}
 use Rattle.log_laws.proofs.SameLists.{chain_buckets}
 use Rattle.log_laws.proofs.Views.{AreAway-stores, view-out}
 use Rattle.atomic_list.specs.Plans.{insertion}
-use Rattle.atomic_list.specs.Rules.{IsList, at_rest}
+use Rattle.atomic_list.specs.Rules.{at_rest}
 use Rattle.atomic_list.proofs.ListChains.{list_has_chain}
 use Rattle.atomic_list.proofs.RulesToCases.{list_of_rules}
 use Rattle.atomic_list.proofs.Unique.{chain_is_one}
 use Rattle.region_layout.specs.Layout.{IsAllowed}
 use Rattle.bucket_log.specs.declared.append.Place.{Place}
-use Rattle.bucket_log.specs.Plans.{closing, body, insertion_of, append_plan}
+use Rattle.bucket_log.specs.Plans.{closing, body, insertion_of}
 use Rattle.bucket_log.specs.Words.{IsLogWord, IsPartWord, AddsToLog}
 use Rattle.bucket_log.specs.PartWords.{is_part_word, AreOnPart}
 use Rattle.bucket_log.specs.Appends.{CanAppend, region_append}
 use Rattle.bucket_log.proofs.Appended.{inside_log, view_room, appends_wait, append_ends}
 use Rattle.bucket_log.proofs.Partitions.{part_word_below, log_word_out}
 use Rattle.bucket_log.proofs.PartWords.{part_words_are_told, part_stores, own_words_take}
-use Rattle.log_partition.specs.Views.{HasLogOf}
 use Rattle.log_partition.proofs.Views.{own_words_decide}
 use Rattle.log_clearing.specs.Plans.{closing_plan}
 use Rattle.log_clearing.specs.Closed.{AreGroups}
-use Rattle.log_clearing.specs.Removals.{CanDrop, more_room, region_removal}
+use Rattle.log_clearing.specs.Removals.{more_room}
 use Rattle.log_clearing.proofs.ClosingImages.{HasPart, closing_image}
 use Rattle.log_clearing.proofs.RemovalStates.{removals_are_states}
 use Rattle.log_keeper.specs.Parts.{LogPart, rests, appends, closes, takes_back, drops, plan_of, words_behind, CanRun}
-use Rattle.log_keeper.specs.Logged.{Keeping, waiting as waits, plan_in, IsReached, IsLoggedAt}
-use Rattle.log_keeper.specs.Laws.{IsAtRestIn}
+use Rattle.log_keeper.specs.Logged.{Keeping, waiting as waits, plan_in, IsLoggedAt}
 use Rattle.log_keeper.specs.Rooms.{IsRoomAt, IsRoomFrom, IsNewestOf, RoomIsOne, HasRooms, ImagesHaveRooms, StoresTakeCells}
 use Rattle.log_keeper.proofs.Progressing.{durable_alike, part_on, deletion_groups}
 use Rattle.log_keeper.proofs.EventsPass.{images_are_reached, resting_parts_are_settled}

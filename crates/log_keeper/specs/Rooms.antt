@@ -13,7 +13,7 @@ use Rattle.atomic_list.specs.Rules.{IsList}
 use Rattle.region_layout.specs.Layout.{IsAllowed}
 use Rattle.bucket_log.specs.declared.append.Place.{Place}
 use Rattle.bucket_log.specs.Words.{IsPartWord}
-use Rattle.log_keeper.specs.Parts.{LogPart, rests, appends, closes, takes_back, drops}
+use Rattle.log_keeper.specs.Parts.{rests, appends, closes, takes_back, drops}
 use Rattle.log_keeper.specs.Logged.{Keeping, plan_in, IsLoggedAt}
 use Rattle.log_keeper.specs.Events.{IsNextEvent, region_made}
 
