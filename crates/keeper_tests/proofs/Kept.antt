@@ -1,13 +1,12 @@
 -- What the tests' checks of a slot say to the keeper.
-use Rattle.std.proofs.Common.{◌≡◌, ℕ, ◌<◌, ◌≤◌, ◌^◌, Bool, true, false, List, length, get_or, sym, ap, subst, arith}
+use Rattle.std.proofs.Common.{◌≡◌, ℕ, ◌<◌, ◌≤◌, Bool, true, false, List, length, get_or, sym, subst, arith}
 use Rattle.std.specs.Prelude.{Some}
 use Rattle.std.specs.List.{IsAllAdjacentAnswer}
 use Rattle.std.specs.Ordering.{nat_cmp, is_le, is_some_and}
 use Rattle.std.proofs.lemmas.List.Sorted.{non_decreasing_from_is_sorted}
-use Rattle.region_layout.specs.declared.layout.Layout.{Layout}
 use Rattle.log_keeper.specs.declared.slots.Slot.{Slot}
 use Rattle.log_keeper.specs.Parts.{LogPart, Running}
-use Rattle.log_keeper.specs.Slots.{run_of_slot, AreAscending, HasRoomFor, HasRoomOf}
+use Rattle.log_keeper.specs.Slots.{run_of_slot, AreAscending}
 use Rattle.log_keeper.specs.Logged.{resting}
 use Rattle.log_keeper.specs.Keeper.{at_slot, HasListsFor, HasListFor, HasRoomIn}
 use Rattle.log_keeper.proofs.SlotLists.{read_slot}

@@ -1,4 +1,4 @@
-use Rattle.std.proofs.Common.{◌<◌, ◌^◌, ◌∙◌, subst, sym, arith}
+use Rattle.std.proofs.Common.{◌^◌, arith}
 use Rattle.log_keeper.specs.Fitting.{FitsLayout}
 use Rattle.keeper_tests.proofs.Kept.{part_of_slot, made_of_slot}
 use Rattle.keeper_tests.proofs.lanes.Lanes.step.Goals as goal
