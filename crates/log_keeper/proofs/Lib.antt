@@ -8,6 +8,7 @@ pub mod Noting
 pub mod Sounding
 pub mod Searching
 pub mod Sorting
+pub mod GateLists
 pub mod SlotLists
 pub mod Steps
 pub mod Memory

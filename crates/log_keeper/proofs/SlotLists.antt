@@ -11,11 +11,10 @@ use Rattle.region_layout.specs.declared.cell.Cell.{Cell}
 use Rattle.region_layout.specs.Cell.{record_of}
 use Rattle.log_keeper.specs.declared.ledger.Entry.{Entry}
 use Rattle.log_keeper.specs.declared.slots.Slot.{Slot}
-use Rattle.log_keeper.specs.declared.slots.Part.{Part}
 use Rattle.log_keeper.specs.Parts.{LogPart, Running, plan_of}
 use Rattle.log_keeper.specs.Ledger.{Noted, Drawn}
 use Rattle.log_keeper.specs.Noting.{ledger_of}
-use Rattle.log_keeper.specs.Slots.{run_of_slot, with_part}
+use Rattle.log_keeper.specs.Slots.{run_of_slot}
 use Rattle.log_keeper.specs.Logged.{with_run, resting, begun, one_more, ended, latched}
 use Rattle.log_keeper.specs.Making.{is_over, settled_by, stored_if, gone_on, made_of_run, made_part}
 use Rattle.log_keeper.specs.Keeper.{at_slot, holder_of, plain_of, begun_in, held_by, all_latched}

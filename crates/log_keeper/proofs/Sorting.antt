@@ -1,12 +1,12 @@
 -- Gates in the order of their addresses.
-use Rattle.std.proofs.Common.{◌≡◌, inl, inr, ℕ, zero, suc, ◌+◌, ◌-◌, ◌<◌, ◌≤◌, ◌==◌, ◌||◌, Bool, true, false, List, [], ◌∷◌, length, get_or, refl, sym, ap, ◌∙◌, if◌then◌else◌, arith}
+use Rattle.std.proofs.Common.{◌≡◌, ℕ, zero, suc, ◌+◌, ◌-◌, ◌<◌, ◌≤◌, ◌==◌, ◌||◌, List, [], ◌∷◌, length, get_or, refl, sym, ap, ◌∙◌, if◌then◌else◌, arith}
 use Rattle.std.specs.Prelude.{IsPermutation, IsSorted}
 use Rattle.std.specs.List.{list_any}
-use Rattle.std.specs.Ordering.{nat_cmp, is_lt}
+use Rattle.std.specs.Ordering.{nat_cmp}
 use Rattle.std.proofs.lemmas.List.Sorted.{list_any-IsPermutation, IsPermutation-refl}
 use Rattle.std.proofs.lemmas.Map.Keys.{ge_from_not_lt}
 use Rattle.log_keeper.specs.Ledger.{Noted, is_in, is_listed, without}
-use Rattle.log_keeper.specs.Slots.{AreAscending, IsSortedOf}
+use Rattle.log_keeper.specs.Slots.{IsSortedOf}
 
 is_any : (a : ℕ) (gates : List ℕ) → is_in gates a ≡ list_any (λ b. b == a) gates
 is_any a [] = refl

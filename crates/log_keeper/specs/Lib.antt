@@ -5,6 +5,7 @@ pub mod Laws
 pub mod Slots
 pub mod Fitting
 pub mod Noting
+pub mod Listing
 pub mod Making
 pub mod Keeper
 pub mod Ordered

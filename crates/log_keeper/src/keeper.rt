@@ -1,4 +1,4 @@
-ghost use Rattle.std.specs.Prelude.{◌≡◌, ℕ, ◌<◌, ◌≤◌, ◌+◌, ◌==◌, ◌^◌, length, map, not, slice_get, OnOk};
+ghost use Rattle.std.specs.Prelude.{◌≡◌, ℕ, ◌<◌, ◌≤◌, ◌+◌, ◌==◌, ◌^◌, [], true, false, length, map, not, slice_get, OnOk};
 ghost use Rattle.std.specs.List.{list_any};
 ghost use Rattle.std.specs.Vec.{vec_len, vec_capacity};
 ghost use Rattle.persist_model.specs.declared.format.TheConstants.{MAX_WORDS};
@@ -13,6 +13,7 @@ ghost use Rattle.log_keeper.specs.Slots.{HasRoomOf, run_of_slot};
 ghost use Rattle.log_keeper.specs.Making.{settled_by, stored_if, made_part};
 ghost use Rattle.log_keeper.specs.Keeper.{keeping_of, HasListsFor, HasListFor, numbered, begun_in, appending, latched_if, held_by, is_held, all_latched_if, HasRoomIn, KeepsSlots, free_places};
 ghost use Rattle.log_keeper.specs.Ordered.{IsOrdered};
+ghost use Rattle.log_keeper.specs.Listing.{gates_in};
 
 use crate::ledger::{Entry, Progress, close_listed, come_to, note};
 use crate::slots::{Part, Slot};
@@ -171,6 +172,35 @@ impl LogKeeper {
         ensures ordered { IsOrdered (keeping_of self.old) self.old.next_lsn → IsOrdered (keeping_of self.new) self.new.next_lsn }
     {
         self.slots[p as usize].begin_group(gates, ends, checkpoints);
+    }
+
+    /// The holder of the partition's latch begins to close all records of the transaction but its end, in the order of their numbers. They are listed
+    /// in memory that was taken before.
+    pub fn begin_closing(&mut self, p: u32, transaction: u64)
+        requires slot { p < length self.old.slots.items }
+        requires room { HasRoomIn self.old.slots.items p (length (gates_in transaction false (keeping_of self.old).ledger)) }
+        ensures kept { keeping_of self.new ≡ begun_in p (closes (gates_in transaction false (keeping_of self.old).ledger) [] []) (keeping_of self.old).ledger (keeping_of self.old) }
+        ensures number { self.new.next_lsn ≡ self.old.next_lsn }
+        ensures ledger { self.new.ledger ≡ self.old.ledger }
+        ensures slots { KeepsSlots self.old.slots.items self.new.slots.items }
+        ensures ordered { IsOrdered (keeping_of self.old) self.old.next_lsn → IsOrdered (keeping_of self.new) self.new.next_lsn }
+    {
+        let entries = self.ledger.as_slice();
+        self.slots[p as usize].begin_closing(entries, transaction);
+    }
+
+    /// The holder of the partition's latch begins to close the transaction's end, in memory that was taken before.
+    pub fn begin_closing_end(&mut self, p: u32, transaction: u64)
+        requires slot { p < length self.old.slots.items }
+        requires room { HasRoomIn self.old.slots.items p (length (gates_in transaction true (keeping_of self.old).ledger)) }
+        ensures kept { keeping_of self.new ≡ begun_in p (closes [] (gates_in transaction true (keeping_of self.old).ledger) []) (keeping_of self.old).ledger (keeping_of self.old) }
+        ensures number { self.new.next_lsn ≡ self.old.next_lsn }
+        ensures ledger { self.new.ledger ≡ self.old.ledger }
+        ensures slots { KeepsSlots self.old.slots.items self.new.slots.items }
+        ensures ordered { IsOrdered (keeping_of self.old) self.old.next_lsn → IsOrdered (keeping_of self.new) self.new.next_lsn }
+    {
+        let entries = self.ledger.as_slice();
+        self.slots[p as usize].begin_closing_end(entries, transaction);
     }
 
     /// The holder of the partition's latch begins to close the gates, in their order, of deletions that its transaction takes back.

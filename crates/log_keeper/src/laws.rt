@@ -21,6 +21,7 @@ ghost use Rattle.log_keeper.specs.Laws.{
   RestingPartsAreRead,
   LedgersKeep,
 };
+ghost use Rattle.log_keeper.specs.Listing.{GatesAreListed};
 ghost use Rattle.log_keeper.specs.Ordered.{OrdersKeep, RunsKeep, PartsSpare};
 ghost use Rattle.log_keeper.specs.Starting.{KeepersStart};
 ghost use Rattle.log_keeper.specs.Events.{
@@ -180,4 +181,9 @@ pub fn removals_are_made()
 /// All latches are taken where nothing is under way.
 pub fn all_latches_pass()
     ensures { AllLatchesPass }
+{}
+
+/// The gates that a closing lists for a transaction are those of its records.
+pub fn gates_are_listed()
+    ensures { GatesAreListed }
 {}

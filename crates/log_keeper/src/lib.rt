@@ -5,6 +5,7 @@ mod closing;
 mod keeper;
 pub mod laws;
 mod ledger;
+mod listing;
 pub mod need_laws;
 mod slots;
 mod starting;

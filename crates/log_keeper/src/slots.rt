@@ -1,4 +1,4 @@
-ghost use Rattle.std.specs.Prelude.{◌≡◌, ℕ, ◌<◌, ◌≤◌, ◌+◌, ◌^◌, option_map, slice_get, length, OnOk};
+ghost use Rattle.std.specs.Prelude.{◌≡◌, ℕ, ◌<◌, ◌≤◌, ◌+◌, ◌^◌, [], true, false, option_map, slice_get, length, OnOk};
 ghost use Rattle.std.specs.Vec.{vec_capacity};
 ghost use Rattle.persist_model.specs.Chain.{out_event};
 ghost use Rattle.region_layout.specs.Layout.{layout_shape};
@@ -6,10 +6,14 @@ ghost use Rattle.log_keeper.specs.Logged.{begun};
 ghost use Rattle.log_keeper.specs.Parts.{plan_of, closes, takes_back};
 ghost use Rattle.log_keeper.specs.Slots.{run_of_slot, with_part, HasRoomFor, HasRoomOf, IsSortedOf};
 ghost use Rattle.log_keeper.specs.Fitting.{FitsLayout};
+ghost use Rattle.log_keeper.specs.Noting.{ledger_of};
+ghost use Rattle.log_keeper.specs.Listing.{gates_in};
 ghost use Rattle.log_keeper.specs.Making.{is_over};
 ghost use Rattle.log_keeper.specs.Starting.{IsFree};
 
 use crate::closing::{closing_event, gates_event};
+use crate::ledger::Entry;
+use crate::listing::list_gates;
 use atomic_list::{Remove, remove_event};
 use bucket_log::{Place, append_event};
 use log_partition::region_event;
@@ -160,6 +164,34 @@ impl Slot {
     {
         fill(&mut self.gates, gates);
         self.part = Part::TakeBack;
+        self.made = 0;
+    }
+
+    /// The closing of the transaction's records begins, but for its end, in memory that was taken before.
+    pub(crate) fn begin_closing(&mut self, entries: &[Entry], transaction: u64)
+        requires { length (gates_in transaction false (ledger_of entries.now)) ≤ vec_capacity self.old.gates }
+        ensures run { run_of_slot self.new ≡ begun (closes (gates_in transaction false (ledger_of entries.now)) [] []) }
+        ensures holder { self.new.holder ≡ self.old.holder }
+        ensures memory { (n : ℕ) → HasRoomOf self.old n → HasRoomOf self.new n }
+    {
+        list_gates(&mut self.gates, entries, transaction, false);
+        self.ends.clear();
+        self.checkpoints.clear();
+        self.part = Part::Close;
+        self.made = 0;
+    }
+
+    /// The closing of the transaction's end begins, in memory that was taken before.
+    pub(crate) fn begin_closing_end(&mut self, entries: &[Entry], transaction: u64)
+        requires { length (gates_in transaction true (ledger_of entries.now)) ≤ vec_capacity self.old.ends }
+        ensures run { run_of_slot self.new ≡ begun (closes [] (gates_in transaction true (ledger_of entries.now)) []) }
+        ensures holder { self.new.holder ≡ self.old.holder }
+        ensures memory { (n : ℕ) → HasRoomOf self.old n → HasRoomOf self.new n }
+    {
+        self.gates.clear();
+        list_gates(&mut self.ends, entries, transaction, true);
+        self.checkpoints.clear();
+        self.part = Part::Close;
         self.made = 0;
     }
 

@@ -1,4 +1,4 @@
-use Rattle.std.proofs.Common.{[], refl, sym, ap, ◌∙◌}
+use Rattle.std.proofs.Common.{[], sym, ap, ◌∙◌}
 use Rattle.log_keeper.specs.declared.slots.Part.{Part}
 use Rattle.log_keeper.specs.Ledger.{without}
 use Rattle.log_keeper.specs.Noting.{ledger_of}

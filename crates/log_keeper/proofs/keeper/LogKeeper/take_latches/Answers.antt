@@ -1,4 +1,4 @@
-use Rattle.std.proofs.Common.{ap, sym, ◌∙◌, map, length, subst}
+use Rattle.std.proofs.Common.{ap, sym, ◌∙◌, map, length}
 use Rattle.std.proofs.lemmas.List.{length-map}
 use Rattle.log_keeper.specs.Keeper.{held_by}
 use Rattle.log_keeper.proofs.Noting.{written_whole}
