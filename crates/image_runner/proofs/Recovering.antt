@@ -1,6 +1,6 @@
 -- What the end of a recovery says of the image that was loaded.
 use Rattle.std.proofs.Common.{◌≡◌, ℕ, ◌+◌, ◌≤◌, List, length, refl, sym, ◌∙◌, ap, subst, arith, Err}
-use Rattle.persist_model.specs.Region.{Words, Region, AreSettled, loaded, newest_words}
+use Rattle.persist_model.specs.Region.{Words, Region, loaded, newest_words}
 use Rattle.persist_model.specs.Shape.{Shape, shape_of, heap}
 use Rattle.persist_model.specs.Faults.{IsFirstFault}
 use Rattle.persist_model.proofs.Images.{AreFull, length-newest_words}
