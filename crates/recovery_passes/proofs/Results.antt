@@ -37,7 +37,7 @@ use Rattle.recovery_passes.specs.declared.recovering.Unfinished.TheVariants as u
 use Rattle.recovery_passes.specs.Reading.{IsLogRead}
 use Rattle.recovery_passes.specs.Refusals.{recover_fault, unfinished_fault}
 use Rattle.recovery_passes.specs.Recovery.{IsRecoveryOfSound, IsRecovery, KeepsHeader}
-use Rattle.recovery_passes.specs.Recovered.{IsFinished, Restores, EachStands, Lists, AreFates, HasNeed, with_checkpoint, forced, settled as no_checkpoint, most_events, AreFew}
+use Rattle.recovery_passes.specs.Recovered.{IsFinished, Restores, EachStands, AreFates, HasNeed, with_checkpoint, forced, settled as no_checkpoint, most_events, AreFew}
 use Rattle.recovery_passes.specs.Stages.{AreQuiet, AreShort, IsIdle}
 use Rattle.recovery_passes.specs.LoserPass.{IsCleared}
 use Rattle.recovery_passes.specs.Plans.{IsPlanned}
@@ -72,9 +72,6 @@ start_of layout old settled sound shape = record {
 pub records_read : (layout : Layout) (records : List Placed) (words : List ℕ) (old : Region) → words ≡ newest_words old → IsLogRead layout records (slice_index words) →
     IsLogRead layout records (newest_at old)
 records_read layout records words old is h = subst (λ (xs : List ℕ). IsLogRead layout records (slice_index xs)) is h
-
-lists_of : (P : ℕ → Type 0) (ns : List ℕ) → AreThose P ns → Lists P ns
-lists_of P ns h = record { ascending = h.ascending; each = h.each }
 
 -- what is held of the log before the first event
 abbrev pub held_of : Work → UsedBuckets → Held
@@ -111,8 +108,8 @@ module _ (layout : Layout) (old : Region) (s0 : State) (h : IsStart layout old s
 
   pub fates_of : (work : Work) → IsWorkOf (layout_shape layout) s0.log work → AreFates w work.winners work.losers
   fates_of work is = record {
-    winners_are = λ s has. subst (λ (l : Log). Lists (IsCommitted l) work.winners) (log_is s has) (lists_of (IsCommitted s0.log) work.winners is.winners);
-    losers_are = λ s has. subst (λ (l : Log). Lists (IsLoser l) work.losers) (log_is s has) (lists_of (IsLoser s0.log) work.losers is.losers);
+    winners_are = λ s has. subst (λ (l : Log). AreThose (IsCommitted l) work.winners) (log_is s has) is.winners;
+    losers_are = λ s has. subst (λ (l : Log). AreThose (IsLoser l) work.losers) (log_is s has) is.losers;
   }
 
   -- the stated bound

@@ -1,12 +1,12 @@
 -- What a recovery owes: what it makes of a sound image, what a stop in it leaves, and what it reports.
-use Rattle.std.specs.Prelude.{◌≡◌, ◌≢◌, ◌↔◌, ℕ, ◌+◌, ◌*◌, ◌<◌, ◌≤◌, List, [], length, slice_index}
+use Rattle.std.specs.Prelude.{◌≡◌, ◌≢◌, ℕ, ◌+◌, ◌*◌, ◌<◌, ◌≤◌, List, [], length, slice_index}
 use Rattle.persist_model.specs.Region.{Words, Region, IsImage}
-use Rattle.persist_model.specs.Records.{IsAmong, IsCommitted, IsLoser}
+use Rattle.persist_model.specs.Records.{IsCommitted, IsLoser}
 use Rattle.persist_model.specs.Shape.{Shape, shape_of, part_of, IsHeapWord}
 use Rattle.persist_model.specs.State.{State, HasOpen, total_need}
 use Rattle.persist_model.specs.Sound.{HasState, IsSound, StandsIn}
 use Rattle.recovery_run.specs.Reached.{IsQuiet, HasFewBuckets}
-use Rattle.recovery_analysis.specs.Grouping.{IsAscending}
+use Rattle.recovery_analysis.specs.Analyses.{AreThose}
 
 -- These words are sound and have been recovered: no gate is open, no recovery word asks for a repair, and each chain has at most one bucket.
 pub record IsFinished (size : ℕ) (w : Words) : Type 0 where
@@ -27,15 +27,10 @@ StandsAsIn w later = (a v : ℕ) → IsHeapWord (shape_of w) a → StandsIn w a 
 abbrev pub EachStands : Words → Region → Type 0
 EachStands w region = (words : List ℕ) → IsImage words region → IsSound (length words) (slice_index words) × StandsAsIn w (slice_index words)
 
--- all numbers that have P, ascending
-pub record Lists (P : ℕ → Type 0) (numbers : List ℕ) : Type 0 where
-  pub ascending : IsAscending numbers
-  pub each : (n : ℕ) → IsAmong numbers n ↔ P n
-
 -- the committed and the running transactions of sound words
 pub record AreFates (w : Words) (winners losers : List ℕ) : Type 0 where
-  pub winners_are : (s : State) → HasState (shape_of w) w s → Lists (IsCommitted s.log) winners
-  pub losers_are : (s : State) → HasState (shape_of w) w s → Lists (IsLoser s.log) losers
+  pub winners_are : (s : State) → HasState (shape_of w) w s → AreThose (IsCommitted s.log) winners
+  pub losers_are : (s : State) → HasState (shape_of w) w s → AreThose (IsLoser s.log) losers
 
 -- how many cells the recovery of an image needs: a checkpoint record is needed under no-force where a transaction runs, or has ended and isn't skipped
 pub data HasNeed (shape : Shape) (s : State) (n : ℕ) : Type 0 where
