@@ -18,12 +18,12 @@ mod tests;
 mod tests_recover;
 mod words;
 
+use pooled_region::Cells;
 use replay::rewind_replay;
 use status::Status;
 use std::env;
 use std::process::ExitCode;
 use streams::{StdSink, StdSource};
-use word_region::PlainCells;
 
 fn main(rt: HostRuntime) -> ExitCode {
     let alloc = rt.alloc();
@@ -35,7 +35,7 @@ fn main(rt: HostRuntime) -> ExitCode {
     };
     let mut script = StdSource::new(rt.stdin());
     let mut out = StdSink::new(rt.stdout());
-    let region = PlainCells::new(alloc, u64::MAX);
+    let region = Cells::new(alloc, u64::MAX);
     let (status, _) = rewind_replay(alloc, &words, &mut script, region, &mut out);
     ExitCode::from(status as u8)
 }
