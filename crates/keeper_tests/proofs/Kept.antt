@@ -1,12 +1,8 @@
 -- What the tests' checks of a slot say to the keeper.
-use Rattle.std.proofs.Common.{◌≡◌, ℕ, ◌<◌, ◌≤◌, Bool, true, false, List, length, get_or, sym, subst, arith}
-use Rattle.std.specs.Prelude.{Some}
-use Rattle.std.specs.List.{IsAllAdjacentAnswer}
-use Rattle.std.specs.Ordering.{nat_cmp, is_le, is_some_and}
-use Rattle.std.proofs.lemmas.List.Sorted.{non_decreasing_from_is_sorted}
+use Rattle.std.proofs.Common.{◌≡◌, ℕ, ◌<◌, ◌≤◌, List, length, get_or, sym, subst, arith}
 use Rattle.log_keeper.specs.declared.slots.Slot.{Slot}
 use Rattle.log_keeper.specs.Parts.{LogPart, Running}
-use Rattle.log_keeper.specs.Slots.{run_of_slot, AreAscending}
+use Rattle.log_keeper.specs.Slots.{run_of_slot}
 use Rattle.log_keeper.specs.Logged.{resting}
 use Rattle.log_keeper.specs.Keeper.{at_slot, HasListsFor, HasListFor, HasRoomIn}
 use Rattle.log_keeper.proofs.SlotLists.{read_slot}
@@ -17,10 +13,6 @@ part_of_slot P xs p x lt is k = subst (λ (run : Running). P run.part) (sym (rea
 
 pub made_of_slot : (n : ℕ) (xs : List Slot) (p : ℕ) (x : Slot) → p < length xs → x ≡ get_or xs p x → x.made < n → (at_slot run_of_slot resting xs p).made < n
 made_of_slot n xs p x lt is k = subst (λ (run : Running). run.made < n) (sym (read_slot run_of_slot resting xs p x lt is)) k
-
-pub ascending : (xs : List ℕ) (r : Bool) → IsAllAdjacentAnswer (λ x y b. is_some_and is_le (Some (nat_cmp x y)) ≡ b) xs r → r ≡ true → AreAscending xs
-ascending xs true h on = λ i j le lt. non_decreasing_from_is_sorted xs true h i j 0 le lt
-ascending xs false h on = cc
 
 -- memory for n gates a list is memory for fewer
 pub lists_for : (xs : List Slot) (p n : ℕ) (gates ends checkpoints : List ℕ) → length gates ≤ n → length ends ≤ n → length checkpoints ≤ n → HasRoomIn xs p n → HasListsFor xs p gates ends checkpoints

@@ -1,9 +1,7 @@
 -- A keeper as the tests have it.
 use Rattle.std.specs.Prelude.{◌≡◌, ℕ, length}
 use Rattle.log_keeper.specs.declared.keeper.LogKeeper.{LogKeeper}
-use Rattle.log_keeper.specs.Keeper.{EachAscends}
 
--- it has a slot for each of so many partitions, and their lists ascend
+-- it has a slot for each of so many partitions
 pub record IsKeeperOf (partitions : ℕ) (keeper : LogKeeper) : Type 0 where
   pub slots : length keeper.slots.items ≡ partitions
-  pub ascend : EachAscends keeper.slots.items

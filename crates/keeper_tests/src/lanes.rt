@@ -2,7 +2,7 @@
 ghost use Rattle.std.specs.Prelude.{◌≡◌, IfOk, IsTrue};
 ghost use Rattle.log_keeper.specs.Fitting.{FitsLayout};
 ghost use Rattle.log_keeper.specs.Parts.{rests};
-ghost use Rattle.log_keeper.specs.Slots.{run_of_slot, AreAscending};
+ghost use Rattle.log_keeper.specs.Slots.{run_of_slot};
 ghost use Rattle.keeper_tests.specs.Kept.{IsKeeperOf};
 
 use bucket_log::{place, scan};
@@ -51,13 +51,6 @@ fn is_resting(slot: &Slot) -> bool
         Part::TakeBack => false,
         Part::Drop(_) => false,
     }
-}
-
-// Whether no gate is above one behind it.
-fn ascend(gates: &[u32]) -> bool
-    ensures { IsTrue result → AreAscending gates.now }
-{
-    gates.is_sorted()
 }
 
 impl Lanes {
@@ -191,12 +184,6 @@ impl Lanes {
     {
         assert!(rt; p < self.layout.partitions);
         assert!(rt; gates.len() <= 16 && ends.len() <= 16);
-        if !ascend(gates) {
-            panic!(rt; "the gates don't ascend");
-        }
-        if !ascend(ends) {
-            panic!(rt; "the ends don't ascend");
-        }
         self.keeper.reserve_lists(p, 16)?;
         self.keeper.begin_group(p, gates, ends, &[]);
         Ok(())
@@ -209,9 +196,6 @@ impl Lanes {
     {
         assert!(rt; p < self.layout.partitions);
         assert!(rt; gates.len() <= 16);
-        if !ascend(gates) {
-            panic!(rt; "the gates don't ascend");
-        }
         self.keeper.reserve_lists(p, 16)?;
         self.keeper.begin_taking_back(p, gates);
         Ok(())
