@@ -105,6 +105,7 @@ module _ (shape : Shape) (base : Words) (s : State) (chains : ℕ → List ℕ) 
         to_undo_is = going.to_undo_is;
         point_is = going.point_is;
         rolled_is = going.rolled_is;
+        rolled_has = going.rolled_has;
         updates_are = updates_more h x.writes more x.updates going.updates_are;
         changed = λ a r last. going.changed a r last ∙ sym (ap (λ ws. latest ws a (h a)) recorded_is);
         unchanged = λ a none u. ap (λ ws. latest ws a u) recorded_is ∙ going.unchanged a none u;

@@ -38,6 +38,7 @@ begun_plain shape h number part words = record {
     to_undo_is = refl;
     point_is = refl;
     rolled_is = λ unrolled r m. absurd m;
+    rolled_has = λ rolled. (let f : false ≡ true = rolled in cc);
     updates_are = tt;
     changed = λ a r last. absurd last.among;
     unchanged = λ a none u. refl;

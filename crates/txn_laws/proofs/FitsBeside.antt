@@ -51,6 +51,7 @@ told_heap shape log h later z same t = record {
     to_undo_is = g.to_undo_is;
     point_is = g.point_is;
     rolled_is = g.rolled_is;
+    rolled_has = g.rolled_has;
     updates_are = updates_heap h later z.writes z.updates z g.writes_own same g.updates_are;
     changed = λ a r last. g.changed a r last ∙ ap (latest (recorded z) a) (sym (same a (changed_own shape log h z a r t g.running last.among last.has)));
     unchanged = g.unchanged;

@@ -72,6 +72,9 @@ module _ (shape : Shape) (log : Log) (h : Words) (x : Txn) (r : Record) (t : IsT
   unrolled_more off unrolled q (inl e) k = off (sym (ap (λ (z : Record). z.kind) e) ∙ k.1)
   unrolled_more off unrolled q (inr m) k = going.rolled_is unrolled q m k
 
+  rolled_more : x.rolled ≡ true → Has (λ q. IsOf x.number q × IsRollback q) (r ∷ log)
+  rolled_more rolled = let b = going.rolled_has rolled in (b.0, inr b.1, b.2)
+
   -- the latest change is r, or it is what it was
   latest_cases : (a : ℕ) (q : Record) → IsLatest (IsChangeBy x.number a) (r ∷ log) q → (q ≡ r) ⊎ (IsLatest (IsChangeBy x.number a) log q × (IsChangeBy x.number a r → ⊥))
   latest_cases a q last = by last.among
@@ -107,6 +110,7 @@ module _ (shape : Shape) (log : Log) (h : Words) (x : Txn) (r : Record) (t : IsT
         to_undo_is = rw (kind_yes x.number UPDATE r of update) (ap (λ us. r ∷ us) going.to_undo_is);
         point_is = rw (kind_yes x.number UPDATE r of update) refl;
         rolled_is = unrolled_more (λ e. omega (arith, e, update));
+        rolled_has = rolled_more;
         updates_are = (of_write, going.updates_are);
         changed = changed_more;
         unchanged = unchanged_more;
@@ -157,6 +161,7 @@ module _ (shape : Shape) (log : Log) (h : Words) (x : Txn) (r : Record) (t : IsT
         to_undo_is = rw (kind_no x.number UPDATE r (λ e. omega (arith, e, compensation)), kind_yes x.number COMPENSATION r of compensation) (ap rest going.to_undo_is);
         point_is = rw (kind_no x.number UPDATE r (λ e. omega (arith, e, compensation)), kind_yes x.number COMPENSATION r of compensation) refl;
         rolled_is = unrolled_more (λ e. omega (arith, e, compensation));
+        rolled_has = rolled_more;
         updates_are = subst (λ us. AreUpdatesOf h x.writes (rest us)) (sym newest_is) others_are.1;
         changed = changed_more;
         unchanged = unchanged_more;
@@ -202,14 +207,15 @@ module _ (shape : Shape) (log : Log) (h : Words) (x : Txn) (r : Record) (t : IsT
     point_there : undo_point x.number (r ∷ log) ≡ x.point
     point_there = rw (kind_no x.number UPDATE r no_update, kind_no x.number COMPENSATION r no_compensation) going.point_is
 
-    pub rolled_told : r.kind ≢ END → r.kind ≢ DELETION → IsTransaction shape (r ∷ log) h (record x { rolled = true })
-    rolled_told no_end no_deletion = record {
+    pub rolled_told : r.kind ≡ ROLLBACK → r.kind ≢ END → r.kind ≢ DELETION → IsTransaction shape (r ∷ log) h (record x { rolled = true })
+    rolled_told rollback no_end no_deletion = record {
       in_part = in_part_more;
       going = λ on. record {
         running = running_more no_end;
         to_undo_is = to_undo_there;
         point_is = point_there;
         rolled_is = λ e. cc;
+        rolled_has = λ rolled. (r, inl refl, ((of, plain), rollback));
         updates_are = going.updates_are;
         changed = changed_same;
         unchanged = λ a none u. going.unchanged a (λ q m c. none q (inr m) c) u;
@@ -232,6 +238,7 @@ module _ (shape : Shape) (log : Log) (h : Words) (x : Txn) (r : Record) (t : IsT
         to_undo_is = to_undo_there;
         point_is = point_there;
         rolled_is = unrolled_more (λ e. omega (arith, e, deletion));
+        rolled_has = rolled_more;
         updates_are = going.updates_are;
         changed = changed_same;
         unchanged = λ a none u. going.unchanged a (λ q m c. none q (inr m) c) u;

@@ -51,6 +51,7 @@ told_ended shape log h x ended t = record {
     to_undo_is = g.to_undo_is;
     point_is = g.point_is;
     rolled_is = g.rolled_is;
+    rolled_has = g.rolled_has;
     updates_are = g.updates_are;
     changed = g.changed;
     unchanged = g.unchanged;

@@ -50,6 +50,7 @@ going_same log later h x same going = record {
   to_undo_is = to_undo_same x.number log later same ∙ going.to_undo_is;
   point_is = undo_point_stays log later x.number same ∙ going.point_is;
   rolled_is = λ unrolled r m k. going.rolled_is unrolled r (back x.number log later same r m k.0) k;
+  rolled_has = λ rolled. (let b = going.rolled_has rolled in (b.0, forth x.number log later same b.0 b.1 b.2.0, b.2));
   updates_are = going.updates_are;
   changed = λ a r last. going.changed a r (latest_was x.number log later same a r last);
   unchanged = λ a none u. going.unchanged a (λ r m k. none r (forth x.number log later same r m (change_of x.number a r k)) k) u;

@@ -187,7 +187,7 @@ module _ (shape : Shape) (base : Words) (s : State) (chains : ℕ → List ℕ) 
       settled_plain shape base s chains start_heap w region p e adding made is lane_in last world (txn_behind (a_rollback n) (record_of_adding adding) holder_txn) refl refl refl
       (rolled_told shape s.log (fold start_heap w.history) holder_txn (record_of_adding adding) t f.runs f.of (added_plain adding)
       (there shape base s chains start_heap w region p e adding made is lane_in last world) (above_it shape base s chains start_heap w region p e adding made is lane_in last world) f.own
-      (λ k. omega (arith, k)) (λ k. omega (arith, k)) (λ k. omega (arith, k)) (λ k. omega (arith, k)))
+      (λ k. omega (arith, k)) (λ k. omega (arith, k)) refl (λ k. omega (arith, k)) (λ k. omega (arith, k)))
       (λ v k. k) (λ a m. refl) (still_runs (txn_behind (a_rollback n) (record_of_adding adding) holder_txn) f.runs)
   by_kind place number (a_compensation u cell) is last =
       let adding = adding_of place number (a_compensation u cell) in

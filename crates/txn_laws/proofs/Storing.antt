@@ -240,6 +240,7 @@ module _ (shape : Shape) (base : Words) (s : State) (chains : ℕ → List ℕ) 
         to_undo_is = going.to_undo_is;
         point_is = going.point_is;
         rolled_is = going.rolled_is;
+        rolled_has = going.rolled_has;
         updates_are = going.updates_are;
         changed = going.changed;
         unchanged = going.unchanged;
@@ -378,6 +379,7 @@ module _ (shape : Shape) (base : Words) (s : State) (chains : ℕ → List ℕ) 
       to_undo_is = g.to_undo_is;
       point_is = g.point_is;
       rolled_is = g.rolled_is;
+      rolled_has = g.rolled_has;
       updates_are = g.updates_are;
       changed = g.changed;
       unchanged = g.unchanged;

@@ -100,6 +100,7 @@ module _ (gates : List ℕ) (all : Log) (six : (d : Record) → IsAmong all d �
     to_undo_is = to_undo_left x.number all (λ r m. m) ∙ g.to_undo_is;
     point_is = undo_point_left x.number all (λ r m. m) ∙ g.point_is;
     rolled_is = λ unrolled r m k. g.rolled_is unrolled r (back r m) k;
+    rolled_has = λ rolled. (let b = g.rolled_has rolled in let three = b.2.1 in (b.0, plain_stays b.0 b.1 (λ six. omega (arith, three, six)), b.2));
     updates_are = g.updates_are;
     changed = λ a r last. g.changed a r (record {
       among = back r last.among;

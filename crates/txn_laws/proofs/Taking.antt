@@ -83,6 +83,7 @@ module _ (shape : Shape) (base : Words) (s : State) (chains : ℕ → List ℕ) 
       to_undo_is = g.to_undo_is;
       point_is = g.point_is;
       rolled_is = g.rolled_is;
+      rolled_has = g.rolled_has;
       updates_are = g.updates_are;
       changed = g.changed;
       unchanged = g.unchanged;

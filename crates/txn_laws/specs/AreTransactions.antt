@@ -32,6 +32,7 @@ pub record IsGoing (log : Log) (h : Words) (x : Txn) : Type 0 where
   pub to_undo_is : to_undo x.number log ≡ x.updates
   pub point_is : undo_point x.number log ≡ x.point
   pub rolled_is : x.rolled ≡ false → HasNo (λ r. IsOf x.number r × IsRollback r) log
+  pub rolled_has : x.rolled ≡ true → Has (λ r. IsOf x.number r × IsRollback r) log
   pub updates_are : AreUpdatesOf h x.writes x.updates
   pub changed : (a : ℕ) (r : Record) → IsLatest (IsChangeBy x.number a) log r → r.after ≡ latest (recorded x) a (h a)
   pub unchanged : (a : ℕ) → HasNo (IsChangeBy x.number a) log → (u : ℕ) → latest (recorded x) a u ≡ u
