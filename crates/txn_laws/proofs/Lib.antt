@@ -27,3 +27,4 @@ pub mod Asking
 pub mod Dropping
 pub mod Taking
 mod Examples
+pub mod Needs

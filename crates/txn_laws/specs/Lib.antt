@@ -18,3 +18,4 @@ pub mod Settled
 pub mod Asks
 pub mod Dropped
 pub mod Takes
+pub mod Needs

@@ -4,3 +4,4 @@
 
 pub mod laws;
 pub mod log_events;
+pub mod room_laws;
