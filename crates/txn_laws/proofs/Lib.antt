@@ -28,3 +28,5 @@ pub mod Dropping
 pub mod Taking
 mod Examples
 pub mod Needs
+pub mod Rooms
+pub mod Reserved

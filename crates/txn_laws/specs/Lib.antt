@@ -19,3 +19,4 @@ pub mod Asks
 pub mod Dropped
 pub mod Takes
 pub mod Needs
+pub mod Rooms
