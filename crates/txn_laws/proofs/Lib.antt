@@ -30,3 +30,4 @@ mod Examples
 pub mod Needs
 pub mod Rooms
 pub mod Reserved
+pub mod NeedsRest

@@ -1,5 +1,5 @@
 //! What recovery needs of the lanes' transactions, and the cells that are reserved for them, as functions that do nothing: the clause is the law.
-ghost use Rattle.txn_laws.specs.Needs.{NeedsAreLanes};
+ghost use Rattle.txn_laws.specs.Needs.{NeedsAreLanes, NeedsRest};
 ghost use Rattle.txn_laws.specs.Rooms.{
   FewerAreRoomy,
   AsksAreRoomy,
@@ -13,6 +13,11 @@ ghost use Rattle.txn_laws.specs.Rooms.{
 /// The cells that recovery needs in a partition are those of the lanes' open transactions there.
 pub fn needs_are_lanes()
     ensures { NeedsAreLanes }
+{}
+
+/// That of the newest log is the same where nothing is under way.
+pub fn needs_rest()
+    ensures { NeedsRest }
 {}
 
 /// Where there is room for what is reserved, there is for less,
