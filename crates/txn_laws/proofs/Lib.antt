@@ -31,3 +31,4 @@ pub mod Needs
 pub mod Rooms
 pub mod Reserved
 pub mod NeedsRest
+mod RoomExamples
