@@ -28,6 +28,7 @@ pub mod Dropping
 pub mod Taking
 mod Examples
 pub mod Needs
+pub mod TakenOut
 pub mod Rooms
 pub mod Reserved
 pub mod NeedsRest

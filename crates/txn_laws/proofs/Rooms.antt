@@ -7,6 +7,8 @@ use Rattle.persist_model.specs.declared.event.Candidate.{Candidate}
 use Rattle.persist_model.specs.declared.event.Event.{Event}
 use Rattle.persist_model.specs.declared.event.Event.TheVariants.{Store, PStore, WriteBack, Fence}
 use Rattle.persist_model.specs.Region.{Words, Region, candidate, mark_last, with_word, IsCandidate, MayStand, newest, after}
+use Rattle.persist_model.specs.Progress.{Reaches, IsDurable}
+use Rattle.persist_model.specs.Runs.{progress_at}
 use Rattle.persist_model.specs.Shape.{Shape, words_of_shape}
 use Rattle.persist_model.specs.State.{State}
 use Rattle.persist_model.specs.Records.{Record}
@@ -15,21 +17,25 @@ use Rattle.atomic_list.specs.declared.plans.Remove.{Remove}
 use Rattle.region_layout.specs.Layout.{IsAllowed}
 use Rattle.bucket_log.specs.declared.append.Place.{Place}
 use Rattle.bucket_log.specs.States.{less_room}
+use Rattle.bucket_log.specs.Words.{IsPartWord}
 use Rattle.bucket_log.specs.PartWords.{IsOnPart}
 use Rattle.bucket_log.proofs.Partitions.{part_word_below, part_words_apart}
-use Rattle.log_keeper.specs.Parts.{LogPart, Running, rests, appends, closes, takes_back, drops, plan_of}
+use Rattle.log_clearing.specs.Removals.{region_removal}
+use Rattle.log_keeper.specs.Parts.{CanRun, LogPart, Running, rests, appends, closes, takes_back, drops, plan_of}
 use Rattle.log_keeper.specs.Making.{made_part}
 use Rattle.log_keeper.specs.Logged.{Keeping, one_more, resting, advanced, plan_in, IsLoggedAt}
 use Rattle.log_keeper.specs.Events.{IsNextEvent, region_made}
 use Rattle.log_keeper.specs.Rooms.{IsRoomAt, IsRoomFrom, IsNewestOf, IsElsewhere, HasRooms}
-use Rattle.log_keeper.proofs.Progressing.{on_event, part_on}
+use Rattle.log_keeper.proofs.Progressing.{on_event, part_on, part_durable, durable_event}
 use Rattle.log_keeper.proofs.Steps.{last_events_end}
 use Rattle.log_keeper.proofs.Made.{goes_on, events_go_on, appends_are_made}
-use Rattle.log_keeper.proofs.Rooms.{room_is_one, room_alike, images_have_rooms, stores_take_cells}
+use Rattle.log_keeper.proofs.Rooms.{room_is_one, room_of_state, room_alike, joined, joined_in, joined_reached, images_have_rooms, stores_take_cells}
+use Rattle.log_keeper.proofs.EventsPass.{images_are_reached}
 use Rattle.log_keeper.proofs.RoomEvents.{rooms_stay, closings_raise_rooms}
 use Rattle.txn_laws.specs.Worlds.{World, IsWorldAt}
 use Rattle.txn_laws.specs.Rooms.{is_append, taken_in, IsInHeap, FewerAreRoomy, AsksAreRoomy, HeapEventsAreRoomy, PartsAreRoomy, RestsAreRoomy}
 use Rattle.txn_laws.proofs.Storing.{fenced_some}
+use Rattle.txn_laws.proofs.TakenOut.{removal_out}
 
 self_test : (p : ℕ) → (p == p) ≡ true
 self_test p = grind (arith, nat_tests)
@@ -135,6 +141,10 @@ some_below (x ∷ plan) (suc n) e is = let lt = some_below plan n e is in omega 
 
 less_here : (p : ℕ) (room : ℕ → ℕ) → less_room p room p + 1 ≡ (room p - 1) + 1
 less_here p room = let on = self_test p in ap (λ t. (if t then room p - 1 else room p) + 1) on
+
+-- a removal ends with a fence
+no_store : (p : ℕ) (r : Remove) (b v : ℕ) → slice_get (region_removal p r) 6 ≡ Some (PStore b v) → ⊥
+no_store p r b v is = let e : Some Fence ≡ Some (PStore b v) = is in cc
 
 -- ---- an event of a part, in its own partition
 
@@ -260,21 +270,99 @@ module _ (shape : Shape) (base : Words) (s : State) (chains : ℕ → List ℕ) 
             let one : taken_in shape w.keeping p p ≡ 1 = rw (on, adds, same) refl in
             room_less shape p (later_is + 1) reserved i (omega (arith, less, one)) (room i are)
 
-    here : (part : LogPart) → (w.keeping.runs p).part ≡ part → ((r : Remove) → part ≢ drops r) → HasRoomFor shape p (region_made w.keeping p e region) later_is
-    here rests is off =
+    -- a removal: the bucket is in the chain before its first event, and out of it behind that
+    module _ (r : Remove) (is : (w.keeping.runs p).part ≡ drops r) where
+      can_drop : CanRun shape p base s (chains p) (drops r)
+      can_drop = subst (CanRun shape p base s (chains p)) is (h.can p next.inside)
+
+      most : later_is ≤ s.room p + shape.cells
+      most =
+          let m = fewer (found region) (found_newest region) in
+          let low = m.2 in
+          elim (rooms_before.dropping r is) [
+            | inl was ↦ (let same = room_is_one shape p m.0 (s.room p) (found region) m.1 was in omega (arith, low, same))
+            | inr was ↦ (let same = room_is_one shape p m.0 (s.room p + shape.cells) (found region) m.1 was in omega (arith, low, same))
+          ]
+
+      least : (w.keeping.runs p).made ≡ 0 → later_is ≤ s.room p
+      least none =
+          let m = fewer (found region) (found_newest region) in
+          let low = m.2 in
+          let reached : Reaches (IsPartWord shape p) (progress_at base (plan_in shape w.keeping p) 0) (found region) =
+          subst (λ n. Reaches (IsPartWord shape p) (progress_at base (plan_in shape w.keeping p) n) (found region)) none
+          ((images_are_reached shape base s chains w.keeping region (found region) h (newest_stand region (found region) full (found_newest region))).parts p next.inside) in
+          let was = room_alike shape p (s.room p) base (found region) h.allowed next.inside
+          (λ a m. elim (reached a m) [ inl e ↦ e | inr wrote ↦ absurd wrote ]) (room_of_state shape p base s next.inside h.has) in
+          let same = room_is_one shape p m.0 (s.room p) (found region) m.1 was in
+          omega (arith, low, same)
+
+      module _ (more : (w.keeping.runs p).made + 1 < length (plan_in shape w.keeping p)) (j : Words) (are : IsNewestOf (region_made w.keeping p e region) j) where
+        stand : MayStand j (region_made w.keeping p e region)
+        stand = newest_stand (region_made w.keeping p e region) j filled_later are
+
+        kept_out : (n : ℕ) → (w.keeping.runs p).made ≡ suc n → IsRoomAt shape p j (s.room p + shape.cells)
+        kept_out n one =
+            let reached : Reaches (IsPartWord shape p) (progress_at base (plan_in shape w.keeping p) (suc (w.keeping.runs p).made)) j =
+            subst (λ (x : Running). Reaches (IsPartWord shape p) (progress_at base (plan_of shape p x.part) x.made) j) (runs_on more)
+            ((images_are_reached shape base s chains (made_part shape p w.keeping) (region_made w.keeping p e region) j (logged_on more) stand).parts p next.inside) in
+            let there : Reaches (IsPartWord shape p) (progress_at base (plan_of shape p (drops r)) (suc (suc n))) j =
+            subst (λ m. Reaches (IsPartWord shape p) (progress_at base (plan_of shape p (drops r)) (suc m)) j) one
+            (subst (λ part. Reaches (IsPartWord shape p) (progress_at base (plan_of shape p part) (suc (w.keeping.runs p).made)) j) is reached) in
+            room_alike shape p (s.room p + shape.cells) (joined shape p base j) j h.allowed next.inside (λ a m. sym (joined_in shape p base j a m))
+            (removal_out shape p base (joined shape p base j) s r n h.allowed next.inside h.has can_drop
+            (joined_reached shape p base j (plan_of shape p (drops r)) (suc (suc n)) (part_on shape p base s (chains p) (drops r) h.allowed next.inside h.has can_drop) there))
+
+        from_first : (w.keeping.runs p).made ≡ 0 → IsRoomFrom shape p j later_is
+        from_first none =
+            let low = least none in
+            elim ((images_have_rooms shape base s chains (made_part shape p w.keeping) (region_made w.keeping p e region) p j next.inside (logged_on more) stand).dropping r
+            (ap (λ (x : Running). x.part) (runs_on more) ∙ is)) [
+              | inl was ↦ (s.room p, was, low)
+              | inr was ↦ (s.room p + shape.cells, was, omega (arith, low))
+            ]
+
+        goes_on_out : (n : ℕ) → (w.keeping.runs p).made ≡ n → IsRoomFrom shape p j later_is
+        goes_on_out zero none = from_first none
+        goes_on_out (suc n) one = (s.room p + shape.cells, kept_out n one, most)
+
+      -- the last event is a fence
+      no_last_store : (b v : ℕ) → e ≡ PStore b v → (w.keeping.runs p).made + 1 < length (plan_in shape w.keeping p)
+      no_last_store b v store =
+          let seven : length (plan_in shape w.keeping p) ≡ 7 = ap (λ part. length (plan_of shape p part)) is in
+          let below = below_end in
+          elim (eqb_tells (w.keeping.runs p).made 6) [
+            | inr ne ↦ (let other = ne.1 in omega (arith, other, below, seven))
+            | inl six ↦ (
+                let got : slice_get (plan_of shape p (drops r)) 6 ≡ Some (PStore b v) =
+                subst (λ x. slice_get (plan_of shape p (drops r)) 6 ≡ Some x) store
+                (subst (λ n. slice_get (plan_of shape p (drops r)) n ≡ Some e) six.1 (subst (λ part. slice_get (plan_of shape p part) (w.keeping.runs p).made ≡ Some e) is next.next)) in
+                absurd (no_store p r b v got))
+          ]
+
+      dropped : HasRoomFor shape p (region_made w.keeping p e region) later_is
+      dropped = by e refl (durable_event (plan_in shape w.keeping p) (part_durable shape p (w.keeping.runs p).part) (w.keeping.runs p).made e next.next)
+        where
+          by : (x : Event) → e ≡ x → IsDurable e → HasRoomFor shape p (region_made w.keeping p e region) later_is
+          by (Store b v) same d = absurd (subst IsDurable same d)
+          by (PStore b v) same d = λ j are. goes_on_out (no_last_store b v same) j are (w.keeping.runs p).made refl
+          by (WriteBack b) same d = absurd (subst IsDurable same d)
+          by Fence same d = stays_there shape p (w.keeping.holder p) later_is e region h.allowed next.inside h.size (subst (IsElsewhere shape p) (sym same) tt) fewer
+
+    here : (part : LogPart) → (w.keeping.runs p).part ≡ part → HasRoomFor shape p (region_made w.keeping p e region) later_is
+    here rests is =
         let none : slice_get (plan_of shape p rests) (w.keeping.runs p).made ≡ Some e = subst (λ (x : LogPart). slice_get (plan_of shape p x) (w.keeping.runs p).made ≡ Some e) is next.next in
         cc
-    here (appends place r) is off = appended place r is
-    here (closes gates ends checkpoints) is off = closed gates ends checkpoints (inl is)
-    here (takes_back gates) is off = closed gates [] [] (inr is)
-    here (drops r) is off = absurd (off r refl)
+    here (appends place r) is = appended place r is
+    here (closes gates ends checkpoints) is = closed gates ends checkpoints (inl is)
+    here (takes_back gates) is = closed gates [] [] (inr is)
+    here (drops r) is = dropped r is
 
 pub parts_are_roomy : PartsAreRoomy
-parts_are_roomy shape base s chains start w region reserved later p e off next world less roomy = record {
+parts_are_roomy shape base s chains start w region reserved later p e next world less roomy = record {
   full = filled_after region (w.keeping.holder p) e roomy.full;
   room = λ q inside. elim (eqb_tells q p) [
     | inl same ↦ subst (λ x. HasRoomFor shape x (region_made w.keeping p e region) (later x)) (sym same.1)
-        (here shape base s chains start w region p e next world roomy.full (reserved p) (later p) (less p next.inside) (roomy.room p next.inside) (w.keeping.runs p).part refl off)
+        (here shape base s chains start w region p e next world roomy.full (reserved p) (later p) (less p next.inside) (roomy.room p next.inside) (w.keeping.runs p).part refl)
     | inr ne ↦ stays_there shape q (w.keeping.holder p) (later q) e region world.log.logged.allowed inside world.log.logged.size
         (part_elsewhere shape p q e world.log.logged.allowed next.inside inside ne.1 (on_part shape base s chains start w region p e next world roomy.full))
         (λ i are. room_less shape q (later q) (reserved q) i (let low = less q inside in omega (arith, low)) (roomy.room q inside i are))

@@ -1,5 +1,5 @@
 -- The cells that are reserved in each partition, against the room in the newest words.
-use Rattle.std.specs.Prelude.{◌≡◌, ◌≢◌, ℕ, suc, ◌+◌, ◌<◌, ◌≤◌, Bool, true, false, ◌==◌, ◌&&◌, if◌then◌else◌, List, [], ◌∷◌, length}
+use Rattle.std.specs.Prelude.{◌≡◌, ℕ, suc, ◌+◌, ◌<◌, ◌≤◌, Bool, true, false, ◌==◌, ◌&&◌, if◌then◌else◌, List, [], ◌∷◌, length}
 use Rattle.persist_model.specs.declared.event.Event.{Event}
 use Rattle.persist_model.specs.declared.event.Event.TheVariants.{Store, PStore, WriteBack, Fence}
 use Rattle.persist_model.specs.Region.{Words, Region, after}
@@ -8,7 +8,6 @@ use Rattle.persist_model.specs.Need.{has_of}
 use Rattle.persist_model.specs.Shape.{Shape, IsHeapWord, part_of}
 use Rattle.persist_model.specs.State.{State}
 use Rattle.log_laws.specs.MoveRoom.{HasCells, HasItsCells}
-use Rattle.atomic_list.specs.declared.plans.Remove.{Remove}
 use Rattle.log_keeper.specs.Parts.{LogPart, rests, appends, closes, takes_back, drops}
 use Rattle.log_keeper.specs.Ledger.{newest_log}
 use Rattle.log_keeper.specs.Logged.{Keeping, plan_in}
@@ -68,7 +67,7 @@ HeapEventsAreRoomy = (shape : Shape) (base : Words) (s : State) (chains : ℕ �
 -- An event of a part of the log lowers it by one cell in its own partition where it stores a record's gate, and nowhere else.
 abbrev pub PartsAreRoomy : Type 0
 PartsAreRoomy = (shape : Shape) (base : Words) (s : State) (chains : ℕ → List ℕ) (start : Words) (w : World) (region : Region) (reserved later : ℕ → ℕ) (p : ℕ) (e : Event) →
-    ((r : Remove) → (w.keeping.runs p).part ≢ drops r) → IsNextEvent shape w.keeping p e → IsWorldAt shape base s chains start w region →
+    IsNextEvent shape w.keeping p e → IsWorldAt shape base s chains start w region →
     ((q : ℕ) → q < shape.partitions → later q + taken_in shape w.keeping p q ≤ reserved q) →
     IsRoomy shape region reserved → IsRoomy shape (region_made w.keeping p e region) later
 
