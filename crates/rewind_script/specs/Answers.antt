@@ -7,6 +7,7 @@ use Rattle.rewind_script.specs.declared.fault.ScriptFault.{ScriptFault}
 use Rattle.rewind_script.specs.declared.fault.ScriptFault.TheVariants.{Line, NoMemory}
 use Rattle.rewind_script.specs.declared.read.refusal.Refusal.{Refusal}
 use Rattle.rewind_script.specs.declared.read.refusal.Refusal.TheVariants as refusal
+use Rattle.rewind_script.specs.declared.script.TheConstants.{MOST_COMMANDS}
 use Rattle.rewind_script.specs.declared.read.reading.Reading.{Reading}
 
 abbrev pub texts : List (Bor (List ℕ)) → List (List ℕ)
@@ -36,4 +37,4 @@ fault_at n refusal.Memory = NoMemory
 
 -- the lists whose lengths are counted in 32 bits
 abbrev pub IsSmall : Reading → Type 0
-IsSmall reading = (length reading.kinds ≤ 8) × (length reading.commands ≤ 256)
+IsSmall reading = (length reading.kinds ≤ 8) × (length reading.commands ≤ MOST_COMMANDS)

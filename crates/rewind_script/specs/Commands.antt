@@ -7,6 +7,7 @@ use Rattle.region_layout.specs.declared.layout.Kind.{Kind}
 use Rattle.region_layout.specs.declared.layout.Kind.TheVariants.{Cells, Tree, Hash}
 use Rattle.rewind_script.specs.declared.fault.Fault.{Fault}
 use Rattle.rewind_script.specs.declared.fault.Fault.TheVariants as fault
+use Rattle.rewind_script.specs.declared.script.TheConstants.{MOST_COMMANDS}
 use Rattle.rewind_script.specs.declared.script.Command.{Command}
 use Rattle.rewind_script.specs.declared.script.Command.TheVariants as command
 use Rattle.rewind_script.specs.declared.read.reading.Reading.{Reading}
@@ -27,7 +28,7 @@ reached reading s key = do
 
 abbrev pub with_command : Reading → Command → Result Reading Fault
 with_command reading command = do
-  _ ← guard (nat_lt (length reading.commands) 256) fault.Limit
+  _ ← guard (nat_lt (length reading.commands) MOST_COMMANDS) fault.Limit
   Ok (record reading { commands = reading.commands ++ command ∷ [] })
 
 -- put S K V

@@ -7,6 +7,7 @@ use Rattle.rewind_script.specs.declared.fault.Fault.{Fault}
 use Rattle.rewind_script.specs.declared.fault.Fault.TheVariants as fault
 use Rattle.rewind_script.specs.declared.read.refusal.Refusal.{Refusal}
 use Rattle.rewind_script.specs.declared.read.refusal.Refusal.TheVariants as refusal
+use Rattle.rewind_script.specs.declared.script.TheConstants.{MOST_TRANSACTIONS}
 use Rattle.rewind_script.specs.declared.script.Item.TheVariants as item
 use Rattle.rewind_script.specs.declared.script.LaneText.{LaneText}
 use Rattle.rewind_script.specs.declared.read.reading.Part.TheVariants as part
@@ -49,7 +50,7 @@ after_begin reading args = do
   _ ← guard (nat_lt 0 (length args)) fault.Count
   list ← numerals args
   set ← set_of reading list
-  _ ← guard (nat_lt reading.transactions 65536) fault.Limit
+  _ ← guard (nat_lt reading.transactions MOST_TRANSACTIONS) fault.Limit
   Ok (record reading { part = part.Transaction; transactions = reading.transactions + 1; set = set; commands = [] })
 
 -- checkpoint

@@ -8,6 +8,7 @@ use Rattle.region_layout.specs.declared.layout.Kind.TheVariants.{Cells, Tree}
 use Rattle.rewind_script.specs.Order.{is_transaction}
 use Rattle.rewind_script.specs.Commands.{holds, live_step}
 use Rattle.rewind_script.specs.Grammar.{Meaning, meaning_of}
+use Rattle.rewind_script.specs.declared.script.TheConstants.{MOST_COMMANDS, MOST_TRANSACTIONS}
 use Rattle.rewind_script.specs.declared.script.Item.{Item}
 use Rattle.rewind_script.specs.declared.script.Item.TheVariants as item
 use Rattle.rewind_script.specs.declared.script.Command.{Command}
@@ -42,7 +43,7 @@ AllFit kinds set live [] = Unit {0}
 AllFit kinds set live (command ∷ rest) = Fits kinds set live command × AllFit kinds set (live_step live command) rest
 
 pub record AreCommands (kinds : List Kind) (set : ℕ) (commands : List Command) : Type 0 where
-  pub count : length commands ≤ 256
+  pub count : length commands ≤ MOST_COMMANDS
   pub fit : AllFit kinds set 0 commands
 
 abbrev pub IsItem : List Kind → Item → Type 0
@@ -79,7 +80,7 @@ pub record IsWithinLimits (meaning : Meaning) : Type 0 where
   pub turn_count : count_turns meaning.turns ≤ 1000000
   pub lane_count : length meaning.lanes ≤ 16
   pub lanes : All (IsLaneText meaning.kinds) meaning.lanes
-  pub transactions : count_in_lanes meaning.lanes ≤ 65536
+  pub transactions : count_in_lanes meaning.lanes ≤ MOST_TRANSACTIONS
 
 abbrev pub IsScript : Script → Type 0
 IsScript script = IsWithinLimits (meaning_of script)
@@ -119,7 +120,7 @@ pub record IsReading (reading : Reading) : Type 0 where
   pub count : length reading.lanes + begun_lanes reading.part ≤ 16
   pub lanes : All (IsLaneText reading.kinds) reading.lanes
   pub items : All (IsItem reading.kinds) reading.items
-  pub transactions : (count_in_lanes reading.lanes + count_transactions reading.items + begun_transactions reading.part ≡ reading.transactions) × (reading.transactions ≤ 65536)
+  pub transactions : (count_in_lanes reading.lanes + count_transactions reading.items + begun_transactions reading.part ≡ reading.transactions) × (reading.transactions ≤ MOST_TRANSACTIONS)
   pub set : is_transaction reading.part ≡ true → IsSet reading.kinds reading.set
   pub commands : AreCommands reading.kinds reading.set reading.commands
   pub early : is_early reading.part ≡ true → (reading.lanes ≡ []) × (reading.items ≡ []) × (reading.commands ≡ [])

@@ -15,7 +15,7 @@ pub use generator::generate;
 pub use read::read_script;
 pub use recovery::{RecoveryReport, write_recovery};
 pub use report::{Fate, Got, How, Named, PairList, Printed, Report, write_report};
-pub use script::{Command, Item, LaneText, Script, Turns};
+pub use script::{Command, Item, LaneText, MOST_COMMANDS, MOST_TRANSACTIONS, Script, Turns};
 
 #[cfg(test)]
 mod tests;

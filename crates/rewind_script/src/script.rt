@@ -3,6 +3,12 @@
 use persist_model::List;
 use region_layout::{Kind, Layout};
 
+/// The most transactions of a script, in all its lanes.
+pub const MOST_TRANSACTIONS: u64 = 65_536;
+
+/// The most commands of a transaction.
+pub const MOST_COMMANDS: usize = 256;
+
 /// A region with its structures, and what the lanes are to do on it.
 #[derive(Drop)]
 pub struct Script {

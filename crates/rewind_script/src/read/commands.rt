@@ -9,7 +9,7 @@ use super::numbers::numeral_of;
 use super::reading::Reading;
 use super::refusal::Refusal;
 use crate::fault::Fault;
-use crate::script::Command;
+use crate::script::{Command, MOST_COMMANDS};
 use region_layout::Kind;
 
 /// The savepoints that stand after the commands.
@@ -138,7 +138,7 @@ impl Reading {
         ensures moves { Moves result self.new (with_command self.old command) }
         ensures small { OnOk result (IsSmall self.new) }
     {
-        if self.commands.len() >= 256 {
+        if self.commands.len() >= MOST_COMMANDS {
             return Err(Refusal::Fault(Fault::Limit));
         }
         self.commands.push(command)?;

@@ -8,7 +8,7 @@ use super::numbers::numerals_of;
 use super::reading::{Part, Reading};
 use super::refusal::Refusal;
 use crate::fault::Fault;
-use crate::script::{Item, LaneText};
+use crate::script::{Item, LaneText, MOST_TRANSACTIONS};
 use persist_model::List;
 use std::alloc::Global;
 
@@ -68,7 +68,7 @@ impl Reading {
         }
         let list = numerals_of(alloc, args)?;
         let set = self.set_of(list.as_slice())?;
-        if self.transactions >= 65_536 {
+        if self.transactions >= MOST_TRANSACTIONS {
             return Err(Refusal::Fault(Fault::Limit));
         }
         self.transactions += 1;
