@@ -8,4 +8,5 @@ pub mod Recoveries
 pub mod Dues
 pub mod DueLaws
 pub mod Causes
+pub mod Outcomes
 pub mod Examples

@@ -150,6 +150,12 @@ IsTextOutcome text region counts region_after counts_after (outcome.Stopped comm
 IsTextOutcome text region counts region_after counts_after (outcome.Done s) = (script_of_text text ≡ Some s) × IsWholeRun s counts counts_after region_after
 IsTextOutcome text region counts region_after counts_after _ = ⊥
 
+-- what a job came to with the text of its whole input
+abbrev pub IsJobOutcome : Job → List ℕ → Region → Counts → Region → Counts → Outcome → Type 0
+IsJobOutcome job.Run text region counts region_after counts_after o = IsTextOutcome text region counts region_after counts_after o
+IsJobOutcome (job.Recover wanted) text region counts region_after counts_after (outcome.Recovery end) = IsEndOf wanted text region counts region_after counts_after end
+IsJobOutcome (job.Recover wanted) text region counts region_after counts_after _ = ⊥
+
 -- a script that was run is within the limits
 abbrev pub AreLimitsOf : Outcome → Type 0
 AreLimitsOf (outcome.Done s) = IsInLimits s.buckets s.blocks s.transactions

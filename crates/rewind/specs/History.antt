@@ -3,6 +3,7 @@ use Rattle.std.specs.Prelude.{ℕ, ◌==◌, if◌then◌else◌, List, [], ◌�
 use Rattle.std.specs.List.{range_with_len, flat_map}
 use Rattle.std.specs.Fmt.{decimal}
 use Rattle.lane_traits.specs.declared.words.Pair.{Pair}
+use Rattle.region_layout.specs.CellsMap.{CELL_KEYS}
 use Rattle.rewind_script.specs.declared.report.Printed.{Printed}
 use Rattle.rewind_script.specs.declared.report.Report.{Report}
 use Rattle.rewind_script.specs.Report.{report as text_of_report}
@@ -76,7 +77,7 @@ pair_of k (Some v) = record { key = k; value = v } ∷ []
 
 -- the pairs, ascending by key: a map of cells has keys 0 to 11
 abbrev pub pairs : Contents → List Pair
-pairs m = flat_map (λ k. pair_of k (m k)) (range_with_len 0 12)
+pairs m = flat_map (λ k. pair_of k (m k)) (range_with_len 0 CELL_KEYS)
 
 -- what is reported: the commits, and the map of structure 0
 abbrev pub report_of : List Name → Contents → Report

@@ -2,6 +2,7 @@
 use Rattle.std.specs.Prelude.{◌≡◌, ℕ, ◌<◌, ◌≤◌, List, [], ◌∷◌, ◌++◌, length, flat_map, Bool, true, false, not, ◌&&◌, ◌==◌, nat_le, Option, Some, None, Result, Ok, Err, All, codes, decimal}
 use Rattle.std.specs.List.{list_all}
 use Rattle.persist_model.specs.Shape.{IsBucketCount, IsBlockCount}
+use Rattle.region_layout.specs.CellsMap.{CELL_KEYS}
 use Rattle.rewind_script.specs.declared.script.Command.{Command}
 use Rattle.rewind_script.specs.declared.script.Command.TheVariants as command
 use Rattle.rewind_script.specs.declared.script.Item.{Item}
@@ -99,7 +100,7 @@ Gives meaning (Err refusal.NoMemory) = Unit {0}
 -- ---- what the limits say of a script
 
 pub record IsPut (put : Put) : Type 0 where
-  pub key : put.key < 12
+  pub key : put.key < CELL_KEYS
   pub value : 1 ≤ put.value
 
 pub record IsTransaction (puts : List Put) : Type 0 where

@@ -1,9 +1,7 @@
 -- A map of cells as a table: a place for each of its keys, 0 to 11.
 use Rattle.std.specs.Prelude.{◌≡◌, ℕ, ◌<◌, List, Option, None, slice_index_or}
+use Rattle.region_layout.specs.CellsMap.{CELL_KEYS}
 use Rattle.rewind.specs.History.{Contents}
 
-abbrev pub KEY_COUNT : ℕ
-KEY_COUNT = 12
-
 abbrev pub IsTableOf : Contents → List (Option ℕ) → Type 0
-IsTableOf m table = (k : ℕ) → k < KEY_COUNT → slice_index_or table k None ≡ m k
+IsTableOf m table = (k : ℕ) → k < CELL_KEYS → slice_index_or table k None ≡ m k

@@ -5,7 +5,7 @@ ghost use Rattle.lane_traits.specs.Device.{since_load};
 ghost use Rattle.rewind.specs.Served.{script as script_of_text};
 ghost use Rattle.rewind.specs.Events.{event_count};
 ghost use Rattle.rewind.specs.Words.{AreRun, AreKnown, AreWordsOf};
-ghost use Rattle.rewind.specs.Call.{IsCauseOf, IsTextOutcome, AreLimitsOf, IsAnswerTo, HasRun, HasReadFor, status_of, status_of_end, text_of, text_of_end};
+ghost use Rattle.rewind.specs.Call.{IsCauseOf, IsTextOutcome, IsJobOutcome, AreLimitsOf, IsAnswerTo, HasRun, status_of, status_of_end, text_of, text_of_end};
 ghost use Rattle.rewind.specs.Causes.{IsLongInput, IsNoScript, IsNoImageText, IsUnsoundImage};
 ghost use Rattle.rewind.specs.Due.{due, IsDue};
 ghost use Rattle.image_text.specs.declared.image.Image.{Image};
@@ -14,7 +14,7 @@ ghost use Rattle.image_runner.specs.Ends.{words_of, IsAdmitted, EachRecoversAs};
 ghost use Rattle.recovery_passes.specs.Recovered.{IsFinished};
 
 use crate::image_report::end_text;
-use crate::input::{IMAGE_LIMIT, SCRIPT_LIMIT, Unread, read_input};
+use crate::input::{Unread, read_input};
 use crate::report::{report_text, stop_text, wrong_text};
 use crate::run::{Ran, run_script};
 use crate::script::Script;
@@ -205,7 +205,7 @@ fn write_outcome<K: Sink>(alloc: Global, outcome: &Outcome, out: &mut K) -> Stat
     }
 }
 
-/// Reads the input and makes its events on the region.
+/// Reads the input and does the job with it on the region.
 fn replay<S: Source, D: Device>(
     alloc: Global,
     words: &[String],
@@ -227,67 +227,23 @@ fn replay<S: Source, D: Device>(
 {
     match job_of(words) {
         None => Outcome::Usage,
-        Some(Job::Run) => replay_script(alloc, words, source, region),
-        Some(Job::Recover(wanted)) => replay_image(alloc, words, wanted, source, region),
+        Some(job) => match read_input(alloc, source, job.limit()) {
+            Err(Unread::Failed) => Outcome::ReadFault,
+            Err(Unread::TooLong) => Outcome::TooLong,
+            Err(Unread::NoMemory) => Outcome::NoMemory,
+            Ok(text) => do_job(alloc, job, &text, region),
+        },
     }
 }
 
-/// Reads a script and makes its events on the region.
-fn replay_script<S: Source, D: Device>(
-    alloc: Global,
-    words: &[String],
-    source: &mut S,
-    region: &mut D,
-) -> Outcome
-    requires { AreWordsOf Job.Run (map string_bytes words.now) }
+/// Does the job with the text of its whole input.
+fn do_job<D: Device>(alloc: Global, job: Job, text: &[u8], region: &mut D) -> Outcome
     ensures limits { AreLimitsOf result }
-    ensures cause { IsCauseOf result (record {
-      words = map string_bytes words.now;
-      left = S.left source.old;
-      left_after = S.left source.new;
-      faults = S.faults source.old;
-      faults_after = S.faults source.new;
-      region = D.cells region.old;
-      region_after = D.cells region.new;
-      counts = D.counts region.old;
-      counts_after = D.counts region.new;
-    }) }
+    ensures cause { IsJobOutcome job text.now (D.cells region.old) (D.counts region.old) (D.cells region.new) (D.counts region.new) result }
 {
-    match read_input(alloc, source, SCRIPT_LIMIT) {
-        Err(Unread::Failed) => Outcome::ReadFault,
-        Err(Unread::TooLong) => Outcome::TooLong,
-        Err(Unread::NoMemory) => Outcome::NoMemory,
-        Ok(text) => run_text(alloc, &text, region),
-    }
-}
-
-/// Reads an image text and recovers its image on the region.
-fn replay_image<S: Source, D: Device>(
-    alloc: Global,
-    words: &[String],
-    wanted: Wanted,
-    source: &mut S,
-    region: &mut D,
-) -> Outcome
-    requires { AreWordsOf (Job.Recover wanted) (map string_bytes words.now) }
-    ensures limits { AreLimitsOf result }
-    ensures cause { IsCauseOf result (record {
-      words = map string_bytes words.now;
-      left = S.left source.old;
-      left_after = S.left source.new;
-      faults = S.faults source.old;
-      faults_after = S.faults source.new;
-      region = D.cells region.old;
-      region_after = D.cells region.new;
-      counts = D.counts region.old;
-      counts_after = D.counts region.new;
-    }) }
-{
-    match read_input(alloc, source, IMAGE_LIMIT) {
-        Err(Unread::Failed) => Outcome::ReadFault,
-        Err(Unread::TooLong) => Outcome::TooLong,
-        Err(Unread::NoMemory) => Outcome::NoMemory,
-        Ok(text) => Outcome::Recovery(recover_text(alloc, &text, wanted, region)),
+    match job {
+        Job::Run => run_text(alloc, text, region),
+        Job::Recover(wanted) => Outcome::Recovery(recover_text(alloc, text, wanted, region)),
     }
 }
 

@@ -1,5 +1,6 @@
 //! The texts of the reports.
 ghost use Rattle.std.specs.Prelude.{◌≡◌, ◌+◌, ◌<◌, ◌≤◌, ◌++◌, ◌∷◌, [], length, map, IfOk, OnOk, codes, decimal, string_bytes, slice_index, Some, All};
+ghost use Rattle.region_layout.specs.CellsMap.{CELL_KEYS as keys_of_cells};
 ghost use Rattle.rewind.specs.History.{Contents, contents, commit_line, commit_lines, printed, pair_of, pairs, report, stop_report, first_names, history, ended_line};
 ghost use Rattle.rewind.specs.Served.{IsTransaction, wrong_text};
 ghost use Rattle.rewind.specs.Table.{IsTableOf};
@@ -57,7 +58,7 @@ fn push_commit(alloc: Global, commits: &mut List<Printed>, number: u64) -> Resul
 
 /// The pairs of a table, in order.
 fn pairs_of(alloc: Global, table: &[Option<u64>]) -> Result<List<Pair>, NoMemory>
-    requires { length table.now ≡ 12 }
+    requires { length table.now ≡ keys_of_cells }
     ensures { IfOk result (λ found. (m : Contents) → IsTableOf m table.now → found ≡ pairs m) }
 {
     let mut pairs = List::new(alloc);

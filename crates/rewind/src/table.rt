@@ -2,13 +2,15 @@
 ghost use Rattle.std.specs.Prelude.{◌≡◌, ◌<◌, ◌≤◌, length, All};
 ghost use Rattle.rewind.specs.History.{Contents, contents, after_puts, after_transactions};
 ghost use Rattle.rewind.specs.Served.{IsPut, IsTransaction};
+ghost use Rattle.region_layout.specs.CellsMap.{CELL_KEYS as keys_of_cells};
 ghost use Rattle.rewind.specs.Table.{IsTableOf};
 
 use crate::script::Put;
 use persist_model::List;
+use region_layout::CELL_KEYS;
 
-/// How many keys a map of cells can have.
-pub const KEYS: usize = 12;
+/// How many keys a map of cells can have, as a length.
+pub const KEYS: usize = CELL_KEYS as usize;
 
 /// The map that the transactions leave.
 pub fn table_of(transactions: &[List<Put>]) -> [Option<u64>; KEYS]
@@ -24,7 +26,7 @@ pub fn table_of(transactions: &[List<Put>]) -> [Option<u64>; KEYS]
 
 /// Makes the puts in order.
 fn put_all(table: &mut [Option<u64>], puts: &[Put])
-    requires keys { length table.old ≡ 12 }
+    requires keys { length table.old ≡ keys_of_cells }
     requires puts { All IsPut puts.now }
     ensures { (m : Contents) → IsTableOf m table.old → IsTableOf (after_puts m puts.now) table.new }
 {

@@ -1,7 +1,8 @@
 //! The words that the program is called with.
 ghost use Rattle.std.specs.Prelude.{◌≡◌, ◌↔◌, [], ◌∷◌, ℕ, List, IsTrue, IfSome, IfNone, codes, map, string_bytes};
-ghost use Rattle.rewind.specs.Words.{AreWordsOf};
+ghost use Rattle.rewind.specs.Words.{AreWordsOf, limit_of};
 
+use crate::input::{IMAGE_LIMIT, SCRIPT_LIMIT};
 use image_runner::Wanted;
 
 /// What the program is asked to do.
@@ -11,6 +12,18 @@ pub enum Job {
     Run,
     /// To recover the image of a text.
     Recover(Wanted),
+}
+
+impl Job {
+    /// The most bytes of its input.
+    pub fn limit(self) -> usize
+        ensures { result ≡ limit_of self }
+    {
+        match self {
+            Job::Run => SCRIPT_LIMIT,
+            Job::Recover(_) => IMAGE_LIMIT,
+        }
+    }
 }
 
 /// The job that the words name.
