@@ -3,6 +3,7 @@ use Rattle.std.specs.Prelude.{◌≡◌, ℕ, ◌<◌, ◌≤◌, List, [], ◌�
 use Rattle.std.specs.List.{list_all}
 use Rattle.persist_model.specs.Shape.{IsBucketCount, IsBlockCount}
 use Rattle.region_layout.specs.CellsMap.{CELL_KEYS}
+use Rattle.rewind_script.specs.declared.script.TheConstants.{MOST_COMMANDS, MOST_TRANSACTIONS}
 use Rattle.rewind_script.specs.declared.script.Command.{Command}
 use Rattle.rewind_script.specs.declared.script.Command.TheVariants as command
 use Rattle.rewind_script.specs.declared.script.Item.{Item}
@@ -20,12 +21,6 @@ use Rattle.rewind.specs.declared.served.Wrong.{Wrong}
 use Rattle.rewind.specs.declared.served.Wrong.TheVariants as wrong
 use Rattle.rewind.specs.declared.served.Refusal.{Refusal}
 use Rattle.rewind.specs.declared.served.Refusal.TheVariants as refusal
-
-abbrev pub TRANSACTIONS_LIMIT : ℕ
-TRANSACTIONS_LIMIT = 65536
-
-abbrev pub PUTS_LIMIT : ℕ
-PUTS_LIMIT = 256
 
 -- ---- which scripts are run
 
@@ -104,11 +99,11 @@ pub record IsPut (put : Put) : Type 0 where
   pub value : 1 ≤ put.value
 
 pub record IsTransaction (puts : List Put) : Type 0 where
-  pub short : length puts ≤ PUTS_LIMIT
+  pub short : length puts ≤ MOST_COMMANDS
   pub each : All IsPut puts
 
 pub record IsInLimits (buckets blocks : ℕ) (transactions : List (List Put)) : Type 0 where
   pub buckets_within : IsBucketCount buckets
   pub blocks_within : IsBlockCount blocks
-  pub short : length transactions ≤ TRANSACTIONS_LIMIT
+  pub short : length transactions ≤ MOST_TRANSACTIONS
   pub each : All IsTransaction transactions

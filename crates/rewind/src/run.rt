@@ -3,8 +3,9 @@ ghost use Rattle.std.specs.Prelude.{◌≡◌, ◌+◌, ◌<◌, ◌≤◌, ℕ,
 ghost use Rattle.lane_traits.specs.Device.{Counts, since_load};
 ghost use Rattle.persist_model.specs.Shape.{heap};
 ghost use Rattle.region_layout.specs.Layout.{layout_shape};
+ghost use Rattle.rewind_script.specs.declared.script.TheConstants.{MOST_TRANSACTIONS};
 ghost use Rattle.rewind.specs.History.{Contents, contents, after_puts, after_transactions};
-ghost use Rattle.rewind.specs.Served.{IsPut, IsTransaction, IsInLimits, TRANSACTIONS_LIMIT};
+ghost use Rattle.rewind.specs.Served.{IsPut, IsTransaction, IsInLimits};
 ghost use Rattle.rewind.specs.Events.{event_count, store_count, StopsAfter, with_events, has_stopped, IsAtRest, AreCells, HasNoEvent, root_of};
 
 use crate::script::{Put, Script};
@@ -49,7 +50,7 @@ fn run_transaction<D: Device>(region: &mut D, root: u32, puts: &[Put]) -> Done
 /// Makes the events of the transactions in order, up to the first that is stopped.
 fn run_transactions<D: Device>(region: &mut D, root: u32, transactions: &[List<Put>]) -> Ran
     requires each { All IsTransaction transactions.now }
-    requires short { length transactions.now ≤ TRANSACTIONS_LIMIT }
+    requires short { length transactions.now ≤ MOST_TRANSACTIONS }
     requires inside { root + 16 ≤ (D.cells region.old).size }
     requires spare { store_count transactions.now ≤ D.spare region.old }
     ensures size { (D.cells region.new).size ≡ (D.cells region.old).size }
@@ -71,7 +72,7 @@ fn run_transactions<D: Device>(region: &mut D, root: u32, transactions: &[List<P
 /// How many stores the transactions make.
 fn count_stores(transactions: &[List<Put>]) -> u64
     requires each { All IsTransaction transactions.now }
-    requires short { length transactions.now ≤ TRANSACTIONS_LIMIT }
+    requires short { length transactions.now ≤ MOST_TRANSACTIONS }
     ensures { result ≡ store_count transactions.now }
 {
     let mut stores: u64 = 0;
