@@ -15,13 +15,13 @@ use Rattle.rewind.specs.declared.words.Job.TheVariants as job
 use Rattle.rewind.specs.declared.replay.Outcome.{Outcome}
 use Rattle.rewind.specs.declared.replay.Outcome.TheVariants as outcome
 use Rattle.rewind.specs.Words.{AreRun, AreWordsOf, limit_of}
-use Rattle.rewind.specs.Call.{Call, HasRecovered, IsCauseOf, IsAnswerTo, Written, HasRun, status_of, status_of_end, text_of}
-use Rattle.rewind.specs.Causes.{Streams, HasTold, IsLongInput, IsNoScript, IsNoImageText, IsUnsoundImage, refused, broken}
+use Rattle.rewind.specs.Call.{Call, HasRecovered, IsCauseOf, IsAnswerTo, Written, HasTold, HasRun, status_of, status_of_end, text_of}
+use Rattle.rewind.specs.Causes.{IsLongInput, IsNoScript, IsNoImageText, IsUnsoundImage, refused, broken}
 use Rattle.rewind.proofs.Dues.{recover_is_no_run, same_wanted, took_all_is}
 
 -- ---- no two statuses are the same
 
-code : Status → ℕ
+unfoldable pub code : Status → ℕ
 code status.Done = 0
 code status.Usage = 2
 code status.Script = 3
@@ -32,20 +32,17 @@ code status.Unsound = 7
 code status.TooLong = 8
 code status.Stopped = 9
 
--- what a call told, where neither a write failed nor memory ran out
-abbrev streams : Call → Written → Streams
-streams call w = record { left = call.left; left_after = call.left_after; written = w.before; written_after = w.later }
-
 -- no status is two
 differ : (s t : Status) → code s ≢ code t → s ≡ t → ⊥
 differ s t apart same = apart (ap code same)
 
 module _ (call : Call) (answer : Status) (w : Written) (run : HasRun call answer w) where
-  told : (s : Status) → code s ≢ 5 → code s ≢ 6 → answer ≡ s → (status_of run.outcome ≡ s) × HasTold (streams call w) (text_of run.outcome)
+  -- what a call told, where neither a write failed nor memory ran out
+  pub told : (s : Status) → code s ≢ 5 → code s ≢ 6 → answer ≡ s → (status_of run.outcome ≡ s) × HasTold w (text_of run.outcome)
   unfolding code
   told s written memory is = by_told run.told
     where
-      by_told : IsAnswerTo run.outcome answer w → (status_of run.outcome ≡ s) × HasTold (streams call w) (text_of run.outcome)
+      by_told : IsAnswerTo run.outcome answer w → (status_of run.outcome ≡ s) × HasTold w (text_of run.outcome)
       by_told (inl full) = (sym full.status ∙ is, full.text)
       by_told (inr (inl cut)) = absurd (written (ap code (sym is ∙ cut.status)))
       by_told (inr (inr untold)) = absurd (memory (ap code (sym is ∙ untold.status)))
@@ -68,7 +65,7 @@ module _ (call : Call) (w : Written) (j : Job) (words : AreWordsOf j call.words)
   end_not_long ended.NoMemory e = differ status.NoMemory status.TooLong (λ x. omega (arith, x)) e
   end_not_long (ended.Done text) e = differ status.Done status.TooLong (λ x. omega (arith, x)) e
 
-  long_by : (o : Outcome) → IsCauseOf o call → status_of o ≡ status.TooLong → HasTold (streams call w) (text_of o) → IsLongInput j (streams call w)
+  long_by : (o : Outcome) → IsCauseOf o call → status_of o ≡ status.TooLong → HasTold w (text_of o) → IsLongInput j call w
   unfolding code
   long_by outcome.TooLong cause e text = record {
     text = cause.text;
@@ -85,7 +82,7 @@ module _ (call : Call) (w : Written) (j : Job) (words : AreWordsOf j call.words)
   long_by (outcome.Recovery end) cause e text = absurd (end_not_long end e)
 
 pub long_input : (call : Call) (answer : Status) (w : Written) → HasRun call answer w → answer ≡ status.TooLong → (j : Job) → AreWordsOf j call.words
-    → IsLongInput j (record { left = call.left; left_after = call.left_after; written = w.before; written_after = w.later })
+    → IsLongInput j call w
 unfolding code
 long_input call answer w run is j words =
     let t = told call answer w run status.TooLong (λ x. omega (arith, x)) (λ x. omega (arith, x)) is in
@@ -94,7 +91,7 @@ long_input call answer w run is j words =
 -- ---- no script
 
 module _ (call : Call) (w : Written) (words : AreRun call.words) where
-  script_by : (o : Outcome) → IsCauseOf o call → status_of o ≡ status.Script → HasTold (streams call w) (text_of o) → IsNoScript (streams call w)
+  script_by : (o : Outcome) → IsCauseOf o call → status_of o ≡ status.Script → HasTold w (text_of o) → IsNoScript call w
   unfolding code
   script_by (outcome.Wrong wrong) cause e text = record {
     text = cause.text;
@@ -112,7 +109,7 @@ module _ (call : Call) (w : Written) (words : AreRun call.words) where
   script_by (outcome.Recovery end) cause e text = absurd (recover_is_no_run cause.wanted call.words words cause.read.words)
 
 pub no_script : (call : Call) (answer : Status) (w : Written) → HasRun call answer w → answer ≡ status.Script → AreRun call.words
-    → IsNoScript (record { left = call.left; left_after = call.left_after; written = w.before; written_after = w.later })
+    → IsNoScript call w
 unfolding code
 no_script call answer w run is words =
     let t = told call answer w run status.Script (λ x. omega (arith, x)) (λ x. omega (arith, x)) is in
@@ -121,7 +118,7 @@ no_script call answer w run is words =
 -- ---- a recovery
 
 module _ (call : Call) (w : Written) (wanted : Wanted) (words : AreWordsOf (job.Recover wanted) call.words) where
-  misread_end : (end : Ended) → HasRecovered call end → status_of_end end ≡ status.Script → HasTold (streams call w) (text_of (outcome.Recovery end)) → IsNoImageText (streams call w)
+  misread_end : (end : Ended) → HasRecovered call end → status_of_end end ≡ status.Script → HasTold w (text_of (outcome.Recovery end)) → IsNoImageText call w
   unfolding code
   misread_end (ended.Misread line) h e text = record {
     text = h.text;
@@ -136,7 +133,7 @@ module _ (call : Call) (w : Written) (wanted : Wanted) (words : AreWordsOf (job.
   misread_end ended.NoMemory h e text = absurd (differ status.NoMemory status.Script (λ x. omega (arith, x)) e)
   misread_end (ended.Done out) h e text = absurd (differ status.Done status.Script (λ x. omega (arith, x)) e)
 
-  unsound_end : (end : Ended) → HasRecovered call end → status_of_end end ≡ status.Unsound → HasTold (streams call w) (text_of (outcome.Recovery end)) → IsUnsoundImage wanted (streams call w)
+  unsound_end : (end : Ended) → HasRecovered call end → status_of_end end ≡ status.Unsound → HasTold w (text_of (outcome.Recovery end)) → IsUnsoundImage wanted call w
   unfolding code
   unsound_end (ended.Misread line) h e text = absurd (differ status.Script status.Unsound (λ x. omega (arith, x)) e)
   unsound_end (ended.Unsound found) h e text = refused h.text h.read.input h.end_is.0 h.end_is.1 (rule_number found.rule) found.address h.end_is.2.0 text
@@ -146,7 +143,7 @@ module _ (call : Call) (w : Written) (wanted : Wanted) (words : AreWordsOf (job.
   unsound_end ended.NoMemory h e text = absurd (differ status.NoMemory status.Unsound (λ x. omega (arith, x)) e)
   unsound_end (ended.Done out) h e text = absurd (differ status.Done status.Unsound (λ x. omega (arith, x)) e)
 
-  image_by : (o : Outcome) → IsCauseOf o call → status_of o ≡ status.Script → HasTold (streams call w) (text_of o) → IsNoImageText (streams call w)
+  image_by : (o : Outcome) → IsCauseOf o call → status_of o ≡ status.Script → HasTold w (text_of o) → IsNoImageText call w
   unfolding code
   image_by (outcome.Wrong wrong) cause e text = absurd (recover_is_no_run wanted call.words cause.read.words words)
   image_by outcome.Usage cause e text = absurd (differ status.Usage status.Script (λ x. omega (arith, x)) e)
@@ -157,7 +154,7 @@ module _ (call : Call) (w : Written) (wanted : Wanted) (words : AreWordsOf (job.
   image_by (outcome.Done s) cause e text = absurd (differ status.Done status.Script (λ x. omega (arith, x)) e)
   image_by (outcome.Recovery end) cause e text = misread_end end cause e text
 
-  unsound_by : (o : Outcome) → IsCauseOf o call → status_of o ≡ status.Unsound → HasTold (streams call w) (text_of o) → IsUnsoundImage wanted (streams call w)
+  unsound_by : (o : Outcome) → IsCauseOf o call → status_of o ≡ status.Unsound → HasTold w (text_of o) → IsUnsoundImage wanted call w
   unfolding code
   unsound_by (outcome.Wrong wrong) cause e text = absurd (differ status.Script status.Unsound (λ x. omega (arith, x)) e)
   unsound_by outcome.Usage cause e text = absurd (differ status.Usage status.Unsound (λ x. omega (arith, x)) e)
@@ -169,14 +166,14 @@ module _ (call : Call) (w : Written) (wanted : Wanted) (words : AreWordsOf (job.
   unsound_by (outcome.Recovery end) cause e text = unsound_end end cause e text
 
 pub no_image_text : (call : Call) (answer : Status) (w : Written) → HasRun call answer w → answer ≡ status.Script → (wanted : Wanted) → AreWordsOf (job.Recover wanted) call.words
-    → IsNoImageText (record { left = call.left; left_after = call.left_after; written = w.before; written_after = w.later })
+    → IsNoImageText call w
 unfolding code
 no_image_text call answer w run is wanted words =
     let t = told call answer w run status.Script (λ x. omega (arith, x)) (λ x. omega (arith, x)) is in
     image_by call w wanted words run.outcome run.cause t.0 t.1
 
 pub unsound_image : (call : Call) (answer : Status) (w : Written) → HasRun call answer w → answer ≡ status.Unsound → (wanted : Wanted) → AreWordsOf (job.Recover wanted) call.words
-    → IsUnsoundImage wanted (record { left = call.left; left_after = call.left_after; written = w.before; written_after = w.later })
+    → IsUnsoundImage wanted call w
 unfolding code
 unsound_image call answer w run is wanted words =
     let t = told call answer w run status.Unsound (λ x. omega (arith, x)) (λ x. omega (arith, x)) is in

@@ -8,5 +8,6 @@ pub mod Recoveries
 pub mod Dues
 pub mod DueLaws
 pub mod Causes
+pub mod Answering
 pub mod Outcomes
 pub mod Examples

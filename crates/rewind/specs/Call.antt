@@ -214,11 +214,15 @@ pub record Written : Type 0 where
   pub faults : ℕ
   pub faults_after : ℕ
 
+-- the text was written, whole
+abbrev pub HasTold : Written → List ℕ → Type 0
+HasTold w text = IfSome w.before (λ before. w.later ≡ Some (before ++ text))
+
 -- The status is the outcome's and its text was written; or a write failed, and a prefix of it was; or there was no memory
 -- for the text, and nothing was.
 pub record IsToldInFull (o : Outcome) (answer : Status) (w : Written) : Type 0 where
   pub status : answer ≡ status_of o
-  pub text : IfSome w.before (λ before. w.later ≡ Some (before ++ text_of o))
+  pub text : HasTold w (text_of o)
 
 pub record IsCutOff (o : Outcome) (answer : Status) (w : Written) : Type 0 where
   pub status : answer ≡ status.WriteFault

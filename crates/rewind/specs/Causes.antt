@@ -1,5 +1,5 @@
 -- Why a call ended with a status: what it read, and what it told.
-use Rattle.std.specs.Prelude.{◌≡◌, ℕ, ◌<◌, List, ◌++◌, length, Option, Some, codes, IfSome}
+use Rattle.std.specs.Prelude.{◌≡◌, ℕ, ◌<◌, List, length, codes}
 use Rattle.persist_model.specs.ImageRules.{MAP_RULE}
 use Rattle.persist_model.specs.Region.{Words}
 use Rattle.persist_model.specs.Shape.{shape_of, heap}
@@ -15,47 +15,36 @@ use Rattle.rewind.specs.declared.served.Wrong.{Wrong}
 use Rattle.rewind.specs.Words.{limit_of}
 use Rattle.rewind.specs.Served.{IsWrong, wrong_text}
 use Rattle.rewind.specs.History.{ended_line}
-use Rattle.rewind.specs.Call.{Took, TookAll, misread_text, unsound_text}
-
--- What is left of the input before a call and after it, and what is written.
-pub record Streams : Type 0 where
-  pub left : Option (List ℕ)
-  pub left_after : Option (List ℕ)
-  pub written : Option (List ℕ)
-  pub written_after : Option (List ℕ)
-
--- the text was written, whole
-abbrev pub HasTold : Streams → List ℕ → Type 0
-HasTold s text = IfSome s.written (λ before. s.written_after ≡ Some (before ++ text))
+use Rattle.rewind.specs.Call.{Call, Took, TookAll, Written, HasTold, misread_text, unsound_text}
 
 -- More bytes were read than the job's input may have.
-pub record IsLongInput (job : Job) (s : Streams) : Type 0 where
+pub record IsLongInput (job : Job) (call : Call) (w : Written) : Type 0 where
   pub text : List ℕ
-  pub took : Took s.left text s.left_after
+  pub took : Took call.left text call.left_after
   pub long : limit_of job < length text
-  pub told : HasTold s (ended_line (codes "toolong"))
+  pub told : HasTold w (ended_line (codes "toolong"))
 
 -- The text has this first wrong line with this kind of fault, or it is a script that isn't run yet.
-pub record IsNoScript (s : Streams) : Type 0 where
+pub record IsNoScript (call : Call) (w : Written) : Type 0 where
   pub text : List ℕ
-  pub took : TookAll s.left text s.left_after
+  pub took : TookAll call.left text call.left_after
   pub wrong : Wrong
   pub is_wrong : IsWrong (meaning_of_text text) wrong
-  pub told : HasTold s (wrong_text wrong)
+  pub told : HasTold w (wrong_text wrong)
 
 -- This line of the text is the first that breaks the grammar of image texts.
-pub record IsNoImageText (s : Streams) : Type 0 where
+pub record IsNoImageText (call : Call) (w : Written) : Type 0 where
   pub text : List ℕ
-  pub took : TookAll s.left text s.left_after
+  pub took : TookAll call.left text call.left_after
   pub line : ℕ
   pub breaks : BreaksAt text line
-  pub told : HasTold s (misread_text line)
+  pub told : HasTold w (misread_text line)
 
 -- The image breaks this rule first, or its lines don't fit it; or, where a report is wanted, this is the root block of the first
 -- structure whose standing words are no map.
-pub data IsUnsoundImage (wanted : Wanted) (s : Streams) : Type 0 where
-  refused : (text : List ℕ) → TookAll s.left text s.left_after → (i : Image) → IsTextOf text i
-      → (fault a : ℕ) → IsRefusedBy i fault a → HasTold s (unsound_text fault a) → IsUnsoundImage wanted s
-  broken : wanted ≡ want.Report → (text : List ℕ) → TookAll s.left text s.left_after → (i : Image) → IsTextOf text i → IsAdmitted i
+pub data IsUnsoundImage (wanted : Wanted) (call : Call) (w : Written) : Type 0 where
+  refused : (text : List ℕ) → TookAll call.left text call.left_after → (i : Image) → IsTextOf text i
+      → (fault a : ℕ) → IsRefusedBy i fault a → HasTold w (unsound_text fault a) → IsUnsoundImage wanted call w
+  broken : wanted ≡ want.Report → (text : List ℕ) → TookAll call.left text call.left_after → (i : Image) → IsTextOf text i → IsAdmitted i
       → (a : ℕ) → ((z : Words) → AreStanding (words_of i) z → IsFirstBroken (heap (shape_of (words_of i))) z i.kinds a)
-      → HasTold s (unsound_text MAP_RULE a) → IsUnsoundImage wanted s
+      → HasTold w (unsound_text MAP_RULE a) → IsUnsoundImage wanted call w

@@ -6,3 +6,4 @@ pub mod Words
 pub mod Call
 pub mod Due
 pub mod Causes
+pub mod Answered

@@ -1,17 +1,7 @@
 //! Replays the script of an input.
-ghost use Rattle.std.specs.Prelude.{◌≡◌, ◌≢◌, ◌⊎◌, ◌+◌, ◌^◌, ◌≤◌, ℕ, List, Some, Ok, length, map, string_bytes, IfOk};
-ghost use Rattle.lane_traits.specs.Stream.{HasRisen};
-ghost use Rattle.lane_traits.specs.Device.{since_load};
-ghost use Rattle.rewind.specs.Served.{script as script_of_text};
-ghost use Rattle.rewind.specs.Events.{event_count};
-ghost use Rattle.rewind.specs.Words.{AreRun, AreKnown, AreWordsOf};
-ghost use Rattle.rewind.specs.Call.{IsCauseOf, IsTextOutcome, IsJobOutcome, AreLimitsOf, IsAnswerTo, HasRun, status_of, status_of_end, text_of, text_of_end};
-ghost use Rattle.rewind.specs.Causes.{IsLongInput, IsNoScript, IsNoImageText, IsUnsoundImage};
-ghost use Rattle.rewind.specs.Due.{due, IsDue};
-ghost use Rattle.image_text.specs.declared.image.Image.{Image};
-ghost use Rattle.image_text.specs.Grammar.{IsTextOf};
-ghost use Rattle.image_runner.specs.Ends.{words_of, IsAdmitted, EachRecoversAs};
-ghost use Rattle.recovery_passes.specs.Recovered.{IsFinished};
+ghost use Rattle.std.specs.Prelude.{◌≡◌, map, string_bytes, IfOk};
+ghost use Rattle.rewind.specs.Call.{IsCauseOf, IsTextOutcome, IsJobOutcome, AreLimitsOf, IsAnswerTo, status_of, status_of_end, text_of, text_of_end};
+ghost use Rattle.rewind.specs.Answered.{HasAnswered};
 
 use crate::image_report::end_text;
 use crate::input::{Unread, read_input};
@@ -102,63 +92,7 @@ pub fn rewind_replay<S: Source, K: Sink, D: Device>(
     mut region: D,
     out: &mut K,
 ) -> (Status, D)
-    ensures usage { result.0 ≡ Status.Usage → ¬ (AreKnown (map string_bytes words.now)) }
-    ensures misused { ¬ (AreKnown (map string_bytes words.now)) → ¬ (HasRisen (K.faults out.old) (K.faults out.new))
-        → (result.0 ≡ Status.Usage) ⊎ (result.0 ≡ Status.NoMemory) }
-    ensures due { (bytes : List ℕ) → S.left script.old ≡ Some bytes → AreRun (map string_bytes words.now)
-        → ¬ (HasRisen (S.faults script.old) (S.faults script.new)) → ¬ (HasRisen (K.faults out.old) (K.faults out.new))
-        → ¬ (HasRisen (D.counts region).stopped (D.counts result.1).stopped) → (result.0 ≡ due bytes) ⊎ (result.0 ≡ Status.NoMemory) }
-    ensures read_fault { result.0 ≡ Status.ReadFault → HasRisen (S.faults script.old) (S.faults script.new) }
-    ensures write_fault { result.0 ≡ Status.WriteFault → HasRisen (K.faults out.old) (K.faults out.new) }
-    ensures stopped { result.0 ≡ Status.Stopped → HasRisen (D.counts region).stopped (D.counts result.1).stopped }
-    ensures too_long { result.0 ≡ Status.TooLong → (job : Job) → AreWordsOf job (map string_bytes words.now) → IsLongInput job
-        (record {
-          left = S.left script.old;
-          left_after = S.left script.new;
-          written = K.written out.old;
-          written_after = K.written out.new;
-        }) }
-    ensures no_script { result.0 ≡ Status.Script → AreRun (map string_bytes words.now) → IsNoScript
-        (record {
-          left = S.left script.old;
-          left_after = S.left script.new;
-          written = K.written out.old;
-          written_after = K.written out.new;
-        }) }
-    ensures no_image_text { result.0 ≡ Status.Script → (wanted : Wanted) → AreWordsOf (Job.Recover wanted) (map string_bytes words.now) → IsNoImageText
-        (record {
-          left = S.left script.old;
-          left_after = S.left script.new;
-          written = K.written out.old;
-          written_after = K.written out.new;
-        }) }
-    ensures unsound_image { result.0 ≡ Status.Unsound → (wanted : Wanted) → AreWordsOf (Job.Recover wanted) (map string_bytes words.now) → IsUnsoundImage wanted
-        (record {
-          left = S.left script.old;
-          left_after = S.left script.new;
-          written = K.written out.old;
-          written_after = K.written out.new;
-        }) }
-    ensures last_load { (result.0 ≡ Status.Done) ⊎ (result.0 ≡ Status.Stopped) → (D.counts result.1).restarts ≡ (since_load (D.counts region)).restarts }
-    ensures one_event_each { AreRun (map string_bytes words.now) → (bytes : List ℕ) (s : Script) → S.left script.old ≡ Some bytes → script_of_text bytes ≡ Some s
-        → (D.counts result.1).events ≤ (D.counts region).events + event_count s.transactions }
-    ensures never_unsound { AreRun (map string_bytes words.now) → result.0 ≢ Status.Unsound }
-    ensures recover_due { (wanted : Wanted) (bytes : List ℕ) (due : Status) → AreWordsOf (Job.Recover wanted) (map string_bytes words.now)
-        → S.left script.old ≡ Some bytes → IsDue wanted bytes due
-        → ¬ (HasRisen (S.faults script.old) (S.faults script.new)) → ¬ (HasRisen (K.faults out.old) (K.faults out.new))
-        → ¬ (HasRisen (D.counts region).stopped (D.counts result.1).stopped) → (result.0 ≡ due) ⊎ (result.0 ≡ Status.NoMemory) }
-    // A recovery takes fewer events than this.
-    ensures enough { (wanted : Wanted) → AreWordsOf (Job.Recover wanted) (map string_bytes words.now)
-        → (D.counts region).events + 2 ^ 22 ≤ (D.counts region).budget → result.0 ≢ Status.Stopped }
-    // An image that a recovery left wants none.
-    ensures again { (wanted : Wanted) (bytes : List ℕ) (i : Image) → AreWordsOf (Job.Recover wanted) (map string_bytes words.now)
-        → S.left script.old ≡ Some bytes → IsTextOf bytes i → IsFinished (length i.words) (words_of i)
-        → (D.counts result.1).events ≡ (D.counts region).events }
-    // Whatever a stop leaves of the device then can be recovered in the image's place.
-    ensures recovered_again { (wanted : Wanted) (bytes : List ℕ) (i : Image) → AreWordsOf (Job.Recover wanted) (map string_bytes words.now)
-        → S.left script.old ≡ Some bytes → IsTextOf bytes i → IsAdmitted i
-        → (result.0 ≡ Status.Done) ⊎ (result.0 ≡ Status.Stopped) ⊎ (result.0 ≡ Status.Unsound) → EachRecoversAs i (D.cells result.1) }
-    ensures ran { HasRun
+    ensures { HasAnswered
         (record {
           words = map string_bytes words.now;
           left = S.left script.old;
