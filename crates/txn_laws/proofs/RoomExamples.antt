@@ -2,16 +2,15 @@
 -- has two updates, and transaction 7 of lane 1 is over; transaction 5 of lane 2 is in the second, with one deletion.
 use Rattle.std.proofs.Common.{◌≡◌, ℕ, zero, suc, true, false, List, [], ◌∷◌, refl}
 use Rattle.persist_model.specs.Kinds.{COMMITTED, DELETION, END, NO_OUTCOME, UPDATE}
-use Rattle.persist_model.specs.Progress.{write}
 use Rattle.persist_model.specs.Records.{Record, Log}
 use Rattle.persist_model.specs.Shape.{Shape}
 use Rattle.bucket_log.specs.declared.append.Place.{Place}
-use Rattle.log_keeper.specs.Parts.{rests, appends, closes}
+use Rattle.log_keeper.specs.Parts.{appends, closes}
 use Rattle.log_keeper.specs.Logged.{Keeping}
 use Rattle.log_keeper.specs.Needs.{need_at}
-use Rattle.txn_laws.specs.Txns.{Txn, idle}
+use Rattle.txn_laws.specs.Txns.{Txn, idle, txn_at}
 use Rattle.txn_laws.specs.Needs.{undo_cells, is_open, need_by, sum_lanes}
-use Rattle.txn_laws.specs.Rooms.{stores_gate, taken_in, Share, reserved_by, reserved_in}
+use Rattle.txn_laws.specs.Rooms.{stores_gate, taken_in, Share, reserved_by, reserved_in, sum_below}
 
 abbrev shape : Shape
 shape = record { policy = 1; cells = 1; buckets = 8; blocks = 16; structures = 1; format = 2; partitions = 2 }
@@ -63,6 +62,9 @@ shares (suc (suc l)) = record { promised = 0; bound = true }
 
 reserved : (reserved_in shares lanes 0 ≡ 6) × (reserved_in shares lanes 1 ≡ 2)
 reserved = (refl, refl)
+
+summed : sum_below (λ l. reserved_by 0 (shares l) (txn_at lanes l)) 3 ≡ 6
+summed = refl
 
 -- a first call's promise has two cells beside it
 first_call : reserved_by 0 (record { promised = 2; bound = true }) (record idle { number = 3 }) ≡ 4

@@ -9,7 +9,7 @@ use Rattle.persist_model.specs.declared.event.Event.TheVariants.{Store, PStore, 
 use Rattle.persist_model.specs.Region.{Words, Region, candidate, mark_last, with_word, IsCandidate, MayStand, newest, after}
 use Rattle.persist_model.specs.Progress.{Reaches, IsDurable}
 use Rattle.persist_model.specs.Runs.{progress_at}
-use Rattle.persist_model.specs.Shape.{Shape, words_of_shape}
+use Rattle.persist_model.specs.Shape.{heap_words, Shape, words_of_shape}
 use Rattle.persist_model.specs.State.{State}
 use Rattle.persist_model.specs.Records.{Record}
 use Rattle.persist_model.proofs.Candidates.{IsCandidate_newest, length-mark_last}
@@ -33,9 +33,11 @@ use Rattle.log_keeper.proofs.Rooms.{room_is_one, room_of_state, room_alike, join
 use Rattle.log_keeper.proofs.EventsPass.{images_are_reached}
 use Rattle.log_keeper.proofs.RoomEvents.{rooms_stay, closings_raise_rooms}
 use Rattle.txn_laws.specs.Worlds.{World, IsWorldAt}
-use Rattle.txn_laws.specs.Rooms.{is_append, taken_in, IsInHeap, FewerAreRoomy, AsksAreRoomy, HeapEventsAreRoomy, PartsAreRoomy, RestsAreRoomy}
+use Rattle.txn_laws.specs.Rooms.{IsRoomy, is_append, taken_in, IsInHeap, FewerAreRoomy, AsksAreRoomy, HeapEventsAreRoomy, PartsAreRoomy, RestsAreRoomy, RoomsStart}
 use Rattle.txn_laws.proofs.Storing.{fenced_some}
 use Rattle.txn_laws.proofs.TakenOut.{removal_out}
+use Rattle.txn_laws.proofs.Starting.{worlds_start}
+use Rattle.txn_laws.specs.StartLaws.{fresh_world}
 
 self_test : (p : ℕ) → (p == p) ≡ true
 self_test p = grind (arith, nat_tests)
@@ -388,3 +390,15 @@ rests_are_roomy = record {
     );
   };
 }
+
+-- ---- the beginning
+
+pub rooms_start : RoomsStart
+rooms_start shape base s chains lanes next region reserved force numbers finished less = (world, roomy)
+  where
+    world : IsWorldAt shape base s chains (heap_words shape base) (fresh_world lanes next) region
+    world = worlds_start shape base s chains lanes next region force numbers finished
+
+    roomy : IsRoomy shape region reserved
+    roomy = rests_are_roomy.begins shape base s chains (heap_words shape base) (fresh_world lanes next) region reserved (λ p inside. refl) less
+        (λ a lt. (let one = finished.settled a lt in omega (arith, one))) (worlds_start shape base s chains lanes next region force numbers finished)

@@ -1,11 +1,11 @@
 -- The cells that are reserved in each partition, against the room in the newest words.
-use Rattle.std.specs.Prelude.{◌≡◌, ℕ, suc, ◌+◌, ◌<◌, ◌≤◌, Bool, true, false, ◌==◌, ◌&&◌, if◌then◌else◌, List, [], ◌∷◌, length}
+use Rattle.std.specs.Prelude.{◌≡◌, ◌^◌, ◌*◌, ◌≢◌, ℕ, zero, suc, ◌+◌, ◌<◌, ◌≤◌, Bool, true, false, ◌==◌, ◌&&◌, if◌then◌else◌, List, [], ◌∷◌, length}
 use Rattle.persist_model.specs.declared.event.Event.{Event}
 use Rattle.persist_model.specs.declared.event.Event.TheVariants.{Store, PStore, WriteBack, Fence}
 use Rattle.persist_model.specs.Region.{Words, Region, after}
 use Rattle.persist_model.specs.Records.{Record, Log}
 use Rattle.persist_model.specs.Need.{has_of}
-use Rattle.persist_model.specs.Shape.{Shape, IsHeapWord, part_of}
+use Rattle.persist_model.specs.Shape.{Shape, IsHeapWord, heap_words, part_of}
 use Rattle.persist_model.specs.State.{State}
 use Rattle.log_laws.specs.MoveRoom.{HasCells, HasItsCells}
 use Rattle.log_keeper.specs.Parts.{LogPart, rests, appends, closes, takes_back, drops}
@@ -16,6 +16,7 @@ use Rattle.log_keeper.specs.Rooms.{IsRoomAt, IsRoomFrom, IsNewestOf}
 use Rattle.txn_laws.specs.Txns.{Txn, txn_at}
 use Rattle.txn_laws.specs.Needs.{undo_cells, is_open}
 use Rattle.txn_laws.specs.Worlds.{World, IsWorldAt}
+use Rattle.txn_laws.specs.StartLaws.{IsFinished, fresh_world}
 
 -- ---- the invariant
 
@@ -79,6 +80,12 @@ pub record RestsAreRoomy : Type 0 where
       ((p : ℕ) → p < shape.partitions → (w.keeping.runs p).part ≡ rests) → ((p : ℕ) → p < shape.partitions → reserved p ≤ s.room p) →
       ((a : ℕ) → a < region.size → 0 < length (region.at a)) → IsWorldAt shape base s chains start w region → IsRoomy shape region reserved
 
+-- So it begins, with as many cells reserved as there is room for.
+abbrev pub RoomsStart : Type 0
+RoomsStart = (shape : Shape) (base : Words) (s : State) (chains : ℕ → List ℕ) (lanes next : ℕ) (region : Region) (reserved : ℕ → ℕ) → shape.policy ≢ 2 →
+    next + shape.cells * (shape.buckets + shape.partitions) + 1 ≤ 2 ^ 63 → IsFinished shape base s chains region → ((p : ℕ) → p < shape.partitions → reserved p ≤ s.room p) →
+    IsWorldAt shape base s chains (heap_words shape base) (fresh_world lanes next) region × IsRoomy shape region reserved
+
 -- ---- the lanes' shares
 
 -- the cells of a lane's call whose records aren't in the log yet, and whether those that undo and end its transaction are kept
@@ -95,19 +102,30 @@ abbrev pub reserved_in : (ℕ → Share) → List Txn → ℕ → ℕ
 reserved_in shares [] p = 0
 reserved_in shares (x ∷ lanes) p = reserved_by p (shares 0) x + reserved_in (λ l. shares (suc l)) lanes p
 
--- they are kept for each transaction that has a record in the log and whose end isn't fenced
-abbrev pub AreBound : Log → (ℕ → Share) → List Txn → Type 0
-AreBound log shares lanes = (l : ℕ) → is_open log (txn_at lanes l) ≡ true → (shares l).bound ≡ true
+-- a sum by the lanes' numbers, as a book keeps it
+abbrev pub sum_below : (ℕ → ℕ) → ℕ → ℕ
+sum_below f zero = 0
+sum_below f (suc n) = sum_below f n + f n
+
+-- It is the same.
+abbrev pub SharesAreSummed : Type 0
+SharesAreSummed = (f : ℕ → ℕ) (shares : ℕ → Share) (lanes : List Txn) (p : ℕ) →
+    ((l : ℕ) → l < length lanes → f l ≡ reserved_by p (shares l) (txn_at lanes l)) → sum_below f (length lanes) ≡ reserved_in shares lanes p
+
+-- In p they are kept for each transaction that has a record in the log and whose end isn't fenced.
+abbrev pub AreBound : ℕ → Log → (ℕ → Share) → List Txn → Type 0
+AreBound p log shares lanes = (l : ℕ) → (txn_at lanes l).part ≡ p → is_open log (txn_at lanes l) ≡ true → (shares l).bound ≡ true
 
 -- What they are in the newest log they are in the settled one.
 abbrev pub NewestAreBound : Type 0
-NewestAreBound = (shape : Shape) (base : Words) (s : State) (chains : ℕ → List ℕ) (start : Words) (w : World) (region : Region) (shares : ℕ → Share) →
-    IsWorldAt shape base s chains start w region → AreBound (newest_log w.keeping.ledger) shares w.lanes → AreBound s.log shares w.lanes
+NewestAreBound = (shape : Shape) (base : Words) (s : State) (chains : ℕ → List ℕ) (start : Words) (w : World) (region : Region) (shares : ℕ → Share) (p : ℕ) →
+    IsWorldAt shape base s chains start w region → AreBound p (newest_log w.keeping.ledger) shares w.lanes → AreBound p s.log shares w.lanes
 
 -- ---- what an append asks
 
--- r is to be a record of lane l's transaction, which runs, for which cells are kept, and in whose part nothing is under way. There is room for all that is reserved.
-pub record IsReserved (shape : Shape) (s : State) (w : World) (region : Region) (shares : ℕ → Share) (l : ℕ) (r : Record) : Type 0 where
+-- r is to be a record of lane l's transaction, which runs, for which cells are kept, and in whose part nothing is under way. There is room for what is
+-- reserved, which in that part is what the lanes' shares come to, or more. Of other parts nothing is asked: there a share may be ahead of the settled log.
+pub record IsReserved (shape : Shape) (s : State) (w : World) (region : Region) (reserved : ℕ → ℕ) (shares : ℕ → Share) (l : ℕ) (r : Record) : Type 0 where
   pub lane : l < length w.lanes
   pub inside : (txn_at w.lanes l).part < shape.partitions
   pub free : (w.keeping.runs (txn_at w.lanes l).part).part ≡ rests
@@ -115,8 +133,9 @@ pub record IsReserved (shape : Shape) (s : State) (w : World) (region : Region) 
   pub of : r.transaction ≡ (txn_at w.lanes l).number
   pub here : part_of shape r.at ≡ (txn_at w.lanes l).part
   pub kept : (shares l).bound ≡ true
-  pub others : AreBound s.log shares w.lanes
-  pub roomy : IsRoomy shape region (reserved_in shares w.lanes)
+  pub others : AreBound (txn_at w.lanes l).part s.log shares w.lanes
+  pub roomy : IsRoomy shape region reserved
+  pub covers : reserved_in shares w.lanes (txn_at w.lanes l).part ≤ reserved (txn_at w.lanes l).part
 
 -- So the record has its cells: two promised ones serve an update, and one a deletion; what undoes and ends the transaction needs none.
 pub record HasReserved (shape : Shape) (s : State) (x : Txn) (c : Share) (r : Record) : Type 0 where
@@ -126,5 +145,5 @@ pub record HasReserved (shape : Shape) (s : State) (x : Txn) (c : Share) (r : Re
   pub ends : HasItsCells shape s r 1
 
 abbrev pub CellsAreReserved : Type 0
-CellsAreReserved = (shape : Shape) (base : Words) (s : State) (chains : ℕ → List ℕ) (start : Words) (w : World) (region : Region) (shares : ℕ → Share) (l : ℕ) (r : Record) →
-    IsReserved shape s w region shares l r → IsWorldAt shape base s chains start w region → HasReserved shape s (txn_at w.lanes l) (shares l) r
+CellsAreReserved = (shape : Shape) (base : Words) (s : State) (chains : ℕ → List ℕ) (start : Words) (w : World) (region : Region) (reserved : ℕ → ℕ) (shares : ℕ → Share) (l : ℕ) (r : Record) →
+    IsReserved shape s w region reserved shares l r → IsWorldAt shape base s chains start w region → HasReserved shape s (txn_at w.lanes l) (shares l) r

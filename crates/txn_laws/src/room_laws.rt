@@ -6,6 +6,8 @@ ghost use Rattle.txn_laws.specs.Rooms.{
   HeapEventsAreRoomy,
   PartsAreRoomy,
   RestsAreRoomy,
+  RoomsStart,
+  SharesAreSummed,
   NewestAreBound,
   CellsAreReserved,
 };
@@ -43,6 +45,16 @@ pub fn parts_are_roomy()
 /// Where nothing is under way it is the settled room.
 pub fn rests_are_roomy()
     ensures { RestsAreRoomy }
+{}
+
+/// So a world begins with room for what is reserved.
+pub fn rooms_start()
+    ensures { RoomsStart }
+{}
+
+/// What is reserved for the lanes is their sum by number.
+pub fn shares_are_summed()
+    ensures { SharesAreSummed }
 {}
 
 /// Cells that are kept for the transactions with records in the newest log are for those of the settled one.
