@@ -16,7 +16,7 @@ use Rattle.txn_laws.specs.Owners.{IsMine}
 use Rattle.txn_laws.specs.Heaps.{now_of}
 use Rattle.txn_laws.specs.AreTransactions.{IsTransaction}
 use Rattle.txn_laws.specs.Worlds.{World, IsWorldAt}
-use Rattle.txn_laws.specs.StartLaws.{IsFinished, fresh_world, WorldsStart}
+use Rattle.txn_laws.specs.StartLaws.{IsStartingRegion, fresh_world, WorldsStart}
 use Rattle.txn_laws.proofs.Finding.{idle_none, now_nobodys, some_candidate}
 
 idle_at : (n l : ℕ) → txn_at (idle_lanes n) l ≡ idle

@@ -16,7 +16,7 @@ use Rattle.log_keeper.specs.Rooms.{IsRoomAt, IsRoomFrom, IsNewestOf}
 use Rattle.txn_laws.specs.Txns.{Txn, txn_at}
 use Rattle.txn_laws.specs.Needs.{undo_cells, is_open}
 use Rattle.txn_laws.specs.Worlds.{World, IsWorldAt}
-use Rattle.txn_laws.specs.StartLaws.{IsFinished, fresh_world}
+use Rattle.txn_laws.specs.StartLaws.{IsStartingRegion, fresh_world}
 
 -- ---- the invariant
 
@@ -83,7 +83,7 @@ pub record RestsAreRoomy : Type 0 where
 -- So it begins, with as many cells reserved as there is room for.
 abbrev pub RoomsStart : Type 0
 RoomsStart = (shape : Shape) (base : Words) (s : State) (chains : ℕ → List ℕ) (lanes next : ℕ) (region : Region) (reserved : ℕ → ℕ) → shape.policy ≢ 2 →
-    next + shape.cells * (shape.buckets + shape.partitions) + 1 ≤ 2 ^ 63 → IsFinished shape base s chains region → ((p : ℕ) → p < shape.partitions → reserved p ≤ s.room p) →
+    next + shape.cells * (shape.buckets + shape.partitions) + 1 ≤ 2 ^ 63 → IsStartingRegion shape base s chains region → ((p : ℕ) → p < shape.partitions → reserved p ≤ s.room p) →
     IsWorldAt shape base s chains (heap_words shape base) (fresh_world lanes next) region × IsRoomy shape region reserved
 
 -- ---- the lanes' shares

@@ -13,7 +13,7 @@ use Rattle.txn_laws.specs.Txns.{idle_lanes}
 use Rattle.txn_laws.specs.Worlds.{World, IsWorldAt}
 
 -- All words are settled, at base, which is sound, without a record, and whose lists are at rest.
-pub record IsFinished (shape : Shape) (base : Words) (s : State) (chains : ℕ → List ℕ) (region : Region) : Type 0 where
+pub record IsStartingRegion (shape : Shape) (base : Words) (s : State) (chains : ℕ → List ℕ) (region : Region) : Type 0 where
   pub allowed : IsAllowed shape
   pub of_shape : shape_of base ≡ shape
   pub header : IsShape region.size base
@@ -31,5 +31,5 @@ fresh_world lanes next = record { keeping = starting []; next = next; under = λ
 -- The invariant holds there, with the heap of the region's words and no history.
 abbrev pub WorldsStart : Type 0
 WorldsStart = (shape : Shape) (base : Words) (s : State) (chains : ℕ → List ℕ) (lanes next : ℕ) (region : Region) → shape.policy ≢ 2 →
-    next + shape.cells * (shape.buckets + shape.partitions) + 1 ≤ 2 ^ 63 → IsFinished shape base s chains region →
+    next + shape.cells * (shape.buckets + shape.partitions) + 1 ≤ 2 ^ 63 → IsStartingRegion shape base s chains region →
     IsWorldAt shape base s chains (heap_words shape base) (fresh_world lanes next) region
