@@ -96,7 +96,7 @@ const CASES: [(Words<'static>, (u32, u32)); 7] = [
         ],
         (NOT_RECOVERED, 40),
     ),
-    // Two are, the older one behind the other.
+    // Two are, of a committed transaction whose end stands before its update.
     (
         &[
             (0, 0x5257_4e44_0000_0001),
@@ -110,16 +110,16 @@ const CASES: [(Words<'static>, (u32, u32)); 7] = [
             (33, 48),
             (48, 32),
             (40, 2),
-            (41, 2),
-            (42, 1),
-            (43, 104),
-            (45, 8),
+            (41, 1),
+            (42, 4),
+            (47, 1),
             (56, 1),
             (57, 1),
             (58, 1),
             (59, 103),
             (61, 7),
             (96, 1),
+            (103, 7),
         ],
         (NOT_RECOVERED, 40),
     ),
