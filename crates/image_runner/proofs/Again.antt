@@ -15,7 +15,7 @@ use Rattle.recovery_passes.specs.Recovered.{StandsAsIn, EachStands}
 use Rattle.image_runner.specs.declared.runner.Wanted.{Wanted}
 use Rattle.image_runner.specs.declared.runner.Ended.{Ended}
 use Rattle.image_runner.specs.declared.runner.Ended.TheVariants as ended
-use Rattle.image_runner.specs.MapLines.{Fit}
+use Rattle.migration.specs.Fits.{Fit}
 use Rattle.image_runner.specs.Ends.{AreStanding, words_of, IsAdmitted, IsRefusedBy, RecoversAs, EachRecoversAs, IsEndOf, RecoversAgain, IsNeverUnsound}
 use Rattle.image_runner.proofs.Kept.{header_word, kind_word, one_loaded, same_shape}
 use Rattle.image_runner.proofs.Excluding.{refused_admitted}

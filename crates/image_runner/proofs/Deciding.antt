@@ -12,7 +12,7 @@ use Rattle.region_layout.specs.declared.layout.Kind.{Kind}
 use Rattle.region_layout.specs.Layout.{kind_number}
 use Rattle.region_layout.specs.HeapBlocks.{root_of}
 use Rattle.region_layout.specs.Contents.{IsMap}
-use Rattle.image_runner.specs.MapLines.{IsOfKind, Fit, IsLineFault, counted as miscounted, other}
+use Rattle.migration.specs.Fits.{IsOfKind, Fit, IsLineFault, counted as miscounted, other}
 use Rattle.image_runner.specs.Maps.{AreMapsFrom, AreMaps, IsFirstBroken}
 use Rattle.image_runner.specs.Ends.{AreStanding}
 

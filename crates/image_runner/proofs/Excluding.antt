@@ -8,7 +8,7 @@ use Rattle.region_layout.specs.Contents.{IsMap}
 use Rattle.image_text.specs.declared.image.Image.{Image}
 use Rattle.image_runner.specs.declared.runner.Wanted.{Wanted}
 use Rattle.image_runner.specs.declared.runner.Wanted.TheVariants as want
-use Rattle.image_runner.specs.MapLines.{Fit, IsLineFault, counted as miscounted, other}
+use Rattle.migration.specs.Fits.{Fit, IsLineFault, counted as miscounted, other}
 use Rattle.image_runner.specs.Maps.{AreMaps, AreMapsFrom, IsFirstBroken}
 use Rattle.image_runner.specs.Ends.{words_of, IsAdmitted, IsRefusedBy, unsound, unfit}
 

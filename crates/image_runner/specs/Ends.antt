@@ -18,7 +18,7 @@ use Rattle.image_runner.specs.declared.runner.Wanted.{Wanted}
 use Rattle.image_runner.specs.declared.runner.Wanted.TheVariants as want
 use Rattle.image_runner.specs.declared.runner.Ended.{Ended}
 use Rattle.image_runner.specs.declared.runner.Ended.TheVariants as ended
-use Rattle.image_runner.specs.MapLines.{Fit, IsLineFault}
+use Rattle.migration.specs.Fits.{Fit, IsLineFault}
 use Rattle.image_runner.specs.Maps.{HoldMaps, IsFirstBroken}
 
 -- z are the standing words of w: the heap words have their standing values, and no word stands behind them

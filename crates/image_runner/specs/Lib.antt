@@ -1,4 +1,3 @@
-pub mod MapLines
 pub mod Maps
 pub mod Reader
 pub mod Cells

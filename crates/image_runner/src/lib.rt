@@ -3,7 +3,6 @@
 
 mod cells;
 pub mod laws;
-mod map_lines;
 mod maps;
 mod reader;
 mod runner;

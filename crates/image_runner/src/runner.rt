@@ -11,10 +11,10 @@ ghost use Rattle.recovery_passes.specs.Reading.{IsLogRead};
 ghost use Rattle.image_runner.specs.Ends.{words_of, IsAdmitted, IsRefusedBy, EachRecoversAs, IsEndOfImage, IsEndOf};
 ghost use Rattle.image_runner.specs.Tells.{Tells, end_of_refusal, end_of_fault};
 
-use crate::map_lines::wrong_line;
 use crate::maps::{MapFault, read_maps};
 use image_text::{Image, TextFault, read_image, write_image};
 use lane_traits::Device;
+use migration::wrong_line;
 use persist_model::{List, Look, NoMemory};
 use recovery_passes::{CheckFault, Recovered, SoundLog, Unfinished, read_sound, recover_read};
 use region_layout::{ImageFault, Kind, Layout};
