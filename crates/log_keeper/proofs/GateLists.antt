@@ -1,8 +1,9 @@
 -- Gates that are listed one after the other.
-use Rattle.std.proofs.Common.{◌≡◌, ◌⊎◌, inl, inr, ℕ, suc, ◌+◌, ◌<◌, ◌≤◌, Bool, true, false, if◌then◌else◌, List, [], ◌∷◌, ◌++◌, length, drop, get_or, refl, sym, ap, ◌∙◌, subst, arith, length-append}
+use Rattle.std.proofs.Common.{◌≡◌, inl, inr, ℕ, suc, ◌+◌, ◌<◌, ◌≤◌, Bool, true, false, if◌then◌else◌, List, [], ◌∷◌, ◌++◌, length, drop, get_or, refl, sym, ap, ◌∙◌, subst, arith, length-append}
 use Rattle.std.proofs.Math.Seq.{drop-cons}
 use Rattle.std.proofs.lemmas.List.{append_assoc, append-nil, drop_all}
 use Rattle.persist_model.specs.Records.{IsAmong}
+use Rattle.bucket_log.proofs.Scans.{among_left, among_right, among_append}
 use Rattle.log_keeper.specs.declared.ledger.Entry.{Entry}
 use Rattle.log_keeper.specs.Ledger.{Noted}
 use Rattle.log_keeper.specs.Noting.{noted_of, ledger_of}
@@ -19,20 +20,6 @@ gates-first t ends x entries = gates-append t ends (ledger_of entries) (noted_of
 
 -- ---- whose they are
 
-among_either : (xs ys : List ℕ) (a : ℕ) → IsAmong (xs ++ ys) a → IsAmong xs a ⊎ IsAmong ys a
-among_either [] ys a m = inr m
-among_either (x ∷ xs) ys a (inl e) = inl (inl e)
-among_either (x ∷ xs) ys a (inr m) = elim (among_either xs ys a m) [ inl k ↦ inl (inr k) | inr k ↦ inr k ]
-
-among_first : (xs ys : List ℕ) (a : ℕ) → IsAmong xs a → IsAmong (xs ++ ys) a
-among_first [] ys a m = absurd m
-among_first (x ∷ xs) ys a (inl e) = inl e
-among_first (x ∷ xs) ys a (inr m) = inr (among_first xs ys a m)
-
-among_second : (xs ys : List ℕ) (a : ℕ) → IsAmong ys a → IsAmong (xs ++ ys) a
-among_second [] ys a m = m
-among_second (x ∷ xs) ys a m = inr (among_second xs ys a m)
-
 one_gate : (t : ℕ) (ends : Bool) (x : Noted) (a : ℕ) → IsAmong (gate_if t ends x) a → (is_chosen t ends x.entry ≡ true) × (x.entry.at ≡ a)
 one_gate t ends x a = by (is_chosen t ends x.entry)
   where
@@ -47,16 +34,16 @@ its_gate t ends x on = subst (λ (b : Bool). IsAmong (if b then x.entry.at ∷ [
 own_gates : (t : ℕ) (ends : Bool) (ledger : List Noted) (a : ℕ) → IsAmong (gates_in t ends ledger) a →
     (x : Noted) × IsAmong ledger x × (is_chosen t ends x.entry ≡ true) × (x.entry.at ≡ a)
 own_gates t ends [] a m = absurd m
-own_gates t ends (x ∷ ledger) a m = elim (among_either (gates_in t ends ledger) (gate_if t ends x) a m) [
+own_gates t ends (x ∷ ledger) a m = elim (among_append (gates_in t ends ledger) (gate_if t ends x) a m) [
   | inl k ↦ (let y = own_gates t ends ledger a k in (y.0, inr y.1, y.2, y.3))
   | inr k ↦ (let y = one_gate t ends x a k in (x, inl refl, y.0, y.1))
 ]
 
 all_gates : (t : ℕ) (ends : Bool) (ledger : List Noted) (x : Noted) → IsAmong ledger x → is_chosen t ends x.entry ≡ true → IsAmong (gates_in t ends ledger) x.entry.at
 all_gates t ends [] x m on = absurd m
-all_gates t ends (y ∷ ledger) x (inl e) on = among_second (gates_in t ends ledger) (gate_if t ends y) x.entry.at
+all_gates t ends (y ∷ ledger) x (inl e) on = among_right (gates_in t ends ledger) (gate_if t ends y) x.entry.at
     (subst (λ (z : Noted). IsAmong (gate_if t ends z) x.entry.at) e (its_gate t ends x on))
-all_gates t ends (y ∷ ledger) x (inr m) on = among_first (gates_in t ends ledger) (gate_if t ends y) x.entry.at (all_gates t ends ledger x m on)
+all_gates t ends (y ∷ ledger) x (inr m) on = among_left (gates_in t ends ledger) (gate_if t ends y) x.entry.at (all_gates t ends ledger x m on)
 
 pub gates_are_listed : GatesAreListed
 gates_are_listed = record { own = own_gates; all = all_gates }

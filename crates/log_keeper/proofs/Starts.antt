@@ -1,9 +1,10 @@
 -- The keeper of a region at rest.
-use Rattle.std.proofs.Common.{◌≡◌, ◌⊎◌, inl, inr, ℕ, ◌<◌, List, [], ◌∷◌, ◌++◌, map, reverse, refl, sym, ap, ◌∙◌, subst, arith}
+use Rattle.std.proofs.Common.{◌≡◌, inl, inr, ℕ, ◌<◌, List, [], ◌∷◌, ◌++◌, map, reverse, refl, sym, ap, ◌∙◌, subst, arith}
 use Rattle.std.proofs.lemmas.List.{reverse-append}
 use Rattle.persist_model.specs.Records.{Record, Log, IsAmong}
 use Rattle.bucket_log.specs.declared.scanning.Placed.{Placed}
 use Rattle.bucket_log.specs.Scans.{record_of_placed}
+use Rattle.bucket_log.proofs.Scans.{among_append}
 use Rattle.log_keeper.specs.declared.ledger.Entry.{Entry}
 use Rattle.log_keeper.specs.declared.slots.Slot.{Slot}
 use Rattle.log_keeper.specs.Parts.{rests, appends}
@@ -17,11 +18,6 @@ use Rattle.log_keeper.proofs.Memory.{free_runs, free_holders}
 
 reverse-cons : {A : Type 0} (x : A) (xs : List A) → reverse (x ∷ xs) ≡ reverse xs ++ x ∷ []
 reverse-cons x xs = reverse-append (x ∷ []) xs
-
-either_list : {A : Type 0} (xs ys : List A) (a : A) → IsAmong (xs ++ ys) a → IsAmong xs a ⊎ IsAmong ys a
-either_list [] ys a m = inr m
-either_list (x ∷ xs) ys a (inl e) = inl (inl e)
-either_list (x ∷ xs) ys a (inr m) = elim (either_list xs ys a m) [ inl k ↦ inl (inr k) | inr k ↦ inr k ]
 
 -- ---- the ledger
 
@@ -46,7 +42,7 @@ found_settled (x ∷ records) =
 
 found_from : (records : List Placed) (y : Noted) → IsAmong (reverse (map found records)) y → (z : Placed) × IsAmong records z × (y ≡ found z)
 found_from [] y m = absurd m
-found_from (x ∷ records) y m = elim (either_list (reverse (map found records)) (found x ∷ []) y (subst (λ l. IsAmong l y) (reverse-cons (found x) (map found records)) m)) [
+found_from (x ∷ records) y m = elim (among_append (reverse (map found records)) (found x ∷ []) y (subst (λ l. IsAmong l y) (reverse-cons (found x) (map found records)) m)) [
   | inl k ↦ (let h = found_from records y k in (h.0, inr h.1, h.2))
   | inr (inl e) ↦ (x, inl refl, e)
   | inr (inr k) ↦ absurd k
@@ -57,7 +53,7 @@ found_from (x ∷ records) y m = elim (either_list (reverse (map found records))
 newest-push : (ledger : List Noted) (x : Noted) → AreNewestFirst ledger → ((y : Noted) → IsAmong ledger y → x.entry.lsn < y.entry.lsn) → AreNewestFirst (ledger ++ x ∷ [])
 newest-push [] x first above = ((λ y m. absurd m), tt)
 newest-push (z ∷ ledger) x first above = (
-  (λ y m. elim (either_list ledger (x ∷ []) y m) [
+  (λ y m. elim (among_append ledger (x ∷ []) y m) [
     | inl k ↦ first.0 y k
     | inr (inl e) ↦ (let lt = above z (inl refl) in let same : y.entry.lsn ≡ x.entry.lsn = ap (λ (q : Noted). q.entry.lsn) e in omega (arith, lt, same))
     | inr (inr k) ↦ absurd k
