@@ -1,6 +1,7 @@
 -- The need of a log from which records are taken.
 use Rattle.std.proofs.Common.{◌≡◌, ◌≢◌, inl, inr, ℕ, ◌+◌, ◌==◌, Bool, true, false, not, ◌&&◌, ◌||◌, if◌then◌else◌, List, [], ◌∷◌, length, refl, sym, ap, ◌∙◌, arith}
 use Rattle.std.proofs.lemmas.Bool.Decides.{eqb_tells, nat_tests}
+use Rattle.persist_model.specs.Kinds.{CHECKPOINT, DELETION}
 use Rattle.persist_model.specs.Records.{Record, Log, IsAmong, IsOf, IsDeletion, IsEnded, IsRunning}
 use Rattle.persist_model.specs.Order.{is_kind_of}
 use Rattle.persist_model.specs.Need.{rest, to_undo, has_kind_of, need_of, is_of, has_of, need_at, sum_over, need_in}
@@ -14,7 +15,7 @@ use Rattle.log_keeper.specs.Needs.{ClosingsNeed, AreTakenBack, TakingsBackNeed}
 use Rattle.log_keeper.proofs.Groups.{listed_told, listed_found, not_true}
 use Rattle.log_keeper.proofs.Progressing.{only_gates}
 
-no_kind : (t kind : ℕ) (r : Record) → kind ≢ 5 → (IsOf t r → ⊥) → is_kind_of t kind r ≡ false
+no_kind : (t kind : ℕ) (r : Record) → kind ≢ CHECKPOINT → (IsOf t r → ⊥) → is_kind_of t kind r ≡ false
 no_kind t kind r ne none = elim (eqb_tells r.transaction t) [
   | inr other ↦ (rw other.0 refl)
   | inl own ↦ elim (eqb_tells r.kind kind) [
@@ -71,7 +72,7 @@ module _ (gates ends checkpoints : List ℕ) where
   abbrev need_by : Bool → Bool → ℕ → ℕ
   need_by ended rolled count = if ended then 0 else (if rolled then 0 else 1) + (count + 1)
 
-  need_left : (t : ℕ) (log : Log) → ((r : Record) → IsAmong log r → listed r ≡ true → (kind : ℕ) → kind ≢ 5 → kind ≢ 6 → is_kind_of t kind r ≡ false) → need_of (left log) t ≡ need_of log t
+  need_left : (t : ℕ) (log : Log) → ((r : Record) → IsAmong log r → listed r ≡ true → (kind : ℕ) → kind ≢ CHECKPOINT → kind ≢ DELETION → is_kind_of t kind r ≡ false) → need_of (left log) t ≡ need_of log t
   need_left t log none =
       let ended = kind_left t 4 log (λ r m on. none r m on 4 (omega arith) (omega arith)) in
       let rolled = kind_left t 3 log (λ r m on. none r m on 3 (omega arith) (omega arith)) in
@@ -91,14 +92,14 @@ module _ (gates ends checkpoints : List ℕ) where
     need_ended t log e = rw (has_kind_true t 4 log (e.0, e.1, (e.2.0, e.2.1))) refl
 
     counted_zero : (f : ℕ → ℕ) (r : Record) (log : Log) → f r.transaction ≡ 0 → need_at part p f r log ≡ 0
-    counted_zero f r log zero = by (not (r.kind == 5) && (not (has_of r.transaction log) && (part r.at == p)))
+    counted_zero f r log zero = by (not (r.kind == CHECKPOINT) && (not (has_of r.transaction log) && (part r.at == p)))
       where
         by : (t : Bool) → (if t then f r.transaction else 0) ≡ 0
         by true = zero
         by false = refl
 
-    counted_none : (f : ℕ → ℕ) (r : Record) (log : Log) → r.kind ≡ 5 → need_at part p f r log ≡ 0
-    counted_none f r log five = let on : (r.kind == 5) ≡ true = grind (arith, nat_tests) in rw on refl
+    counted_none : (f : ℕ → ℕ) (r : Record) (log : Log) → r.kind ≡ CHECKPOINT → need_at part p f r log ≡ 0
+    counted_none f r log five = let on : (r.kind == CHECKPOINT) ≡ true = grind (arith, nat_tests) in rw on refl
 
     listed_zero : (r : Record) (log : Log) → IsAmong all r → listed r ≡ true → need_at part p (need_of all) r log ≡ 0
     listed_zero r log m on = elim (over.ended r m (listed_found gates ends checkpoints r.at on)) [
@@ -107,7 +108,7 @@ module _ (gates ends checkpoints : List ℕ) where
     ]
 
     -- where the end of an open record's transaction is, it is open too
-    end_stays : (r : Record) → IsAmong all r → listed r ≡ false → r.kind ≢ 5 → IsEnded all r.transaction → IsEnded (left all) r.transaction
+    end_stays : (r : Record) → IsAmong all r → listed r ≡ false → r.kind ≢ CHECKPOINT → IsEnded all r.transaction → IsEnded (left all) r.transaction
     end_stays r m off plain e = (
       e.0,
       left_among all e.0 e.1 (not_true (listed e.0) (λ on. (
@@ -118,7 +119,7 @@ module _ (gates ends checkpoints : List ℕ) where
 
     open_alike : (r : Record) (log : Log) → IsAmong all r → ((x : Record) → IsAmong log x → IsAmong all x) → listed r ≡ false →
         need_at part p (need_of (left all)) r (left log) ≡ need_at part p (need_of all) r log
-    open_alike r log m inside off = elim (eqb_tells r.kind 5) [
+    open_alike r log m inside off = elim (eqb_tells r.kind CHECKPOINT) [
       | inl five ↦ (counted_none (need_of (left all)) r (left log) five.1 ∙ sym (counted_none (need_of all) r log five.1))
       | inr plain ↦ elim (ended_or_running all r.transaction) [
         | inl e ↦ (counted_zero (need_of (left all)) r (left log) (need_ended r.transaction (left all) (end_stays r m off plain.1 e)) ∙ sym (counted_zero (need_of all) r log (need_ended r.transaction all e)))
@@ -126,7 +127,7 @@ module _ (gates ends checkpoints : List ℕ) where
             let none = running_none r.transaction running in
             let same = of_left r.transaction log (λ x k on. not_of r.transaction x (none x (inside x k) on)) in
             let need = need_left r.transaction all (λ x k on kind five six. no_kind r.transaction kind x five (none x k on)) in
-            λ i. if not (r.kind == 5) && (not (same i) && (part r.at == p)) then need i else 0)
+            λ i. if not (r.kind == CHECKPOINT) && (not (same i) && (part r.at == p)) then need i else 0)
       ]
     ]
 
@@ -163,7 +164,7 @@ of_stripped t u (r ∷ log) ne = elim (of_test t r) [
 ]
 
 module _ (part : ℕ → ℕ) (p q t : ℕ) (f : ℕ → ℕ) where
-  first_own : (r : Record) (log : Log) (has : Bool) → (r.kind == 5) ≡ false → r.transaction ≡ t → has_of t log ≡ has → part r.at ≡ q →
+  first_own : (r : Record) (log : Log) (has : Bool) → (r.kind == CHECKPOINT) ≡ false → r.transaction ≡ t → has_of t log ≡ has → part r.at ≡ q →
       need_at part p f r log + own_part p q f t has ≡ own_part p q f t true
   first_own r log has plain own is at =
       let test : need_at part p f r log ≡ (if not has && (q == p) then f t else 0) = (λ i. if not (plain i) && (not ((ap (λ u. has_of u log) own ∙ is) i) && (at i == p)) then f (own i) else 0) in
@@ -183,11 +184,11 @@ module _ (part : ℕ → ℕ) (p q t : ℕ) (f : ℕ → ℕ) where
         rw own.0 (omega (arith, again, first)))
     | inr other ↦ (
         let again = split log (λ x m. here x (inr m)) in
-        let same : need_at part p f r (stripped t log) ≡ need_at part p f r log = elim (eqb_tells r.kind 5) [
+        let same : need_at part p f r (stripped t log) ≡ need_at part p f r log = elim (eqb_tells r.kind CHECKPOINT) [
           | inl five ↦ (rw five.0 refl)
           | inr plain ↦ elim other.1 [
             | inl five ↦ absurd (let off = plain.0 in cc)
-            | inr ne ↦ ap (λ b. if not (r.kind == 5) && (not b && (part r.at == p)) then f r.transaction else 0) (of_stripped t r.transaction log ne)
+            | inr ne ↦ ap (λ b. if not (r.kind == CHECKPOINT) && (not b && (part r.at == p)) then f r.transaction else 0) (of_stripped t r.transaction log ne)
           ]
         ] in
         rw other.0 (omega (arith, again, same)))
@@ -220,7 +221,7 @@ module _ (shape : Shape) (t q : ℕ) (log : Log) (gates : List ℕ) (h : AreTake
   mine r m on = let d = given r m on in elim (of_test t r) [
     | inl k ↦ k.0
     | inr k ↦ elim k.1 [
-      | inl five ↦ absurd (let six = d.0 in let off : (r.kind == 5) ≡ false = grind (arith, nat_tests, six) in cc)
+      | inl five ↦ absurd (let six = d.0 in let off : (r.kind == CHECKPOINT) ≡ false = grind (arith, nat_tests, six) in cc)
       | inr ne ↦ absurd (ne d.1)
     ]
   ]

@@ -1,5 +1,6 @@
 -- The need of a log into which a record comes.
 use Rattle.std.proofs.Common.{◌≡◌, ◌≢◌, inl, inr, ℕ, ◌+◌, ◌∷◌, refl, sym, ap, ◌∙◌, subst, arith}
+use Rattle.persist_model.specs.Kinds.{CHECKPOINT}
 use Rattle.persist_model.specs.Records.{Record, Log}
 use Rattle.persist_model.specs.Need.{need_of, need_in}
 use Rattle.persist_model.specs.Shape.{Shape, part_of}
@@ -30,7 +31,7 @@ updates_need shape log u coming is = elim (tells u.transaction log) [
   | inl on ↦ (rw on (need_rose (part_of shape) 1 (last u) log (some_of u.transaction log on) coming.running.one_part
       (need_updated (last u) log is (running_test u.transaction log coming.running.running)) ∙ sym (as_last shape (part_of shape u.at) log u coming)))
   | inr off ↦ (
-      let plain : u.kind ≢ 5 = (λ e. absurd (omega (arith, is, e))) in
+      let plain : u.kind ≢ CHECKPOINT = (λ e. absurd (omega (arith, is, e))) in
       rw off (subst (λ n. need_here shape u log + n ≡ need_here shape u (last u ∷ log)) (need_first_update (last u) log is off) (need_began (part_of shape) (last u) log plain off)
       ∙ sym (as_last shape (part_of shape u.at) log u coming)))
 ]
@@ -40,7 +41,7 @@ deletions_need shape log d coming is = elim (tells d.transaction log) [
   | inl on ↦ (rw on (need_rose (part_of shape) 0 (last d) log (some_of d.transaction log on) coming.running.one_part
       (need_deleted (last d) log is) ∙ sym (as_last shape (part_of shape d.at) log d coming)))
   | inr off ↦ (
-      let plain : d.kind ≢ 5 = (λ e. absurd (omega (arith, is, e))) in
+      let plain : d.kind ≢ CHECKPOINT = (λ e. absurd (omega (arith, is, e))) in
       rw off (subst (λ n. need_here shape d log + n ≡ need_here shape d (last d ∷ log)) (need_first_deletion (last d) log is off) (need_began (part_of shape) (last d) log plain off)
       ∙ sym (as_last shape (part_of shape d.at) log d coming)))
 ]
@@ -53,7 +54,7 @@ rollbacks_need = record {
       ∙ need_fell_by (part_of shape) 1 (last r) log (some_of r.transaction log on) coming.running.one_part
       (need_rollback r.transaction (last r) log is refl (running_test r.transaction log coming.running.running) rolled));
   alone = λ shape log r coming is off. (
-      let plain : r.kind ≢ 5 = (λ e. absurd (omega (arith, is, e))) in
+      let plain : r.kind ≢ CHECKPOINT = (λ e. absurd (omega (arith, is, e))) in
       subst (λ n. need_here shape r log + n ≡ need_here shape r (last r ∷ log)) (need_first_rollback (last r) log is off) (need_began (part_of shape) (last r) log plain off)
       ∙ sym (as_last shape (part_of shape r.at) log r coming));
 }
@@ -72,7 +73,7 @@ ends_need shape log e coming is = elim (tells e.transaction log) [
       let fell = need_fell_by (part_of shape) (need_of log e.transaction) (last e) log (some_of e.transaction log on) coming.running.one_part (omega (arith, gone)) in
       rw on (ap (λ n. n + need_of log e.transaction) same ∙ fell))
   | inr off ↦ (
-      let plain : e.kind ≢ 5 = (λ x. absurd (omega (arith, is, x))) in
+      let plain : e.kind ≢ CHECKPOINT = (λ x. absurd (omega (arith, is, x))) in
       let same = as_last shape (part_of shape e.at) log e coming in
       let began = subst (λ n. need_here shape e log + n ≡ need_here shape e (last e ∷ log)) (need_ended (last e) log is) (need_began (part_of shape) (last e) log plain off) in
       rw off (omega (arith, same, began)))

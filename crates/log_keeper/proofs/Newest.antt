@@ -1,6 +1,7 @@
 -- The ledger and its newest log.
 use Rattle.std.proofs.Common.{◌≡◌, ◌≢◌, ◌⊎◌, inl, inr, ℕ, ◌+◌, ◌<◌, ◌==◌, Bool, true, false, nat_lt, if◌then◌else◌, List, [], ◌∷◌, length, refl, sym, ap, ◌∙◌, subst, arith}
 use Rattle.std.proofs.lemmas.Bool.Decides.{eqb_tells, nat_tests}
+use Rattle.persist_model.specs.Kinds.{CHECKPOINT}
 use Rattle.persist_model.specs.Records.{Record, Log, IsAmong, IsNewestFirst}
 use Rattle.persist_model.specs.Shape.{Shape}
 use Rattle.bucket_log.specs.declared.append.Place.{Place}
@@ -228,7 +229,7 @@ newest_are_over ledger gates ends checkpoints spares apart over = record {
       let there = closed_settled gates ends checkpoints ledger e spares m on in
       elim (stage_told x.0.stage) [
         | inl settled ↦ over.whole e there on end r (subst (λ (q : Record). IsAmong (settled_log ledger) q) x.2 (settled_among ledger x.0 x.1 settled)) of
-        | inr ne ↦ absurd (apart x.0 x.1 ne (subst (λ (q : Record). q.kind ≢ 5) (sym x.2) of.1)
+        | inr ne ↦ absurd (apart x.0 x.1 ne (subst (λ (q : Record). q.kind ≢ CHECKPOINT) (sym x.2) of.1)
             (e, there, (end, sym of.0 ∙ sym (ap (λ (q : Record). q.transaction) x.2))))
       ]);
 }

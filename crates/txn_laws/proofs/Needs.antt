@@ -3,7 +3,7 @@ use Rattle.std.proofs.Common.{◌≡◌, ◌≢◌, inl, inr, ℕ, zero, suc, �
 use Rattle.std.proofs.lemmas.Bool.Decides.{eqb_tells, nat_tests}
 use Rattle.persist_model.specs.Region.{Words}
 use Rattle.persist_model.specs.Records.{Record, Log, IsAmong, IsOf}
-use Rattle.persist_model.specs.Kinds.{END, ROLLBACK}
+use Rattle.persist_model.specs.Kinds.{END, ROLLBACK, CHECKPOINT}
 use Rattle.persist_model.specs.Need.{to_undo, has_kind_of, need_of, is_of, has_of, need_at as need_first, sum_over}
 use Rattle.persist_model.specs.Shape.{Shape, part_of}
 use Rattle.log_laws.proofs.Needs.{of_test, counted_later, counted_first, has_kind_true, has_kind_false}
@@ -59,13 +59,13 @@ of_is : (t : ℕ) (r : Record) → IsOf t r → is_of t r ≡ true
 of_is t r of = elim (of_test t r) [
   | inl h ↦ h.0
   | inr h ↦ elim h.1 [
-    | inl five ↦ (let ne : r.kind ≢ 5 = of.1 in absurd (grind (arith, nat_tests, ne, five)))
+    | inl five ↦ (let ne : r.kind ≢ CHECKPOINT = of.1 in absurd (grind (arith, nat_tests, ne, five)))
     | inr ne ↦ absurd (ne of.0)
   ]
 ]
 
 first_away : (part : ℕ → ℕ) (p : ℕ) (f : ℕ → ℕ) (r : Record) (log : Log) → (part r.at == p) ≡ false → need_first part p f r log ≡ 0
-first_away part p f r log off = rw off (by (not (r.kind == 5)) (not (has_of r.transaction log)))
+first_away part p f r log off = rw off (by (not (r.kind == CHECKPOINT)) (not (has_of r.transaction log)))
   where
     by : (a b : Bool) → (if a && (b && false) then f r.transaction else 0) ≡ 0
     by true true = refl
@@ -95,7 +95,7 @@ module _ (part : ℕ → ℕ) (p : ℕ) (f : ℕ → ℕ) where
         let some : has_of x.number (r ∷ log) ≡ true = rw (of_is x.number r of) refl in
         elim (eqb_tells x.part p) [
           | inl e ↦ (
-              let plain : (r.kind == 5) ≡ false = elim (eqb_tells r.kind 5) [ inl five ↦ absurd (of.1 five.1) | inr ne ↦ ne.0 ] in
+              let plain : (r.kind == CHECKPOINT) ≡ false = elim (eqb_tells r.kind CHECKPOINT) [ inl five ↦ absurd (of.1 five.1) | inr ne ↦ ne.0 ] in
               let first = counted_first part p f r log plain (ap (λ t. has_of t log) of.0 ∙ off) (here ∙ e.1) ∙ ap f of.0 in
               let now : counted (r ∷ log) x ≡ f x.number = rw (e.0, some) refl in
               omega (arith, none, first, now))

@@ -1,5 +1,6 @@
 -- What the log has of a transaction that takes deletions back.
 use Rattle.std.proofs.Common.{◌≡◌, ◌≢◌, inl, inr, ℕ, Bool, true, false, if◌then◌else◌, List, [], ◌∷◌, refl, sym, ap, ◌∙◌, subst, arith}
+use Rattle.persist_model.specs.Kinds.{DELETION}
 use Rattle.persist_model.specs.Region.{Words}
 use Rattle.persist_model.specs.Records.{Record, Log, IsAmong, IsDeletion, IsCommitted}
 use Rattle.persist_model.specs.Order.{is_kind_of, undo_point, Bars}
@@ -53,13 +54,13 @@ gift_stays gates (f ∷ gifts) g m off = by (is_in gates f.gate) refl (λ k. gif
 -- ---- the log without deletions
 
 module _ (gates : List ℕ) (all : Log) (six : (d : Record) → IsAmong all d → IsAmong gates d.at → IsDeletion d) where
-  other : (t k : ℕ) (d : Record) → k ≢ 6 → d.kind ≡ 6 → is_kind_of t k d ≡ false
+  other : (t k : ℕ) (d : Record) → k ≢ DELETION → d.kind ≡ DELETION → is_kind_of t k d ≡ false
   other t k d ne kind = elim (eqb_tells d.transaction t) [
     | inl own ↦ elim (eqb_tells d.kind k) [ inl same ↦ absurd (ne (sym same.1 ∙ kind)) | inr off ↦ (rw (own.0, off.0) refl) ]
     | inr off ↦ (rw off.0 refl)
   ]
 
-  listed_six : (r : Record) → IsAmong all r → is_listed gates [] [] r.at ≡ true → r.kind ≡ 6
+  listed_six : (r : Record) → IsAmong all r → is_listed gates [] [] r.at ≡ true → r.kind ≡ DELETION
   listed_six r m on = six r m (only_gates gates r.at (listed_found gates [] [] r.at on))
 
   to_undo_left : (t : ℕ) (log : Log) → ((r : Record) → IsAmong log r → IsAmong all r) → to_undo t (left_open gates [] [] log) ≡ to_undo t log
@@ -87,10 +88,10 @@ module _ (gates : List ℕ) (all : Log) (six : (d : Record) → IsAmong all d �
   back r m = (left_back gates [] [] all r m).0
 
   -- what is no deletion is left
-  pub plain_stays : (r : Record) → IsAmong all r → r.kind ≢ 6 → IsAmong later r
+  pub plain_stays : (r : Record) → IsAmong all r → r.kind ≢ DELETION → IsAmong later r
   plain_stays r m ne = left_stays gates [] [] all r m (λ on. ne (six r m (only_gates gates r.at on)))
 
-  change_plain : (t a : ℕ) (r : Record) → IsChangeBy t a r → r.kind ≢ 6
+  change_plain : (t a : ℕ) (r : Record) → IsChangeBy t a r → r.kind ≢ DELETION
   change_plain t a r (inl one, word, own) e = omega (arith, one, e)
   change_plain t a r (inr two, word, own) e = omega (arith, two, e)
 
