@@ -11,7 +11,7 @@ use Rattle.persist_model.specs.ImageRecords.{AreRecords}
 use Rattle.persist_model.specs.State.{State, IsSoundState}
 use Rattle.log_laws.specs.Recovery.{HasDecidingRecord, Step, makes, stores, KeepsStanding}
 use Rattle.persist_model.specs.Sound.{IsListOf, HasState, room_of}
-use Rattle.log_laws.specs.Recovering.{RECOVERY, IsAtRest, IsRecovering, with_heap}
+use Rattle.log_laws.specs.Recovering.{RECOVERY_LANE, IsAtRest, IsRecovering, with_heap}
 use Rattle.persist_model.proofs.Tracking.{latest_cases, Wrote-push_other, Tracks-event, Reaches-image}
 use Rattle.log_laws.proofs.Keeping.{runs_keep}
 
@@ -82,24 +82,24 @@ pub each_image_keeps : (shape : Shape) (first : State) (region : Region) (words 
     (x : State) × HasState shape (slice_index words) x × IsSoundState shape x × KeepsStanding shape.policy first x
 each_image_keeps shape first region words sound h image =
     let fits : heap shape ≤ words_of_shape shape = omega arith in
-    let r = Reaches-image (λ a. a < words_of_shape shape) RECOVERY h.progress region (slice_index words) (λ a lt. subst (λ n. a < n) (sym h.size) lt) image.each h.tracks in
+    let r = Reaches-image (λ a. a < words_of_shape shape) RECOVERY_LANE h.progress region (slice_index words) (λ a lt. subst (λ n. a < n) (sym h.size) lt) image.each h.tracks in
     let k = rest_image shape h.progress h.words (slice_index words) h.state fits h.rest r in
     let kept = runs_keep shape first (with_heap h.state (heap_words shape (slice_index words))) sound (makes h.steps k.1) in
     (with_heap h.state (heap_words shape (slice_index words)), k.0, kept.0, kept.1)
 
 pub recovering_store : (shape : Shape) (first : State) (region : Region) (a x : ℕ) → (h : IsRecovering shape first region) → heap shape ≤ a → HasDecidingRecord shape.policy h.state.log a →
-    IsRecovering shape first (after region RECOVERY (PStore a x))
+    IsRecovering shape first (after region RECOVERY_LANE (PStore a x))
 recovering_store shape first region a x h le covered = record {
   size = h.size;
   progress = advance h.progress (PStore a x);
   words = h.words;
   state = h.state;
-  tracks = Tracks-event (λ a. a < words_of_shape shape) RECOVERY h.progress region (PStore a x) tt h.tracks;
+  tracks = Tracks-event (λ a. a < words_of_shape shape) RECOVERY_LANE h.progress region (PStore a x) tt h.tracks;
   rest = rest_store shape h.progress h.words h.state a x le covered h.rest;
   steps = h.steps;
 }
 
-pub recovering_fence : (shape : Shape) (first : State) (region : Region) → IsRecovering shape first region → IsRecovering shape first (after region RECOVERY Fence)
+pub recovering_fence : (shape : Shape) (first : State) (region : Region) → IsRecovering shape first region → IsRecovering shape first (after region RECOVERY_LANE Fence)
 recovering_fence shape first region h =
     let k = rest_fence shape h.progress h.words h.state (omega arith) h.rest in
     record {
@@ -107,7 +107,7 @@ recovering_fence shape first region h =
       progress = advance h.progress Fence;
       words = (advance h.progress Fence).durable;
       state = k.0;
-      tracks = Tracks-event (λ a. a < words_of_shape shape) RECOVERY h.progress region Fence tt h.tracks;
+      tracks = Tracks-event (λ a. a < words_of_shape shape) RECOVERY_LANE h.progress region Fence tt h.tracks;
       rest = k.1;
       steps = makes h.steps k.2;
     }

@@ -7,7 +7,7 @@ use Rattle.persist_model.specs.Shape.{Shape, words_of_shape}
 use Rattle.persist_model.specs.State.{State, IsSoundState}
 use Rattle.log_laws.specs.Recovery.{Steps, KeepsStanding}
 use Rattle.persist_model.specs.Sound.{HasState}
-use Rattle.log_laws.specs.Recovering.{RECOVERY, IsAtRest}
+use Rattle.log_laws.specs.Recovering.{RECOVERY_LANE, IsAtRest}
 
 -- the region after all the events of the plan
 abbrev pub after_plan : ℕ → Region → List Event → Region
@@ -21,7 +21,7 @@ AreDurable (e ∷ plan) = IsDurable e × AreDurable plan
 -- Recovery began at the state first, and has come to the durable words w with state s; p has what is pending for the heap beside them.
 pub record HasCome (shape : Shape) (first : State) (p : Progress) (w : Words) (s : State) (region : Region) : Type 0 where
   pub size : region.size ≡ words_of_shape shape
-  pub tracks : Tracks (λ a. a < words_of_shape shape) RECOVERY p region
+  pub tracks : Tracks (λ a. a < words_of_shape shape) RECOVERY_LANE p region
   pub rest : IsAtRest shape p w s
   pub steps : Steps shape first s
 
@@ -40,10 +40,10 @@ pub record EachKeeps (shape : Shape) (first : State) (region : Region) : Type 0 
 -- Wherever a part is stopped, each image keeps the standing words.
 abbrev pub PartsKeep : Type 0
 PartsKeep = (shape : Shape) (first : State) (p : Progress) (w : Words) (s : State) (region : Region) (plan : List Event) (k : ℕ) →
-    IsSoundState shape first → HasCome shape first p w s region → Leads shape p s plan → EachKeeps shape first (after_plan RECOVERY region (take k plan))
+    IsSoundState shape first → HasCome shape first p w s region → Leads shape p s plan → EachKeeps shape first (after_plan RECOVERY_LANE region (take k plan))
 
 -- A part whose end is settled words d with state y leads there.
 abbrev pub PartsGoOn : Type 0
 PartsGoOn = (shape : Shape) (first : State) (p : Progress) (w d : Words) (s y : State) (region : Region) (plan : List Event) →
     HasCome shape first p w s region → Leads shape p s plan → advance_all p plan ≡ start d → HasState shape d y → Steps shape s y →
-    HasCome shape first (start d) d y (after_plan RECOVERY region plan)
+    HasCome shape first (start d) d y (after_plan RECOVERY_LANE region plan)

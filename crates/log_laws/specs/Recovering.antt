@@ -1,5 +1,6 @@
 -- A region in which recovery is at work, between its appends.
 use Rattle.std.specs.Prelude.{◌≡◌, ◌≤◌, ◌<◌, ℕ, List, [], ◌∷◌, slice_index}
+pub use Rattle.persist_model.specs.declared.format.TheConstants.{RECOVERY_LANE}
 use Rattle.persist_model.specs.Region.{Words, Region, IsImage, after}
 use Rattle.persist_model.specs.Progress.{Progress, Wrote, Tracks}
 use Rattle.persist_model.specs.declared.event.Event.{Event}
@@ -8,10 +9,6 @@ use Rattle.persist_model.specs.Shape.{Shape, heap, words_of_shape}
 use Rattle.persist_model.specs.State.{State, IsSoundState}
 use Rattle.log_laws.specs.Recovery.{HasDecidingRecord, Steps, KeepsStanding}
 use Rattle.persist_model.specs.Sound.{HasState}
-
--- recovery's lane
-abbrev pub RECOVERY : ℕ
-RECOVERY = 16
 
 -- The durable words are w, whose state is s: nothing is pending for the log, and for the heap only values of covered words.
 pub record IsAtRest (shape : Shape) (p : Progress) (w : Words) (s : State) : Type 0 where
@@ -26,7 +23,7 @@ pub record IsRecovering (shape : Shape) (first : State) (region : Region) : Type
   pub progress : Progress
   pub words : Words
   pub state : State
-  pub tracks : Tracks (λ a. a < words_of_shape shape) RECOVERY progress region
+  pub tracks : Tracks (λ a. a < words_of_shape shape) RECOVERY_LANE progress region
   pub rest : IsAtRest shape progress words state
   pub steps : Steps shape first state
 
@@ -38,10 +35,10 @@ EachImageKeeps = (shape : Shape) (first : State) (region : Region) (words : List
 -- A store of recovery to a heap word whose standing value a record decides, and a fence of recovery, go on with it.
 abbrev pub StoresGoOn : Type 0
 StoresGoOn = (shape : Shape) (first : State) (region : Region) (a v : ℕ) → (h : IsRecovering shape first region) → heap shape ≤ a →
-    HasDecidingRecord shape.policy h.state.log a → IsRecovering shape first (after region RECOVERY (PStore a v))
+    HasDecidingRecord shape.policy h.state.log a → IsRecovering shape first (after region RECOVERY_LANE (PStore a v))
 
 abbrev pub FencesGoOn : Type 0
-FencesGoOn = (shape : Shape) (first : State) (region : Region) → IsRecovering shape first region → IsRecovering shape first (after region RECOVERY Fence)
+FencesGoOn = (shape : Shape) (first : State) (region : Region) → IsRecovering shape first region → IsRecovering shape first (after region RECOVERY_LANE Fence)
 
 -- the state with other heap words
 abbrev pub with_heap : State → Words → State

@@ -7,7 +7,7 @@ use Rattle.persist_model.specs.Sound.{IsSound}
 use Rattle.lane_traits.specs.Device.{Counts, counted}
 use Rattle.lane_traits.specs.declared.device.Done.TheVariants.{Made}
 use Rattle.log_laws.specs.Parts.{after_plan}
-use Rattle.log_laws.specs.Recovering.{RECOVERY}
+use Rattle.log_laws.specs.Recovering.{RECOVERY_LANE}
 use Rattle.region_layout.specs.declared.layout.Kind.{Kind}
 use Rattle.recovery_run.specs.Edges.{counts_with}
 use Rattle.recovery_run.specs.Reached.{newest_at}
@@ -121,7 +121,7 @@ module _ (kinds : List Kind) (before : Region) (counts : Counts) (settled : AreS
 
       -- ---- the whole plan
 
-      module _ (after : Region) (counts_after : Counts) (cells : after ≡ after_plan RECOVERY mid (migration_plan kinds)) (made : counts_after ≡ counts_with counts_mid 24 Made) where
+      module _ (after : Region) (counts_after : Counts) (cells : after ≡ after_plan RECOVERY_LANE mid (migration_plan kinds)) (made : counts_after ≡ counts_with counts_mid 24 Made) where
         settled_after : AreSettled after
         settled_after = subst (λ (r : Region). AreSettled r) (sym cells) (settled_later kinds mid h.settled enough_mid)
 
@@ -179,8 +179,8 @@ module _ (kinds : List Kind) (before : Region) (counts : Counts) (settled : AreS
         unfinished = λ finished second. not_second (sym magic ∙ second);
       }
         where
-          migrates : (words : List ℕ) → IsImage words (after_plan RECOVERY mid (take stop.made (migration_plan kinds))) → MigratesAs kinds w (length words) (slice_index words)
-          migrates words image = subst (λ n. MigratesAs kinds w n (slice_index words)) (sym (image.long ∙ size_plan RECOVERY mid (take stop.made (migration_plan kinds))))
+          migrates : (words : List ℕ) → IsImage words (after_plan RECOVERY_LANE mid (take stop.made (migration_plan kinds))) → MigratesAs kinds w (length words) (slice_index words)
+          migrates words image = subst (λ n. MigratesAs kinds w n (slice_index words)) (sym (image.long ∙ size_plan RECOVERY_LANE mid (take stop.made (migration_plan kinds))))
               (way_migrates kinds w m (slice_index words) mid.size stands_mid shape_mid h.finished first_mid fit_mid
               (image_on_way kinds mid h.settled enough_mid stop.made words first_mid image))
 

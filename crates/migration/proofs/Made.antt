@@ -14,7 +14,7 @@ use Rattle.persist_model.proofs.Projecting.{AreAway-take, IsFixed-aways, IsFixed
 use Rattle.persist_model.proofs.Tracking.{Tracks-settled, Reaches-image}
 use Rattle.lane_traits.specs.Device.{IsWithin, stores_of}
 use Rattle.log_laws.specs.Parts.{after_plan, AreDurable}
-use Rattle.log_laws.specs.Recovering.{RECOVERY}
+use Rattle.log_laws.specs.Recovering.{RECOVERY_LANE}
 use Rattle.log_laws.proofs.Views.{AreStoresOn, AreStoresOn-append, AreAway-stores}
 use Rattle.region_layout.specs.declared.layout.Kind.{Kind}
 use Rattle.recovery_run.specs.Reached.{newest_at}
@@ -77,11 +77,11 @@ module _ (kinds : List Kind) (region : Region) (settled : AreSettled region) (en
   abbrev Inside : ℕ → Type 0
   Inside a = a < region.size
 
-  begun : Tracks Inside RECOVERY (start w) region
-  begun = Tracks-settled Inside RECOVERY w region (λ a lt v k. settled_is (region.at a) v (settled a lt) k ∙ sym (read_newest region a lt))
+  begun : Tracks Inside RECOVERY_LANE (start w) region
+  begun = Tracks-settled Inside RECOVERY_LANE w region (λ a lt v k. settled_is (region.at a) v (settled a lt) k ∙ sym (read_newest region a lt))
 
-  tracked : (plan : List Event) → AreDurable plan → Tracks Inside RECOVERY (advance_all (start w) plan) (after_plan RECOVERY region plan)
-  tracked plan durable = tracks_plan Inside RECOVERY (start w) region plan durable begun
+  tracked : (plan : List Event) → AreDurable plan → Tracks Inside RECOVERY_LANE (advance_all (start w) plan) (after_plan RECOVERY_LANE region plan)
+  tracked plan durable = tracks_plan Inside RECOVERY_LANE (start w) region plan durable begun
 
   -- past the header nothing is stored
   far_durable : (k a : ℕ) → 32 ≤ a → (progress_at w (migration_plan kinds) k).durable a ≡ w a
@@ -89,18 +89,18 @@ module _ (kinds : List Kind) (region : Region) (settled : AreSettled region) (en
       (AreAway-take a k (migration_plan kinds) (AreAway-stores (λ b. b < 32) a (migration_plan kinds) (λ b lt e. absurd (omega (arith, lt, e, ge))) (plan_low kinds)))
       (IsFixed-start w a)).durable
 
-  pub image_on_way : (k : ℕ) (words : List ℕ) → w 0 ≡ FIRST_MAGIC → IsImage words (after_plan RECOVERY region (take k (migration_plan kinds))) →
+  pub image_on_way : (k : ℕ) (words : List ℕ) → w 0 ≡ FIRST_MAGIC → IsImage words (after_plan RECOVERY_LANE region (take k (migration_plan kinds))) →
       IsOnTheWay kinds w (slice_index words)
   image_on_way k words magic image = plan_is_on_the_way kinds w (slice_index words) k magic everywhere
     where
       there : Region
-      there = after_plan RECOVERY region (take k (migration_plan kinds))
+      there = after_plan RECOVERY_LANE region (take k (migration_plan kinds))
 
-      size : (after_plan RECOVERY region (take k (migration_plan kinds))).size ≡ region.size
-      size = size_plan RECOVERY region (take k (migration_plan kinds))
+      size : (after_plan RECOVERY_LANE region (take k (migration_plan kinds))).size ≡ region.size
+      size = size_plan RECOVERY_LANE region (take k (migration_plan kinds))
 
       inside : Reaches Inside (progress_at w (migration_plan kinds) k) (slice_index words)
-      inside = Reaches-image Inside RECOVERY (progress_at w (migration_plan kinds) k) (after_plan RECOVERY region (take k (migration_plan kinds))) (slice_index words)
+      inside = Reaches-image Inside RECOVERY_LANE (progress_at w (migration_plan kinds) k) (after_plan RECOVERY_LANE region (take k (migration_plan kinds))) (slice_index words)
           (λ a lt. subst (λ n. a < n) (sym size) lt) image.each (tracked (take k (migration_plan kinds)) (durable_take k (migration_plan kinds) (plan_durable kinds)))
 
       everywhere : Reaches (λ a. Unit {0}) (progress_at w (migration_plan kinds) k) (slice_index words)
@@ -110,10 +110,10 @@ module _ (kinds : List Kind) (region : Region) (settled : AreSettled region) (en
       ]
 
   abbrev later : Region
-  later = after_plan RECOVERY region (migration_plan kinds)
+  later = after_plan RECOVERY_LANE region (migration_plan kinds)
 
   pub size_later : later.size ≡ region.size
-  size_later = size_plan RECOVERY region (migration_plan kinds)
+  size_later = size_plan RECOVERY_LANE region (migration_plan kinds)
 
   pub settled_later : AreSettled later
   settled_later a lt = single_plan region.size (start w) region (migration_plan kinds) refl (plan_durable kinds) begun (λ b below none. settled b below) a lt
@@ -123,8 +123,8 @@ module _ (kinds : List Kind) (region : Region) (settled : AreSettled region) (en
   newest_later a lt =
       let below : a < later.size = subst (λ n. a < n) (sym size_later) lt in
       read_newest later a below
-      ∙ newest_tracked (RECOVERY + 1) ((plan_migrates kinds w).0 a) [] a (later.at a)
-      (subst (λ (q : Progress). Tracks Inside RECOVERY q later) (plan_migrates kinds w).1 (tracked (migration_plan kinds) (plan_durable kinds)) a lt) (λ none. settled_later a below)
+      ∙ newest_tracked (RECOVERY_LANE + 1) ((plan_migrates kinds w).0 a) [] a (later.at a)
+      (subst (λ (q : Progress). Tracks Inside RECOVERY_LANE q later) (plan_migrates kinds w).1 (tracked (migration_plan kinds) (plan_durable kinds)) a lt) (λ none. settled_later a below)
 
   pub migrated_later : AreMigrated kinds w (newest_at later)
   migrated_later =

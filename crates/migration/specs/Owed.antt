@@ -8,7 +8,7 @@ use Rattle.persist_model.specs.State.{State}
 use Rattle.lane_traits.specs.Device.{Counts, counted}
 use Rattle.lane_traits.specs.declared.device.Done.TheVariants.{Stopped}
 use Rattle.log_laws.specs.Parts.{after_plan}
-use Rattle.log_laws.specs.Recovering.{RECOVERY}
+use Rattle.log_laws.specs.Recovering.{RECOVERY_LANE}
 use Rattle.region_layout.specs.declared.layout.Kind.{Kind}
 use Rattle.recovery_run.specs.Edges.{counts_with}
 use Rattle.recovery_run.specs.Reached.{newest_at}
@@ -46,7 +46,7 @@ AreFewInAll w events = (s : State) (n : ℕ) → HasState (shape_of w) w s → H
 pub record HasStoppedAt (plan : List Event) (before : Region) (counts : Counts) (after : Region) (counts_after : Counts) : Type 0 where
   pub made : ℕ
   pub early : made < length plan
-  pub cells : after ≡ after_plan RECOVERY before (take made plan)
+  pub cells : after ≡ after_plan RECOVERY_LANE before (take made plan)
   pub counted : counts_after ≡ counts_with counts made Stopped
   pub cause : counts.events + made ≡ counts.budget
 

@@ -72,6 +72,9 @@ pub const COMMITTED: u64 = 1;
 /// The outcome of the end of one that was rolled back.
 pub const ROLLED_BACK: u64 = 2;
 
+/// The lane as which recovery makes its events. Those of transactions are numbered below it, 0 to 15.
+pub const RECOVERY_LANE: u32 = 16;
+
 /// Whether this is the word 0 of a region.
 pub fn is_magic(word: u64) -> bool
     ensures { IsTrue result ↔ IsMagic word }

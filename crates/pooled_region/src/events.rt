@@ -1,5 +1,6 @@
 // What the events do to words, places and the list of the marked words.
 ghost use Rattle.std.specs.Prelude.{◌≡◌, ℕ, ◌+◌, ◌<◌, ◌≤◌, length, vec_capacity};
+ghost use Rattle.persist_model.specs.declared.format.TheConstants.{RECOVERY_LANE};
 ghost use Rattle.persist_model.specs.Region.{after};
 ghost use Rattle.lane_traits.specs.Device.{IsWithin, stores_of};
 ghost use Rattle.pooled_region.specs.Pool.{ArePooled, cells_of, later_count};
@@ -19,7 +20,7 @@ pub fn apply(
     lane: u32,
     event: Event,
 )
-    requires lane { lane ≤ 16 }
+    requires lane { lane ≤ RECOVERY_LANE }
     requires address { IsWithin (length words.old) event }
     requires room { stores_of event ≤ free.old.count }
     requires pooled { ArePooled places.old words.old free.old }

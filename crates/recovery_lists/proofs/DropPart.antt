@@ -12,7 +12,7 @@ use Rattle.persist_model.specs.Sound.{HasState}
 use Rattle.log_laws.specs.Closing.{IsClosing, empty}
 use Rattle.lane_traits.specs.Device.{IsWithin}
 use Rattle.log_laws.specs.Recovery.{Steps, start as begins, makes, closes}
-use Rattle.log_laws.specs.Recovering.{RECOVERY, with_heap}
+use Rattle.log_laws.specs.Recovering.{RECOVERY_LANE, with_heap}
 use Rattle.log_laws.specs.Parts.{after_plan, Leads, EachKeeps}
 use Rattle.log_laws.proofs.Parts.{part_image}
 use Rattle.log_laws.proofs.Recovering.{heap_step}
@@ -105,7 +105,7 @@ module _ (shape : Shape) (ok : IsAllowed shape) (p : ℕ) (inside : p < shape.pa
     steps_there : Steps shape y z
     steps_there = makes begins (closes y.log (more_room p shape.cells y.room) (closing_none shape.policy y.words y.log none) (no_less p shape.cells y.room))
 
-    pub drop_done : HasDropped shape first y (after_plan RECOVERY region plan)
+    pub drop_done : HasDropped shape first y (after_plan RECOVERY_LANE region plan)
     drop_done = record {
       state = z;
       settled = settled_behind shape first y region h z plan d leads ends has_there steps_there drop_off_header;
@@ -113,24 +113,24 @@ module _ (shape : Shape) (ok : IsAllowed shape) (p : ℕ) (inside : p < shape.pa
       words = refl;
     }
 
-    pub drop_keeps : IsSoundState shape first → (k : ℕ) → EachKeeps shape first (after_plan RECOVERY region (take k plan))
+    pub drop_keeps : IsSoundState shape first → (k : ℕ) → EachKeeps shape first (after_plan RECOVERY_LANE region (take k plan))
     drop_keeps sound k = parts_keep shape first (start w) w y region plan k sound (come_here shape first y region h) leads
 
-    there : Reaches (λ a. a < heap shape) (progress_at w plan 7) (newest_at (after_plan RECOVERY region plan))
-    there = end_reached (λ a. a < heap shape) w (newest_at (after_plan RECOVERY region plan)) plan d ends
+    there : Reaches (λ a. a < heap shape) (progress_at w plan 7) (newest_at (after_plan RECOVERY_LANE region plan))
+    there = end_reached (λ a. a < heap shape) w (newest_at (after_plan RECOVERY_LANE region plan)) plan d ends
         (λ a lt. newest_behind shape first y region h z plan d leads ends has_there steps_there a (omega (arith, lt)))
 
-    pub drop_quiet : IsQuiet p (newest_at (after_plan RECOVERY region plan))
-    drop_quiet = removal_quiet shape ok p inside w r can (newest_at (after_plan RECOVERY region plan)) there
+    pub drop_quiet : IsQuiet p (newest_at (after_plan RECOVERY_LANE region plan))
+    drop_quiet = removal_quiet shape ok p inside w r can (newest_at (after_plan RECOVERY_LANE region plan)) there
 
-    pub drop_shortens : length (chain_of shape (seen shape p (newest_at (after_plan RECOVERY region plan)))) + 1 ≡ length (chain_of shape (seen shape p w))
-    drop_shortens = removal_shortens shape ok p inside w r can (newest_at (after_plan RECOVERY region plan)) there
+    pub drop_shortens : length (chain_of shape (seen shape p (newest_at (after_plan RECOVERY_LANE region plan)))) + 1 ≡ length (chain_of shape (seen shape p w))
+    drop_shortens = removal_shortens shape ok p inside w r can (newest_at (after_plan RECOVERY_LANE region plan)) there
 
-    others : (a : ℕ) → a < heap shape → (IsPartWord shape p a → ⊥) → newest_at (after_plan RECOVERY region plan) a ≡ w a
-    others = others_stay shape ok p inside w (removal r) (removal_on_list shape p w r can) 7 (newest_at (after_plan RECOVERY region plan)) there
+    others : (a : ℕ) → a < heap shape → (IsPartWord shape p a → ⊥) → newest_at (after_plan RECOVERY_LANE region plan) a ≡ w a
+    others = others_stay shape ok p inside w (removal r) (removal_on_list shape p w r can) 7 (newest_at (after_plan RECOVERY_LANE region plan)) there
 
-    pub drop_lists : KeepsLists shape region (after_plan RECOVERY region plan)
+    pub drop_lists : KeepsLists shape region (after_plan RECOVERY_LANE region plan)
     drop_lists = record {
-      quiet = quiet_stays shape ok p inside w (newest_at (after_plan RECOVERY region plan)) y has others drop_quiet;
-      few = few_stays shape ok p inside w (newest_at (after_plan RECOVERY region plan)) y has others (λ few. absurd (not_few shape ok p inside w r can y has few));
+      quiet = quiet_stays shape ok p inside w (newest_at (after_plan RECOVERY_LANE region plan)) y has others drop_quiet;
+      few = few_stays shape ok p inside w (newest_at (after_plan RECOVERY_LANE region plan)) y has others (λ few. absurd (not_few shape ok p inside w r can y has few));
     }

@@ -7,7 +7,7 @@ use Rattle.persist_model.specs.declared.event.Event.TheVariants.{Store, PStore, 
 use Rattle.persist_model.specs.Region.{Words, Region}
 use Rattle.lane_traits.specs.declared.device.Done.{Done}
 use Rattle.lane_traits.specs.declared.device.Done.TheVariants.{Made, Stopped}
-use Rattle.log_laws.specs.Recovering.{RECOVERY}
+use Rattle.log_laws.specs.Recovering.{RECOVERY_LANE}
 use Rattle.recovery_run.proofs.Composing.{size_plan}
 use Rattle.persist_model.specs.Progress.{start, advance_all}
 use Rattle.persist_model.specs.Shape.{Shape}
@@ -97,7 +97,7 @@ removal_settles p w r = refl
 
 -- ---- the region's size behind a plan that was made as far as it was
 
-pub size_made : (done : Done) (region later : Region) (plan : List Event) → (done ≡ Made → later ≡ after_plan RECOVERY region plan) →
-    (done ≡ Stopped → (k : ℕ) × (later ≡ after_plan RECOVERY region (take k plan))) → later.size ≡ region.size
-size_made Made region later plan made stopped = ap (λ (r : Region). r.size) (made refl) ∙ size_plan RECOVERY region plan
-size_made Stopped region later plan made stopped = ap (λ (r : Region). r.size) (stopped refl).1 ∙ size_plan RECOVERY region (take (stopped refl).0 plan)
+pub size_made : (done : Done) (region later : Region) (plan : List Event) → (done ≡ Made → later ≡ after_plan RECOVERY_LANE region plan) →
+    (done ≡ Stopped → (k : ℕ) × (later ≡ after_plan RECOVERY_LANE region (take k plan))) → later.size ≡ region.size
+size_made Made region later plan made stopped = ap (λ (r : Region). r.size) (made refl) ∙ size_plan RECOVERY_LANE region plan
+size_made Stopped region later plan made stopped = ap (λ (r : Region). r.size) (stopped refl).1 ∙ size_plan RECOVERY_LANE region (take (stopped refl).0 plan)

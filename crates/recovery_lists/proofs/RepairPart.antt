@@ -10,7 +10,7 @@ use Rattle.persist_model.specs.State.{State, IsSoundState}
 use Rattle.persist_model.specs.Sound.{HasState}
 use Rattle.lane_traits.specs.Device.{IsWithin}
 use Rattle.log_laws.specs.Recovery.{start as begins, makes}
-use Rattle.log_laws.specs.Recovering.{RECOVERY, with_heap, AreOnLog}
+use Rattle.log_laws.specs.Recovering.{RECOVERY_LANE, with_heap, AreOnLog}
 use Rattle.log_laws.specs.Parts.{after_plan, Leads, EachKeeps}
 use Rattle.log_laws.proofs.Parts.{part_image, part_image_settled}
 use Rattle.log_laws.proofs.Recovering.{heap_step}
@@ -80,25 +80,25 @@ module _ (shape : Shape) (ok : IsAllowed shape) (p : ℕ) (inside : p < shape.pa
   has_there = subst (λ (x : Words). HasState shape d (with_heap y x)) (heap_stays shape w d y plan has law.on_log ends)
       (law.images (length plan) d (end_reached (λ a. a < heap shape) w d plan d ends (λ a m. refl)))
 
-  pub repair_done : HasSettled shape first y (after_plan RECOVERY region plan)
+  pub repair_done : HasSettled shape first y (after_plan RECOVERY_LANE region plan)
   repair_done = settled_behind shape first y region h y plan d leads ends has_there begins repair_off_header
 
-  pub repair_keeps : IsSoundState shape first → (k : ℕ) → EachKeeps shape first (after_plan RECOVERY region (take k plan))
+  pub repair_keeps : IsSoundState shape first → (k : ℕ) → EachKeeps shape first (after_plan RECOVERY_LANE region (take k plan))
   repair_keeps sound k = parts_keep shape first (start w) w y region plan k sound (come_here shape first y region h) leads
 
-  there : Reaches (λ a. a < heap shape) (progress_at w plan (length plan)) (newest_at (after_plan RECOVERY region plan))
-  there = end_reached (λ a. a < heap shape) w (newest_at (after_plan RECOVERY region plan)) plan d ends
+  there : Reaches (λ a. a < heap shape) (progress_at w plan (length plan)) (newest_at (after_plan RECOVERY_LANE region plan))
+  there = end_reached (λ a. a < heap shape) w (newest_at (after_plan RECOVERY_LANE region plan)) plan d ends
       (λ a lt. newest_behind shape first y region h y plan d leads ends has_there begins a (omega (arith, lt)))
 
-  pub repair_quiet : IsQuiet p (newest_at (after_plan RECOVERY region plan))
-  repair_quiet = law.last (newest_at (after_plan RECOVERY region plan)) there
+  pub repair_quiet : IsQuiet p (newest_at (after_plan RECOVERY_LANE region plan))
+  repair_quiet = law.last (newest_at (after_plan RECOVERY_LANE region plan)) there
 
-  pub repair_lists : KeepsLists shape region (after_plan RECOVERY region plan)
+  pub repair_lists : KeepsLists shape region (after_plan RECOVERY_LANE region plan)
   repair_lists = record {
-    quiet = quiet_stays shape ok p inside w (newest_at (after_plan RECOVERY region plan)) y has (law.others (length plan) (newest_at (after_plan RECOVERY region plan)) there) repair_quiet;
-    few = few_stays shape ok p inside w (newest_at (after_plan RECOVERY region plan)) y has (law.others (length plan) (newest_at (after_plan RECOVERY region plan)) there)
-        (λ few. few_of shape p (newest_at (after_plan RECOVERY region plan)) (has.chains p)
-        (list_seen shape p (newest_at (after_plan RECOVERY region plan)) (has.chains p)
-        (law.chain (length plan) (newest_at (after_plan RECOVERY region plan)) there (has.chains p) (has.lists p inside)))
+    quiet = quiet_stays shape ok p inside w (newest_at (after_plan RECOVERY_LANE region plan)) y has (law.others (length plan) (newest_at (after_plan RECOVERY_LANE region plan)) there) repair_quiet;
+    few = few_stays shape ok p inside w (newest_at (after_plan RECOVERY_LANE region plan)) y has (law.others (length plan) (newest_at (after_plan RECOVERY_LANE region plan)) there)
+        (λ few. few_of shape p (newest_at (after_plan RECOVERY_LANE region plan)) (has.chains p)
+        (list_seen shape p (newest_at (after_plan RECOVERY_LANE region plan)) (has.chains p)
+        (law.chain (length plan) (newest_at (after_plan RECOVERY_LANE region plan)) there (has.chains p) (has.lists p inside)))
         (few (has.chains p) (has.lists p inside)));
   }

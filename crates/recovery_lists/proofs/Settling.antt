@@ -10,7 +10,7 @@ use Rattle.persist_model.specs.Sound.{HasState}
 use Rattle.persist_model.proofs.Images.{settled_is}
 use Rattle.persist_model.proofs.Tracking.{Tracks-settled}
 use Rattle.log_laws.specs.Recovery.{Steps}
-use Rattle.log_laws.specs.Recovering.{RECOVERY, IsAtRest}
+use Rattle.log_laws.specs.Recovering.{RECOVERY_LANE, IsAtRest}
 use Rattle.log_laws.specs.Parts.{after_plan, HasCome, Leads}
 use Rattle.recovery_run.specs.Edges.{AreOffHeader}
 use Rattle.recovery_run.specs.Reached.{newest_at, HasSettled}
@@ -37,7 +37,7 @@ module _ (shape : Shape) (first y : State) (region : Region) (h : HasSettled sha
   pub come_here : HasCome shape first (start (newest_at region)) (newest_at region) y region
   come_here = record {
     size = h.come.size;
-    tracks = Tracks-settled (λ a. a < words_of_shape shape) RECOVERY (newest_at region) region
+    tracks = Tracks-settled (λ a. a < words_of_shape shape) RECOVERY_LANE (newest_at region) region
         (λ a lt v k. settled_is (region.at a) v (h.settled a (below_size a lt)) k ∙ sym (read_newest region a (below_size a lt)));
     rest = at_rest_here;
     steps = h.come.steps;
@@ -46,19 +46,19 @@ module _ (shape : Shape) (first y : State) (region : Region) (h : HasSettled sha
   -- a whole plan that leads to the words d with state z
   module _ (z : State) (plan : List Event) (d : Words) (leads : Leads shape (start (newest_at region)) y plan) (ends : advance_all (start (newest_at region)) plan ≡ start d)
       (has : HasState shape d z) (steps : Steps shape y z) where
-    come_there : HasCome shape first (start d) d z (after_plan RECOVERY region plan)
+    come_there : HasCome shape first (start d) d z (after_plan RECOVERY_LANE region plan)
     come_there = parts_go_on shape first (start (newest_at region)) (newest_at region) d y z region plan come_here leads ends has steps
 
-    settled_there : AreSettled (after_plan RECOVERY region plan)
+    settled_there : AreSettled (after_plan RECOVERY_LANE region plan)
     settled_there a lt = single_plan (words_of_shape shape) (start (newest_at region)) region plan h.come.size leads.durable come_here.tracks (λ b below none. h.settled b below) a lt
         (λ v k. subst (λ (q : Progress). Wrote q.pending a v) ends k)
 
-    pub settled_behind : AreOffHeader shape plan → HasSettled shape first z (after_plan RECOVERY region plan)
-    settled_behind off = settles shape first y z d region (after_plan RECOVERY region plan) (settled_reached shape first y region h)
-        (λ a v is one. plan_keeps RECOVERY region plan a v (off a is) one) come_there settled_there
+    pub settled_behind : AreOffHeader shape plan → HasSettled shape first z (after_plan RECOVERY_LANE region plan)
+    settled_behind off = settles shape first y z d region (after_plan RECOVERY_LANE region plan) (settled_reached shape first y region h)
+        (λ a v is one. plan_keeps RECOVERY_LANE region plan a v (off a is) one) come_there settled_there
 
-    pub newest_behind : (a : ℕ) → a < words_of_shape shape → newest_at (after_plan RECOVERY region plan) a ≡ d a
+    pub newest_behind : (a : ℕ) → a < words_of_shape shape → newest_at (after_plan RECOVERY_LANE region plan) a ≡ d a
     newest_behind a lt =
-        let below : a < (after_plan RECOVERY region plan).size = subst (λ n. a < n) (sym come_there.size) lt in
-        read_newest (after_plan RECOVERY region plan) a below
-        ∙ newest_tracked (RECOVERY + 1) (d a) [] a ((after_plan RECOVERY region plan).at a) (come_there.tracks a lt) (λ none. settled_there a below)
+        let below : a < (after_plan RECOVERY_LANE region plan).size = subst (λ n. a < n) (sym come_there.size) lt in
+        read_newest (after_plan RECOVERY_LANE region plan) a below
+        ∙ newest_tracked (RECOVERY_LANE + 1) (d a) [] a ((after_plan RECOVERY_LANE region plan).at a) (come_there.tracks a lt) (λ none. settled_there a below)

@@ -14,7 +14,7 @@ use Rattle.persist_model.proofs.Tracking.{latest_cases}
 use Rattle.persist_model.proofs.Projecting.{SameOn, SameOn-events, Reaches-same, AreAway, IsDue-aways, advance_all-append}
 use Rattle.lane_traits.specs.Device.{stores_of}
 use Rattle.log_laws.specs.Recovery.{HasDecidingRecord, Step, Steps, start as begins, makes, stores, grown}
-use Rattle.log_laws.specs.Recovering.{RECOVERY, AreOnLog, with_heap}
+use Rattle.log_laws.specs.Recovering.{RECOVERY_LANE, AreOnLog, with_heap}
 use Rattle.log_laws.specs.StateAppends.{IsAppend, MayCome}
 use Rattle.log_laws.specs.Parts.{after_plan, Leads}
 use Rattle.log_laws.proofs.Parts.{part_image}
@@ -136,11 +136,11 @@ module _ (shape : Shape) (first y : State) (region : Region) (r : Record) (room 
     pub reached_append_leads : Leads shape h.progress h.state plan
     reached_append_leads = record { durable = own.durable; images = images }
 
-    pub reached_append_done : AreOffHeader shape plan → HasSettled shape first (grown y r room) (after_plan RECOVERY region plan)
+    pub reached_append_done : AreOffHeader shape plan → HasSettled shape first (grown y r room) (after_plan RECOVERY_LANE region plan)
     reached_append_done off =
         plan_done shape first y (grown y r room) region plan done.durable h reached_append_leads whole has_end
         (makes (makes (makes begins (reached_step shape first y region h)) to_self) (may y.words to_self))
-        (λ a v is one. plan_keeps RECOVERY region plan a v (off a is) one)
+        (λ a v is one. plan_keeps RECOVERY_LANE region plan a v (off a is) one)
 
 -- from a settled state
 pub settled_append : (shape : Shape) (first y : State) (region : Region) (r : Record) (room : ℕ → ℕ) (plan : List Event) (h : HasSettled shape first y region) →
@@ -154,13 +154,13 @@ settled_leads shape first y region r room plan h append step =
     settled_append_leads shape h.durable y r room plan h.come.rest (settled_append shape first y region r room plan h append) step
 
 pub settled_append_settles : (shape : Shape) (first y : State) (region : Region) (r : Record) (room : ℕ → ℕ) (plan : List Event) → HasSettled shape first y region →
-    IsAppend shape (newest_at region) y r room plan → Step shape y (grown y r room) → AreOffHeader shape plan → HasSettled shape first (grown y r room) (after_plan RECOVERY region plan)
+    IsAppend shape (newest_at region) y r room plan → Step shape y (grown y r room) → AreOffHeader shape plan → HasSettled shape first (grown y r room) (after_plan RECOVERY_LANE region plan)
 settled_append_settles shape first y region r room plan h append step off =
     let own = settled_append shape first y region r room plan h append in
     let end = settled_append_done shape first h.durable y r room plan region h.come own step in
     let whole : advance_all (start h.durable) plan ≡ start (advance (advance_all (start h.durable) own.front) Fence).durable =
     ap (advance_all (start h.durable)) own.fenced ∙ advance_all-append (start h.durable) own.front (Fence ∷ []) in
-    settles shape first y (grown y r room) end.0 region (after_plan RECOVERY region plan) (settled_reached shape first y region h)
-    (λ a v is one. plan_keeps RECOVERY region plan a v (off a is) one) end.1
+    settles shape first y (grown y r room) end.0 region (after_plan RECOVERY_LANE region plan) (settled_reached shape first y region h)
+    (λ a v is one. plan_keeps RECOVERY_LANE region plan a v (off a is) one) end.1
     (λ a lt. single_plan (words_of_shape shape) (start h.durable) region plan h.come.size own.durable h.come.tracks (λ b below none. h.settled b below) a lt
     (λ v k. subst (λ (q : Progress). Wrote q.pending a v) whole k))

@@ -13,7 +13,7 @@ use Rattle.persist_model.specs.Sound.{HasState}
 use Rattle.log_laws.proofs.SameLists.{chain_buckets}
 use Rattle.log_laws.proofs.Applying.{all_may_close}
 use Rattle.atomic_list.proofs.Parts.{whole_bucket_fits}
-use Rattle.log_laws.specs.Recovering.{RECOVERY}
+use Rattle.log_laws.specs.Recovering.{RECOVERY_LANE}
 use Rattle.log_laws.specs.Parts.{after_plan, HasCome, Leads}
 use Rattle.log_clearing.specs.Plans.{closes as zeroes, group, closing_plan}
 use Rattle.recovery_run.specs.ClosingAll.{CanCloseAll}
@@ -127,15 +127,15 @@ module _ (shape : Shape) (first y : State) (region : Region) (gates ends checkpo
   nothing_left [] none = refl
   nothing_left (r ∷ log) none = absurd (none r (inl refl))
 
-  pub close_all_done : (room : ℕ → ℕ) × HasSettled shape first (record { log = []; words = y.words; room = room }) (after_plan RECOVERY region plan)
+  pub close_all_done : (room : ℕ → ℕ) × HasSettled shape first (record { log = []; words = y.words; room = room }) (after_plan RECOVERY_LANE region plan)
   close_all_done =
       let end = closing_done shape h.durable y gates ends checkpoints h.come.rest.state can_close first region h.come in
       let log_is : end.state.log ≡ [] = nothing_left end.state.log (λ r m. end.none r m (can.lists.each r (end.fewer r m))) in
       let is : end.state ≡ record { log = []; words = y.words; room = end.state.room } = λ i. record { log = log_is i; words = end.heap i; room = end.state.room } in
-      let later = after_plan RECOVERY region plan in (
+      let later = after_plan RECOVERY_LANE region plan in (
         end.state.room,
         settles shape first y (record { log = []; words = y.words; room = end.state.room }) end.words region later (settled_reached shape first y region h)
-            (λ a v is one. plan_keeps RECOVERY region plan a v (plan_low a is.below) one)
+            (λ a v is one. plan_keeps RECOVERY_LANE region plan a v (plan_low a is.below) one)
             (subst (λ (z : State). HasCome shape first (start end.words) end.words z later) is end.come)
             (λ a lt. single_plan (words_of_shape shape) (start h.durable) region plan h.come.size close_all_leads.durable h.come.tracks (λ b below none. h.settled b below) a lt
             (λ v k. subst (λ (q : Progress). Wrote q.pending a v) (closing_ends h.durable gates ends checkpoints) k)),

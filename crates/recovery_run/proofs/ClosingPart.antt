@@ -11,7 +11,7 @@ use Rattle.persist_model.specs.Shape.{Shape, heap, words_of_shape, heap_words, l
 use Rattle.persist_model.specs.State.{State, IsSoundState}
 use Rattle.log_laws.specs.Recovery.{Steps, start as begins, makes, closes}
 use Rattle.persist_model.specs.Sound.{HasState}
-use Rattle.log_laws.specs.Recovering.{RECOVERY, IsAtRest, AreOnLog}
+use Rattle.log_laws.specs.Recovering.{RECOVERY_LANE, IsAtRest, AreOnLog}
 use Rattle.log_laws.proofs.Parts.{part_image, part_image_settled}
 use Rattle.log_laws.proofs.Clearing.{closed_by}
 use Rattle.log_laws.proofs.Closings.{part_among}
@@ -122,7 +122,7 @@ module _ (shape : Shape) (w : Words) (s : State) (gates ends checkpoints : List 
       by_test true = e
       by_test false = refl
 
-  pub closing_done : (first : State) (region : Region) → HasCome shape first (start w) w s region → HasClosed shape first s gates ends checkpoints (after_plan RECOVERY region plan)
+  pub closing_done : (first : State) (region : Region) → HasCome shape first (start w) w s region → HasClosed shape first s gates ends checkpoints (after_plan RECOVERY_LANE region plan)
   closing_done first region h =
       let ends_there : advance_all (start w) plan ≡ start end = closing_ends w gates ends checkpoints in
       let r : Reaches (λ a. a < words_of_shape shape) (advance_all (start w) (take (length plan) plan)) end =

@@ -10,7 +10,7 @@ use Rattle.persist_model.specs.Need.{to_undo}
 use Rattle.persist_model.specs.Shape.{Shape, heap_words, words_of_shape}
 use Rattle.persist_model.specs.State.{State}
 use Rattle.log_laws.specs.Recovery.{Step, start as begins, makes, compensates, rolls_back, Appends, IsOfLoser, grown}
-use Rattle.log_laws.specs.Recovering.{RECOVERY, IsAtRest, with_heap}
+use Rattle.log_laws.specs.Recovering.{RECOVERY_LANE, IsAtRest, with_heap}
 use Rattle.persist_model.specs.Sound.{HasState}
 use Rattle.persist_model.proofs.Projecting.{advance_all-append}
 use Rattle.log_laws.proofs.Parts.{part_image, part_image_settled}
@@ -49,7 +49,7 @@ settled_append_leads shape w s r room plan rest append step = record {
 -- and behind it the state has the record, with the heap words as they were
 pub settled_append_done : (shape : Shape) (first : State) (w : Words) (s : State) (r : Record) (room : ℕ → ℕ) (plan : List Event) (region : Region) →
     HasCome shape first (start w) w s region → IsAppend shape w s r room plan → Step shape s (grown s r room) →
-    (d : Words) × HasCome shape first (start d) d (grown s r room) (after_plan RECOVERY region plan)
+    (d : Words) × HasCome shape first (start d) d (grown s r room) (after_plan RECOVERY_LANE region plan)
 settled_append_done shape first w s r room plan region come append step =
     let d : Words = (advance (advance_all (start w) append.front) Fence).durable in
     let whole : advance_all (start w) plan ≡ start d = ap (advance_all (start w)) append.fenced ∙ advance_all-append (start w) append.front (Fence ∷ []) in

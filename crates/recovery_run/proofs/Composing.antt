@@ -9,7 +9,7 @@ use Rattle.persist_model.specs.Shape.{Shape, words_of_shape}
 use Rattle.persist_model.specs.State.{State, IsSoundState}
 use Rattle.log_laws.specs.Recovery.{Steps, start as begins, makes}
 use Rattle.persist_model.specs.Sound.{HasState}
-use Rattle.log_laws.specs.Recovering.{RECOVERY, IsAtRest}
+use Rattle.log_laws.specs.Recovering.{RECOVERY_LANE, IsAtRest}
 use Rattle.persist_model.proofs.Tracking.{Tracks-event, Tracks-settled, Reaches-image}
 use Rattle.log_laws.proofs.Keeping.{runs_keep}
 use Rattle.log_laws.specs.Parts.{after_plan, AreDurable, HasCome, Leads, EachKeeps}
@@ -39,14 +39,14 @@ steps_all shape s x _ h begins = h
 steps_all shape s x _ h (makes {x = z} k step) = makes (steps_all shape s x z h k) step
 
 pub parts_keep : (shape : Shape) (first : State) (p : Progress) (w : Words) (s : State) (region : Region) (plan : List Event) (k : ℕ) →
-    IsSoundState shape first → HasCome shape first p w s region → Leads shape p s plan → EachKeeps shape first (after_plan RECOVERY region (take k plan))
+    IsSoundState shape first → HasCome shape first p w s region → Leads shape p s plan → EachKeeps shape first (after_plan RECOVERY_LANE region (take k plan))
 parts_keep shape first p w s region plan k sound h leads = record {
-  size = size_plan RECOVERY region (take k plan) ∙ h.size;
+  size = size_plan RECOVERY_LANE region (take k plan) ∙ h.size;
   each = λ words image.
       let events : List Event = take k plan in
-      let tracks = tracks_plan (λ a. a < words_of_shape shape) RECOVERY p region events (durable_take k plan leads.durable) h.tracks in
-      let size : (after_plan RECOVERY region events).size ≡ words_of_shape shape = size_plan RECOVERY region events ∙ h.size in
-      let r = Reaches-image (λ a. a < words_of_shape shape) RECOVERY (advance_all p events) (after_plan RECOVERY region events) (slice_index words)
+      let tracks = tracks_plan (λ a. a < words_of_shape shape) RECOVERY_LANE p region events (durable_take k plan leads.durable) h.tracks in
+      let size : (after_plan RECOVERY_LANE region events).size ≡ words_of_shape shape = size_plan RECOVERY_LANE region events ∙ h.size in
+      let r = Reaches-image (λ a. a < words_of_shape shape) RECOVERY_LANE (advance_all p events) (after_plan RECOVERY_LANE region events) (slice_index words)
       (λ a lt. subst (λ n. a < n) (sym size) lt) image.each tracks in
       let x = leads.images k (slice_index words) r in
       let kept = runs_keep shape first x.0 sound (steps_all shape first s x.0 h.steps x.2) in
@@ -55,11 +55,11 @@ parts_keep shape first p w s region plan k sound h leads = record {
 
 pub parts_go_on : (shape : Shape) (first : State) (p : Progress) (w d : Words) (s y : State) (region : Region) (plan : List Event) →
     HasCome shape first p w s region → Leads shape p s plan → advance_all p plan ≡ start d → HasState shape d y → Steps shape s y →
-    HasCome shape first (start d) d y (after_plan RECOVERY region plan)
+    HasCome shape first (start d) d y (after_plan RECOVERY_LANE region plan)
 parts_go_on shape first p w d s y region plan h leads ends has steps = record {
-  size = size_plan RECOVERY region plan ∙ h.size;
-  tracks = subst (λ q. Tracks (λ a. a < words_of_shape shape) RECOVERY q (after_plan RECOVERY region plan)) ends
-      (tracks_plan (λ a. a < words_of_shape shape) RECOVERY p region plan leads.durable h.tracks);
+  size = size_plan RECOVERY_LANE region plan ∙ h.size;
+  tracks = subst (λ q. Tracks (λ a. a < words_of_shape shape) RECOVERY_LANE q (after_plan RECOVERY_LANE region plan)) ends
+      (tracks_plan (λ a. a < words_of_shape shape) RECOVERY_LANE p region plan leads.durable h.tracks);
   rest = at_rest shape d y has;
   steps = steps_all shape first s y h.steps steps;
 }
@@ -72,7 +72,7 @@ pub recovery_begins : (shape : Shape) (w : Words) (first : State) (region : Regi
     HasState shape w first → HasCome shape first (start w) w first region
 recovery_begins shape w first region size settled has = record {
   size = size;
-  tracks = Tracks-settled (λ a. a < words_of_shape shape) RECOVERY w region settled;
+  tracks = Tracks-settled (λ a. a < words_of_shape shape) RECOVERY_LANE w region settled;
   rest = record { state = has; durable = λ a lt. refl; log = λ a lt v k. k; heap = λ a le v k. elim k [ ] };
   steps = begins;
 }

@@ -15,7 +15,7 @@ use Rattle.persist_model.proofs.Tracking.{latest_cases, Tracks-event, Wrote-push
 use Rattle.persist_model.proofs.Projecting.{latest_none}
 use Rattle.persist_model.proofs.Images.{get_or-newest_words, settled_is}
 use Rattle.log_laws.specs.Recovery.{HasDecidingRecord, Step, Steps, start as begins, makes, KeepsStanding}
-use Rattle.log_laws.specs.Recovering.{RECOVERY, with_heap}
+use Rattle.log_laws.specs.Recovering.{RECOVERY_LANE, with_heap}
 use Rattle.log_laws.specs.Parts.{after_plan, AreDurable, HasCome, Leads, EachKeeps}
 use Rattle.log_laws.proofs.Recovering.{same_log, state_with_heap, heap_step, rest_image, rest_store}
 use Rattle.log_laws.proofs.Keeping.{runs_keep}
@@ -28,10 +28,10 @@ use Rattle.recovery_run.proofs.ClosingPart.{same_heap}
 
 -- a store to a covered heap word
 pub come_store : (shape : Shape) (first : State) (p : Progress) (w : Words) (s : State) (region : Region) (a x : ℕ) → heap shape ≤ a → HasDecidingRecord shape.policy s.log a →
-    HasCome shape first p w s region → HasCome shape first (advance p (PStore a x)) w s (after region RECOVERY (PStore a x))
+    HasCome shape first p w s region → HasCome shape first (advance p (PStore a x)) w s (after region RECOVERY_LANE (PStore a x))
 come_store shape first p w s region a x le covered h = record {
   size = h.size;
-  tracks = Tracks-event (λ b. b < words_of_shape shape) RECOVERY p region (PStore a x) tt h.tracks;
+  tracks = Tracks-event (λ b. b < words_of_shape shape) RECOVERY_LANE p region (PStore a x) tt h.tracks;
   rest = rest_store shape p w s a x le covered h.rest;
   steps = h.steps;
 }
@@ -61,7 +61,7 @@ module _ (shape : Shape) (first y : State) (region : Region) (h : HasReached sha
   newest_latest a lt =
       let below : a < region.size = subst (λ n. a < n) (sym h.come.size) lt in
       read_newest region a below
-      ∙ newest_tracked (RECOVERY + 1) (h.progress.durable a) h.progress.pending a (region.at a) (h.come.tracks a lt) (h.single a below)
+      ∙ newest_tracked (RECOVERY_LANE + 1) (h.progress.durable a) h.progress.pending a (region.at a) (h.come.tracks a lt) (h.single a below)
 
   pub newest_log : (a : ℕ) → a < heap shape → newest_at region a ≡ h.durable a
   newest_log a lt =
@@ -98,7 +98,7 @@ module _ (shape : Shape) (first y : State) (region : Region) (h : HasReached sha
 pub settled_newest : (shape : Shape) (first y : State) (region : Region) (h : HasSettled shape first y region) → (a : ℕ) → a < words_of_shape shape → newest_at region a ≡ h.durable a
 settled_newest shape first y region h a lt =
     let below : a < region.size = subst (λ n. a < n) (sym h.come.size) lt in
-    read_newest region a below ∙ newest_tracked (RECOVERY + 1) (h.durable a) [] a (region.at a) (h.come.tracks a lt) (λ none. h.settled a below)
+    read_newest region a below ∙ newest_tracked (RECOVERY_LANE + 1) (h.durable a) [] a (region.at a) (h.come.tracks a lt) (λ none. h.settled a below)
 
 pub settled_reached : (shape : Shape) (first y : State) (region : Region) → HasSettled shape first y region → HasReached shape first y region
 settled_reached shape first y region h = record {
@@ -216,60 +216,60 @@ fenced_single mark [] one = absurd (omega (arith, one))
 fenced_single mark (c ∷ []) one = refl
 fenced_single mark (c ∷ d ∷ cs) one = absurd (omega (arith, one))
 
-pub single_event : (n : ℕ) (p : Progress) (region : Region) (e : Event) → region.size ≡ n → IsDurable e → Tracks (λ a. a < n) RECOVERY p region → AreSingle p region →
-    AreSingle (advance p e) (after region RECOVERY e)
+pub single_event : (n : ℕ) (p : Progress) (region : Region) (e : Event) → region.size ≡ n → IsDurable e → Tracks (λ a. a < n) RECOVERY_LANE p region → AreSingle p region →
+    AreSingle (advance p e) (after region RECOVERY_LANE e)
 single_event n p region (Store b v) size durable tracks single = elim durable [ ]
 single_event n p region (WriteBack b) size durable tracks single = elim durable [ ]
 single_event n p region (PStore b v) size durable tracks single = λ a lt none. elim (eqb_tells a b) [
   | inl t ↦ absurd (none v (subst (λ c. Wrote (p.pending ++ write b v ∷ []) c v) (sym t.1) (Wrote-pushed p.pending b v)))
-  | inr f ↦ subst (λ (q : Bool). IsSettled (if q then region.at a ++ candidate v (RECOVERY + 1) ∷ [] else region.at a)) (sym f.0)
+  | inr f ↦ subst (λ (q : Bool). IsSettled (if q then region.at a ++ candidate v (RECOVERY_LANE + 1) ∷ [] else region.at a)) (sym f.0)
       (single a lt (λ x k. none x (Wrote-push p.pending (write b v) a x k)))
 ]
 single_event n p region Fence size durable tracks single = λ a lt none. elim (latest_cases p.pending a (p.durable a)) [
-  | inl free ↦ fenced_single (RECOVERY + 1) (region.at a) (single a lt free.1)
+  | inl free ↦ fenced_single (RECOVERY_LANE + 1) (region.at a) (single a lt free.1)
   | inr wrote ↦ (
       let last = (tracks a (subst (λ m. a < m) size lt)).last (latest p.pending a (p.durable a)) wrote in
-      let is : fenced (RECOVERY + 1) (region.at a) ≡ candidate (latest p.pending a (p.durable a)) 0 ∷ [] =
-      ap (fenced (RECOVERY + 1)) last.1 ∙ fenced-push (RECOVERY + 1) last.0 (latest p.pending a (p.durable a)) in
+      let is : fenced (RECOVERY_LANE + 1) (region.at a) ≡ candidate (latest p.pending a (p.durable a)) 0 ∷ [] =
+      ap (fenced (RECOVERY_LANE + 1)) last.1 ∙ fenced-push (RECOVERY_LANE + 1) last.0 (latest p.pending a (p.durable a)) in
       ap length is)
 ]
 
-pub single_plan : (n : ℕ) (p : Progress) (region : Region) (plan : List Event) → region.size ≡ n → AreDurable plan → Tracks (λ a. a < n) RECOVERY p region → AreSingle p region →
-    AreSingle (advance_all p plan) (after_plan RECOVERY region plan)
+pub single_plan : (n : ℕ) (p : Progress) (region : Region) (plan : List Event) → region.size ≡ n → AreDurable plan → Tracks (λ a. a < n) RECOVERY_LANE p region → AreSingle p region →
+    AreSingle (advance_all p plan) (after_plan RECOVERY_LANE region plan)
 single_plan n p region [] size durable tracks single = single
 single_plan n p region (e ∷ plan) size durable tracks single =
-    single_plan n (advance p e) (after region RECOVERY e) plan (same_size region RECOVERY e ∙ size) durable.1 (Tracks-event (λ a. a < n) RECOVERY p region e durable.0 tracks)
+    single_plan n (advance p e) (after region RECOVERY_LANE e) plan (same_size region RECOVERY_LANE e ∙ size) durable.1 (Tracks-event (λ a. a < n) RECOVERY_LANE p region e durable.0 tracks)
     (single_event n p region e size durable.0 tracks single)
 
 -- A whole part leads to a settled region: the part's images are steps further on, and its end is d with state z.
 pub plan_done : (shape : Shape) (first y z : State) (region : Region) (plan : List Event) (d : Words) → (h : HasReached shape first y region) →
     Leads shape h.progress h.state plan → advance_all h.progress plan ≡ start d → HasState shape d z → Steps shape h.state z →
-    KeepsWords (IsPlainHeaderWord shape) region (after_plan RECOVERY region plan) → HasSettled shape first z (after_plan RECOVERY region plan)
+    KeepsWords (IsPlainHeaderWord shape) region (after_plan RECOVERY_LANE region plan) → HasSettled shape first z (after_plan RECOVERY_LANE region plan)
 plan_done shape first y z region plan d h leads ends has steps keeps =
     let come = parts_go_on shape first h.progress h.durable d h.state z region plan h.come leads ends has steps in
-    settles shape first y z d region (after_plan RECOVERY region plan) h keeps come
+    settles shape first y z d region (after_plan RECOVERY_LANE region plan) h keeps come
     (λ a lt. single_plan (words_of_shape shape) h.progress region plan h.come.size leads.durable h.come.tracks h.single a lt
     (λ v k. subst (λ (q : Progress). Wrote q.pending a v) ends k))
 
 -- ---- a store and a fence
 
 pub stored_heap : (shape : Shape) (region : Region) (a v : ℕ) → heap shape ≤ a → a < words_of_shape shape → region.size ≡ words_of_shape shape →
-    heap_words shape (newest_at (after region RECOVERY (PStore a v))) ≡ with_value (heap_words shape (newest_at region)) a v
+    heap_words shape (newest_at (after region RECOVERY_LANE (PStore a v))) ≡ with_value (heap_words shape (newest_at region)) a v
 stored_heap shape region a v le lt size = λ i b. each b i
   where
     later : Region
-    later = after region RECOVERY (PStore a v)
+    later = after region RECOVERY_LANE (PStore a v)
 
     newest_there : newest_at later a ≡ v
     newest_there = read_newest later a (subst (λ n. a < n) (sym size) lt) ∙ here (a == a) (let e : (a == a) ≡ true = grind (arith, nat_tests) in e)
       where
-        here : (q : Bool) → q ≡ true → newest (if q then region.at a ++ candidate v (RECOVERY + 1) ∷ [] else region.at a) ≡ v
-        here true e = newest-push (region.at a) (candidate v (RECOVERY + 1))
+        here : (q : Bool) → q ≡ true → newest (if q then region.at a ++ candidate v (RECOVERY_LANE + 1) ∷ [] else region.at a) ≡ v
+        here true e = newest-push (region.at a) (candidate v (RECOVERY_LANE + 1))
         here false e = cc
 
     newest_elsewhere : (b : ℕ) → b < words_of_shape shape → (b == a) ≡ false → newest_at later b ≡ newest_at region b
     newest_elsewhere b below off = read_newest later b (subst (λ n. b < n) (sym size) below)
-        ∙ ap (λ (q : Bool). newest (if q then region.at b ++ candidate v (RECOVERY + 1) ∷ [] else region.at b)) off
+        ∙ ap (λ (q : Bool). newest (if q then region.at b ++ candidate v (RECOVERY_LANE + 1) ∷ [] else region.at b)) off
         ∙ sym (read_newest region b (subst (λ n. b < n) (sym size) below))
 
     inner : (b : ℕ) → (t : Bool) → nat_lt b (words_of_shape shape) ≡ t → (b == a) ≡ false → (if t then newest_at later b else 0) ≡ (if t then newest_at region b else 0)
@@ -292,12 +292,12 @@ stored_heap shape region a v le lt size = λ i b. each b i
 
 -- a store to a covered heap word
 pub store_done : (shape : Shape) (first y : State) (region : Region) (a v : ℕ) → heap shape ≤ a → a < region.size → HasDecidingRecord shape.policy y.log a → HasReached shape first y region →
-    HasReached shape first (with_heap y (with_value y.words a v)) (after region RECOVERY (PStore a v))
+    HasReached shape first (with_heap y (with_value y.words a v)) (after region RECOVERY_LANE (PStore a v))
 store_done shape first y region a v le lt covered h =
-    let later = after region RECOVERY (PStore a v) in
+    let later = after region RECOVERY_LANE (PStore a v) in
     let covered_there : HasDecidingRecord shape.policy h.state.log a = subst (λ (z : State). HasDecidingRecord shape.policy z.log a) h.is covered in
     let come = come_store shape first h.progress h.durable h.state region a v le covered_there h.come in
-    let keeps : KeepsWords (IsPlainHeaderWord shape) region later = λ b x is one. plan_keeps RECOVERY region (PStore a v ∷ []) b x ((λ e. (let low = is.below in absurd (omega (arith, low, e, le)))), tt) one in
+    let keeps : KeepsWords (IsPlainHeaderWord shape) region later = λ b x is one. plan_keeps RECOVERY_LANE region (PStore a v ∷ []) b x ((λ e. (let low = is.below in absurd (omega (arith, low, e, le)))), tt) one in
     let reached = reaches shape first y h.state (advance h.progress (PStore a v)) h.durable region later h keeps come
     (single_event (words_of_shape shape) h.progress region (PStore a v) h.come.size tt h.come.tracks h.single) in
     let heap_is : heap_words shape (newest_at later) ≡ with_value y.words a v =
@@ -306,10 +306,10 @@ store_done shape first y region a v le lt covered h =
     (λ i. record { log = (ap (λ (z : State). z.log) (sym h.is)) i; words = heap_is i; room = (ap (λ (z : State). z.room) (sym h.is)) i }) reached
 
 -- a fence settles what is pending
-pub fence_done : (shape : Shape) (first y : State) (region : Region) → HasReached shape first y region → HasSettled shape first y (after region RECOVERY Fence)
+pub fence_done : (shape : Shape) (first y : State) (region : Region) → HasReached shape first y region → HasSettled shape first y (after region RECOVERY_LANE Fence)
 fence_done shape first y region h =
     let d : Words = (advance h.progress Fence).durable in
-    let later = after region RECOVERY Fence in
+    let later = after region RECOVERY_LANE Fence in
     let log_same : (a : ℕ) → a < heap shape → d a ≡ h.durable a =
     λ a lt. sym (newest_latest shape first y region h a (omega (arith, lt))) ∙ newest_log shape first y region h a lt in
     let heap_is : heap_words shape (newest_at region) ≡ heap_words shape d = same_heap shape d (newest_at region) (λ a le lt. newest_latest shape first y region h a lt) in
@@ -317,18 +317,18 @@ fence_done shape first y region h =
     (state_with_heap shape h.durable d h.state (same_log shape h.durable d log_same) h.come.rest.state) in
     let come : HasCome shape first (start d) d y later = record {
       size = h.come.size;
-      tracks = Tracks-event (λ a. a < words_of_shape shape) RECOVERY h.progress region Fence tt h.come.tracks;
+      tracks = Tracks-event (λ a. a < words_of_shape shape) RECOVERY_LANE h.progress region Fence tt h.come.tracks;
       rest = record { state = has; durable = λ a lt. refl; log = λ a lt v k. k; heap = λ a le v k. elim k [ ] };
       steps = reached_steps shape first y region h;
     } in
-    settles shape first y y d region later h (λ b x is one. plan_keeps RECOVERY region (Fence ∷ []) b x (tt, tt) one) come
+    settles shape first y y d region later h (λ b x is one. plan_keeps RECOVERY_LANE region (Fence ∷ []) b x (tt, tt) one) come
     (λ a lt. single_event (words_of_shape shape) h.progress region Fence h.come.size tt h.come.tracks h.single a lt (λ v k. k))
 
 -- ---- what a stop leaves
 
 -- wherever a part is stopped each image keeps the standing words
 pub reached_keeps : (shape : Shape) (first y : State) (region : Region) (plan : List Event) (k : ℕ) → IsSoundState shape first → (h : HasReached shape first y region) →
-    Leads shape h.progress h.state plan → EachKeeps shape first (after_plan RECOVERY region (take k plan))
+    Leads shape h.progress h.state plan → EachKeeps shape first (after_plan RECOVERY_LANE region (take k plan))
 reached_keeps shape first y region plan k sound h leads = parts_keep shape first h.progress h.durable h.state region plan k sound h.come leads
 
 -- where nothing happens too

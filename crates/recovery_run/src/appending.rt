@@ -7,7 +7,7 @@ ghost use Rattle.lane_traits.specs.Device.{IsWithin, stores_of};
 ghost use Rattle.log_laws.specs.Recovery.{Step, grown};
 ghost use Rattle.log_laws.specs.StateAppends.{IsAppend, MayCome};
 ghost use Rattle.log_laws.specs.Parts.{after_plan, EachKeeps};
-ghost use Rattle.log_laws.specs.Recovering.{RECOVERY};
+ghost use Rattle.log_laws.specs.Recovering.{RECOVERY_LANE};
 ghost use Rattle.recovery_run.specs.Edges.{HasCounted, KeepsWords, StoreElsewhere, AreOffHeader};
 ghost use Rattle.recovery_run.specs.Reached.{newest_at, HasReached, HasSettled};
 
@@ -33,7 +33,7 @@ pub fn append<D: Device, P: Plan>(device: &mut D, plan: &P) -> Done
     ensures settled_stopped { result ≡ Done.Stopped → (shape : Shape) (first y : State) (r : Record) (room : ℕ → ℕ) → IsSoundState shape first
         → HasSettled shape first y (D.cells device.old) → IsAppend shape (newest_at (D.cells device.old)) y r room (P.events plan.now)
         → Step shape y (grown y r room) → EachKeeps shape first (D.cells device.new) }
-    ensures cells { result ≡ Done.Made → D.cells device.new ≡ after_plan RECOVERY (D.cells device.old) (P.events plan.now) }
+    ensures cells { result ≡ Done.Made → D.cells device.new ≡ after_plan RECOVERY_LANE (D.cells device.old) (P.events plan.now) }
     ensures counted { HasCounted (length (P.events plan.now)) result (D.counts device.old) (D.counts device.new) }
     ensures spare_left { D.spare device.old ≤ D.spare device.new + length (P.events plan.now) }
     ensures aside { KeepsWords (λ a. StoreElsewhere a (P.events plan.now)) (D.cells device.old) (D.cells device.new) }

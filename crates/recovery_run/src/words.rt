@@ -8,9 +8,9 @@ ghost use Rattle.log_laws.specs.Parts.{EachKeeps};
 ghost use Rattle.recovery_run.specs.Edges.{HasCounted, KeepsWords};
 ghost use Rattle.recovery_run.specs.Reached.{with_value, HasReached, HasSettled};
 
-use crate::runner::RECOVERY_LANE;
 use lane_traits::{Device, Done};
 use persist_model::Event;
+use persist_model::format::RECOVERY_LANE;
 
 /// Stores a value to a heap word, as recovery's lane. It is pending until the next fence.
 ///

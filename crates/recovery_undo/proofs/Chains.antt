@@ -10,7 +10,7 @@ use Rattle.persist_model.specs.State.{State}
 use Rattle.persist_model.proofs.Tracking.{latest_cases}
 use Rattle.persist_model.proofs.Projecting.{latest_none, Reaches-same, SameOn, SameOn-events}
 use Rattle.log_laws.specs.Parts.{after_plan, AreDurable}
-use Rattle.log_laws.specs.Recovering.{RECOVERY}
+use Rattle.log_laws.specs.Recovering.{RECOVERY_LANE}
 use Rattle.log_laws.proofs.Views.{view-out}
 use Rattle.atomic_list.specs.Rules.{IsList, IsListWord}
 use Rattle.atomic_list.proofs.Agreeing.{lists_agree}
@@ -82,7 +82,7 @@ module _ (layout : Layout) (first y : State) (region : Region) (h : HasReached (
 
   module _ (plan : List Event) (durable : AreDurable plan) where
     abbrev later : Region
-    later = after_plan RECOVERY region plan
+    later = after_plan RECOVERY_LANE region plan
 
     abbrev behind : Progress
     behind = advance_all h.progress plan
@@ -95,8 +95,8 @@ module _ (layout : Layout) (first y : State) (region : Region) (h : HasReached (
       latests = λ a lt u. latest_none h.progress.pending a u (h.come.rest.log a lt);
     }
 
-    tracks : Tracks (λ a. a < words_of_shape shape) RECOVERY behind later
-    tracks = tracks_plan (λ a. a < words_of_shape shape) RECOVERY h.progress region plan durable h.come.tracks
+    tracks : Tracks (λ a. a < words_of_shape shape) RECOVERY_LANE behind later
+    tracks = tracks_plan (λ a. a < words_of_shape shape) RECOVERY_LANE h.progress region plan durable h.come.tracks
 
     single : AreSingle behind later
     single = single_plan (words_of_shape shape) h.progress region plan h.come.size durable h.come.tracks h.single
@@ -104,8 +104,8 @@ module _ (layout : Layout) (first y : State) (region : Region) (h : HasReached (
     newest_is : (a : ℕ) → a < heap shape → newest_at later a ≡ latest behind.pending a (behind.durable a)
     newest_is a lt =
         let fits : a < words_of_shape shape = omega (arith, lt) in
-        let below : a < later.size = subst (λ n. a < n) (sym (size_plan RECOVERY region plan ∙ h.come.size)) fits in
-        read_newest later a below ∙ newest_tracked (RECOVERY + 1) (behind.durable a) behind.pending a (later.at a) (tracks a fits) (single a below)
+        let below : a < later.size = subst (λ n. a < n) (sym (size_plan RECOVERY_LANE region plan ∙ h.come.size)) fits in
+        read_newest later a below ∙ newest_tracked (RECOVERY_LANE + 1) (behind.durable a) behind.pending a (later.at a) (tracks a fits) (single a below)
 
     -- the newest value is durable, or pending
     each_reached : (a : ℕ) → a < heap shape → (newest_at later a ≡ behind.durable a) ⊎ Wrote behind.pending a (newest_at later a)
@@ -115,7 +115,7 @@ module _ (layout : Layout) (first y : State) (region : Region) (h : HasReached (
     ]
 
     -- the newest words behind a plan are reached from the newest ones before it
-    pub plan_reaches : Reaches (λ a. a < heap (layout_shape layout)) (progress_at (newest_at region) plan (length plan)) (newest_at (after_plan RECOVERY region plan))
+    pub plan_reaches : Reaches (λ a. a < heap (layout_shape layout)) (progress_at (newest_at region) plan (length plan)) (newest_at (after_plan RECOVERY_LANE region plan))
     plan_reaches =
         subst (λ (events : List Event). Reaches (λ a. a < heap shape) (advance_all (start w) events) (newest_at later)) (sym (take_whole plan (length plan) (omega arith)))
         (Reaches-same (λ a. a < heap shape) behind (advance_all (start w) plan) (newest_at later) (SameOn-events (λ a. a < heap shape) h.progress (start w) plan begins) each_reached)

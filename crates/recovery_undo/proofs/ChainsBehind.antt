@@ -10,7 +10,7 @@ use Rattle.persist_model.specs.Shape.{Shape, heap, log_words}
 use Rattle.persist_model.specs.Chain.{view}
 use Rattle.persist_model.specs.State.{State}
 use Rattle.log_laws.specs.Parts.{after_plan}
-use Rattle.log_laws.specs.Recovering.{RECOVERY}
+use Rattle.log_laws.specs.Recovering.{RECOVERY_LANE}
 use Rattle.atomic_list.specs.Rules.{IsAtRest, at_rest}
 use Rattle.region_layout.specs.declared.cell.Cell.{Cell}
 use Rattle.region_layout.specs.declared.layout.Layout.{Layout}
@@ -62,7 +62,7 @@ module _ (layout : Layout) (p : ℕ) (cell : Cell) (first y : State) (region : R
 
   -- the newest words behind it
   abbrev v : Words
-  v = newest_at (after_plan RECOVERY region plan)
+  v = newest_at (after_plan RECOVERY_LANE region plan)
 
   abbrev chain : List ℕ
   chain = (takes can.quiet).chain
@@ -102,7 +102,7 @@ module _ (layout : Layout) (p : ℕ) (cell : Cell) (first y : State) (region : R
 
   -- with a fresh bucket added the table has the chains behind the append
   pub knows_appended : (table : UsedBuckets) (later : Region) →
-      later ≡ after_plan RECOVERY region (region_append (layout_shape layout) p place (record_of (place_address place) cell)) →
+      later ≡ after_plan RECOVERY_LANE region (region_append (layout_shape layout) p place (record_of (place_address place) cell)) →
       KnowsChains (layout_shape layout) table (chains_behind p place (chains_in (layout_shape layout) (newest_at region))) → KnowsRegion layout table later
   knows_appended table later is knows = subst (λ (z : Region). KnowsRegion layout table z) (sym is)
       (knows_same shape table (chains_behind p place (chains_in shape w)) (chains_in shape v) each_chain knows)

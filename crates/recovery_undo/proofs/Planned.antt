@@ -12,7 +12,7 @@ use Rattle.persist_model.specs.Shape.{Shape, heap, list_words, IsBucketOf}
 use Rattle.persist_model.specs.Chain.{out_address, out_event, word_behind, last_or}
 use Rattle.persist_model.proofs.Candidates.{fenced-push}
 use Rattle.lane_traits.specs.Device.{IsWithin}
-use Rattle.log_laws.specs.Recovering.{RECOVERY, IsOnLog, AreOnLog}
+use Rattle.log_laws.specs.Recovering.{RECOVERY_LANE, IsOnLog, AreOnLog}
 use Rattle.log_laws.specs.Parts.{after_plan}
 use Rattle.log_laws.proofs.Views.{AreStoresOn, AreStoresOn-append, AreStoresOn-out, out_cases, list_words_cases}
 use Rattle.atomic_list.specs.Plans.{insertion}
@@ -137,11 +137,11 @@ after_both lane region [] ys = refl
 after_both lane region (x ∷ xs) ys = after_both lane (after region lane x) xs ys
 
 -- a value that was stored and fenced is the only one
-settled_value : (region : Region) (a v : ℕ) → HasOnlyValue v ((after (after region RECOVERY (PStore a v)) RECOVERY Fence).at a)
+settled_value : (region : Region) (a v : ℕ) → HasOnlyValue v ((after (after region RECOVERY_LANE (PStore a v)) RECOVERY_LANE Fence).at a)
 settled_value region a v x k = by_test (a == a) (let on : (a == a) ≡ true = grind (arith, nat_tests) in on) k
   where
-    by_test : (t : Bool) → t ≡ true → IsCandidate (fenced (RECOVERY + 1) (if t then region.at a ++ candidate v (RECOVERY + 1) ∷ [] else region.at a)) x → x ≡ v
-    by_test true e k = elim (subst (λ cs. IsCandidate cs x) (fenced-push (RECOVERY + 1) (region.at a) v) k) [ inl is ↦ sym is | inr none ↦ absurd none ]
+    by_test : (t : Bool) → t ≡ true → IsCandidate (fenced (RECOVERY_LANE + 1) (if t then region.at a ++ candidate v (RECOVERY_LANE + 1) ∷ [] else region.at a)) x → x ≡ v
+    by_test true e k = elim (subst (λ cs. IsCandidate cs x) (fenced-push (RECOVERY_LANE + 1) (region.at a) v) k) [ inl is ↦ sym is | inr none ↦ absurd none ]
     by_test false e k = cc
 
 out_to_append : (p : ℕ) → out_address p 10 ≡ list_words p + 2
@@ -157,7 +157,7 @@ abbrev front_of : ℕ → Place → List Event
 front_of cells place = closing place.bucket cells ++ late place
 
 pub to_append_zero : (cells p : ℕ) (place : Place) (r : Record) (region : Region) → p < 3 → IsBehind place → r.at ≡ place_address place → HasOnlyValue 0 (region.at (list_words p + 2)) →
-    HasOnlyValue 0 ((after_plan RECOVERY region (map (out_event p) (append_plan cells place r))).at (list_words p + 2))
+    HasOnlyValue 0 ((after_plan RECOVERY_LANE region (map (out_event p) (append_plan cells place r))).at (list_words p + 2))
 to_append_zero cells p place r region few h at one = by_test place.fresh
   where
     away : StoreElsewhere (list_words p + 2) (map (out_event p) (cell_plan r))
@@ -175,17 +175,17 @@ to_append_zero cells p place r region few h at one = by_test place.fresh
     split = append_assoc (closing place.bucket cells) (insertion (insertion_of place)) (cell_plan r)
         ∙ sym (append_assoc (closing place.bucket cells) (late place) (PStore 10 0 ∷ Fence ∷ cell_plan r))
 
-    by_test : (fresh : Bool) → HasOnlyValue 0 ((after_plan RECOVERY region (map (out_event p) ((if fresh then closing place.bucket cells ++ insertion (insertion_of place) else []) ++ cell_plan r))).at (list_words p + 2))
-    by_test false = plan_keeps RECOVERY region (map (out_event p) (cell_plan r)) (list_words p + 2) 0 away one
+    by_test : (fresh : Bool) → HasOnlyValue 0 ((after_plan RECOVERY_LANE region (map (out_event p) ((if fresh then closing place.bucket cells ++ insertion (insertion_of place) else []) ++ cell_plan r))).at (list_words p + 2))
+    by_test false = plan_keeps RECOVERY_LANE region (map (out_event p) (cell_plan r)) (list_words p + 2) 0 away one
     by_test true =
-        let before : Region = after_plan RECOVERY region (map (out_event p) (front_of cells place)) in
-        let whole : after_plan RECOVERY region (map (out_event p) ((closing place.bucket cells ++ insertion (insertion_of place)) ++ cell_plan r))
-        ≡ after_plan RECOVERY before (PStore (list_words p + 2) 0 ∷ Fence ∷ map (out_event p) (cell_plan r)) =
-        ap (λ es. after_plan RECOVERY region (map (out_event p) es)) split
-        ∙ ap (after_plan RECOVERY region) (map-append (out_event p) (front_of cells place) (PStore 10 0 ∷ Fence ∷ cell_plan r))
-        ∙ after_both RECOVERY region (map (out_event p) (front_of cells place)) (PStore (list_words p + 2) 0 ∷ Fence ∷ map (out_event p) (cell_plan r)) in
+        let before : Region = after_plan RECOVERY_LANE region (map (out_event p) (front_of cells place)) in
+        let whole : after_plan RECOVERY_LANE region (map (out_event p) ((closing place.bucket cells ++ insertion (insertion_of place)) ++ cell_plan r))
+        ≡ after_plan RECOVERY_LANE before (PStore (list_words p + 2) 0 ∷ Fence ∷ map (out_event p) (cell_plan r)) =
+        ap (λ es. after_plan RECOVERY_LANE region (map (out_event p) es)) split
+        ∙ ap (after_plan RECOVERY_LANE region) (map-append (out_event p) (front_of cells place) (PStore 10 0 ∷ Fence ∷ cell_plan r))
+        ∙ after_both RECOVERY_LANE region (map (out_event p) (front_of cells place)) (PStore (list_words p + 2) 0 ∷ Fence ∷ map (out_event p) (cell_plan r)) in
         subst (λ (z : Region). HasOnlyValue 0 (z.at (list_words p + 2))) (sym whole)
-        (plan_keeps RECOVERY (after (after before RECOVERY (PStore (list_words p + 2) 0)) RECOVERY Fence) (map (out_event p) (cell_plan r)) (list_words p + 2) 0 away
+        (plan_keeps RECOVERY_LANE (after (after before RECOVERY_LANE (PStore (list_words p + 2) 0)) RECOVERY_LANE Fence) (map (out_event p) (cell_plan r)) (list_words p + 2) 0 away
         (settled_value before (list_words p + 2) 0))
 
 -- ---- within the region

@@ -10,7 +10,7 @@ use Rattle.persist_model.specs.State.{State}
 use Rattle.lane_traits.specs.Device.{IsWithin}
 use Rattle.log_laws.specs.StateAppends.{IsAppend}
 use Rattle.log_laws.specs.MoveRoom.{TakesCell}
-use Rattle.log_laws.specs.Recovering.{RECOVERY}
+use Rattle.log_laws.specs.Recovering.{RECOVERY_LANE}
 use Rattle.log_laws.specs.Parts.{after_plan}
 use Rattle.log_laws.proofs.Views.{list_words_cases}
 use Rattle.region_layout.specs.declared.cell.Cell.{Cell}
@@ -115,20 +115,20 @@ module _ (layout : Layout) (p : ℕ) (cell : Cell) (first y : State) (region : R
   one_zero : (a : ℕ) → a < 32 → w a ≡ 0 → HasOnlyValue 0 (region.at a)
   one_zero a low is = subst (λ v. HasOnlyValue v (region.at a)) is (log_word_one shape first y region can.reached a (omega (arith, low)))
 
-  stays_zero : (later : Region) → later ≡ after_plan RECOVERY region (region_append shape p place r) → ((a : ℕ) → 0 < length (later.at a)) → (a : ℕ) → a < 32 →
-      HasOnlyValue 0 ((after_plan RECOVERY region (region_append shape p place r)).at a) → newest_at later a ≡ 0
+  stays_zero : (later : Region) → later ≡ after_plan RECOVERY_LANE region (region_append shape p place r) → ((a : ℕ) → 0 < length (later.at a)) → (a : ℕ) → a < 32 →
+      HasOnlyValue 0 ((after_plan RECOVERY_LANE region (region_append shape p place r)).at a) → newest_at later a ≡ 0
   stays_zero later is some a low one =
-      let same : later.size ≡ region.size = ap (λ (z : Region). z.size) is ∙ size_plan RECOVERY region (region_append shape p place r) in
+      let same : later.size ≡ region.size = ap (λ (z : Region). z.size) is ∙ size_plan RECOVERY_LANE region (region_append shape p place r) in
       let enough : 32 ≤ region.size = can.reached.header.header.enough in
       reads_zero later a (omega (arith, low, same, enough)) (some a) (subst (λ (z : Region). HasOnlyValue 0 (z.at a)) (sym is) one)
 
-  pub stays_quiet : (later : Region) → later ≡ after_plan RECOVERY region (region_append (layout_shape layout) p place (record_of (place_address place) cell)) →
+  pub stays_quiet : (later : Region) → later ≡ after_plan RECOVERY_LANE region (region_append (layout_shape layout) p place (record_of (place_address place) cell)) →
       ((a : ℕ) → 0 < length (later.at a)) → (q : ℕ) → q < layout.partitions → IsQuiet q (newest_at region) → IsQuiet q (newest_at later)
   stays_quiet later is some q lt quiet =
       let few_q = few_parts shape q ok lt in
       let low = list_words_few q few_q in (
         stays_zero later is some (list_words q + 2) (omega (arith, low)) (elim (eqb_tells q p) [
-          | inl e ↦ subst (λ n. HasOnlyValue 0 ((after_plan RECOVERY region (region_append shape p place r)).at (list_words n + 2))) (sym e.1)
+          | inl e ↦ subst (λ n. HasOnlyValue 0 ((after_plan RECOVERY_LANE region (region_append shape p place r)).at (list_words n + 2))) (sym e.1)
               (to_append_zero shape.cells p place r region few stands_behind refl (one_zero (list_words p + 2) (let l = list_words_few p few in omega (arith, l)) can.quiet.0))
           | inr ne ↦ kept (list_words q + 2) (omega (arith, low)) quiet.0 (apart 2 few_q (omega arith) ne.1)
         ]),
@@ -138,8 +138,8 @@ module _ (layout : Layout) (p : ℕ) (cell : Cell) (first y : State) (region : R
         ])),
       )
     where
-      kept : (a : ℕ) → a < 32 → w a ≡ 0 → (a < list_words p) ⊎ (list_words p + 3 < a) → HasOnlyValue 0 ((after_plan RECOVERY region (region_append shape p place r)).at a)
-      kept a low none off = plan_keeps RECOVERY region (region_append shape p place r) a 0 (away a low off) (one_zero a low none)
+      kept : (a : ℕ) → a < 32 → w a ≡ 0 → (a < list_words p) ⊎ (list_words p + 3 < a) → HasOnlyValue 0 ((after_plan RECOVERY_LANE region (region_append shape p place r)).at a)
+      kept a low none off = plan_keeps RECOVERY_LANE region (region_append shape p place r) a 0 (away a low off) (one_zero a low none)
 
       apart : (i : ℕ) → q < 3 → i ≤ 4 → q ≢ p → (list_words q + i < list_words p) ⊎ (list_words p + 3 < list_words q + i)
       apart i few_q le ne = lists_apart p q i few few_q le ne

@@ -2,14 +2,14 @@ use Rattle.std.proofs.Common.{◌≡◌, ◌≤◌, ◌+◌, ◌-◌, length, ta
 use Rattle.lane_traits.specs.declared.device.Done.TheVariants.{Made}
 use Rattle.lane_traits.specs.Device.{stores_of}
 use Rattle.log_laws.specs.Parts.{after_plan}
-use Rattle.log_laws.specs.Recovering.{RECOVERY}
+use Rattle.log_laws.specs.Recovering.{RECOVERY_LANE}
 use Rattle.recovery_run.specs.Edges.{counts_with}
 use Rattle.migration.specs.Plan.{migration_plan}
 use Rattle.migration.proofs.making.make_events.Given as goal
 
 abbrev pub invariant-loop-event : goal.invariant-loop-event
 invariant-loop-event g l = record {
-  cells : g.D.Device.cells l.device ≡ after_plan RECOVERY (g.D.Device.cells l.initial.device) (take l.i (migration_plan l.kinds));
+  cells : g.D.Device.cells l.device ≡ after_plan RECOVERY_LANE (g.D.Device.cells l.initial.device) (take l.i (migration_plan l.kinds));
   counts : g.D.Device.counts l.device ≡ counts_with (g.D.Device.counts l.initial.device) l.i Made;
   spare : g.D.Device.spare l.initial.device + sum_by stores_of (drop l.i (migration_plan l.kinds)) ≤ g.D.Device.spare l.device + sum_by stores_of (migration_plan l.kinds);
   size : (g.D.Device.cells l.device).size ≡ (g.D.Device.cells l.initial.device).size;

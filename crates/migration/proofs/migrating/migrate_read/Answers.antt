@@ -1,6 +1,6 @@
 use Rattle.std.proofs.Common.{refl, ap, ◌∙◌, take, arith}
 use Rattle.persist_model.specs.Region.{Region}
-use Rattle.log_laws.specs.Recovering.{RECOVERY}
+use Rattle.log_laws.specs.Recovering.{RECOVERY_LANE}
 use Rattle.recovery_run.specs.Reached.{newest_at}
 use Rattle.recovery_run.proofs.Composing.{size_plan}
 use Rattle.migration.specs.Plan.{migration_plan}
@@ -37,7 +37,7 @@ returns-in-Stopped-clause-owed g c =
 pub returns-in-Stopped-clause-size : goal.returns-in-Stopped-clause-size
 returns-in-Stopped-clause-size g c =
     let stop = c.in-Stopped.ensures.stopped refl in
-    ap (λ (r : Region). r.size) stop.cells ∙ size_plan RECOVERY (g.D.Device.cells c.recover_reserving.new.device) (take stop.made (migration_plan c.args.kinds.now)) ∙ c.in-Ok.ensures.header.size
+    ap (λ (r : Region). r.size) stop.cells ∙ size_plan RECOVERY_LANE (g.D.Device.cells c.recover_reserving.new.device) (take stop.made (migration_plan c.args.kinds.now)) ∙ c.in-Ok.ensures.header.size
 
 pub returns-in-Made-clause-owed : goal.returns-in-Made-clause-owed
 returns-in-Made-clause-owed g c =
@@ -48,4 +48,4 @@ returns-in-Made-clause-owed g c =
 
 pub returns-in-Made-clause-size : goal.returns-in-Made-clause-size
 returns-in-Made-clause-size g c =
-    ap (λ (r : Region). r.size) (c.in-Made.ensures.made refl) ∙ size_plan RECOVERY (g.D.Device.cells c.recover_reserving.new.device) (migration_plan c.args.kinds.now) ∙ c.in-Ok.ensures.header.size
+    ap (λ (r : Region). r.size) (c.in-Made.ensures.made refl) ∙ size_plan RECOVERY_LANE (g.D.Device.cells c.recover_reserving.new.device) (migration_plan c.args.kinds.now) ∙ c.in-Ok.ensures.header.size

@@ -3,7 +3,7 @@ use Rattle.std.proofs.Common.{sym, ap, subst, ◌∙◌, take, arith}
 use Rattle.persist_model.specs.Region.{Region}
 use Rattle.lane_traits.specs.Device.{IsWithin}
 use Rattle.log_laws.specs.Parts.{after_plan, EachKeeps}
-use Rattle.log_laws.specs.Recovering.{RECOVERY}
+use Rattle.log_laws.specs.Recovering.{RECOVERY_LANE}
 use Rattle.atomic_list.specs.declared.repairing.Repair.{Repair}
 use Rattle.atomic_list.specs.Repairing.{CanRepair}
 use Rattle.region_layout.specs.Layout.{layout_shape}
@@ -51,21 +51,21 @@ pub returns-in_default-clause-made : goal.returns-in_default-clause-made
 returns-in_default-clause-made g c = λ made first y h.
     let cells = g.D.Device.cells c.args.device.now in
     subst (λ (r : Region). HasSettled (layout_shape c.args.layout) first y r)
-    (sym (c.run.ensures.made made ∙ ap (λ (r : Repair). after_plan RECOVERY cells (region_repair c.args.p r)) c.asked-repair.ensures))
+    (sym (c.run.ensures.made made ∙ ap (λ (r : Repair). after_plan RECOVERY_LANE cells (region_repair c.args.p r)) c.asked-repair.ensures))
     (repair_done (layout_shape c.args.layout) (allowed_at c.args.layout cells c.requires.settled) c.args.p c.requires.partition first y cells h)
 
 pub returns-in_default-clause-quiet : goal.returns-in_default-clause-quiet
 returns-in_default-clause-quiet g c = λ made.
     let cells = g.D.Device.cells c.args.device.now in
     subst (λ (r : Region). IsQuiet c.args.p (newest_at r))
-    (sym (c.run.ensures.made made ∙ ap (λ (r : Repair). after_plan RECOVERY cells (region_repair c.args.p r)) c.asked-repair.ensures))
+    (sym (c.run.ensures.made made ∙ ap (λ (r : Repair). after_plan RECOVERY_LANE cells (region_repair c.args.p r)) c.asked-repair.ensures))
     (repair_quiet (layout_shape c.args.layout) (allowed_at c.args.layout cells c.requires.settled) c.args.p c.requires.partition c.requires.settled.first c.requires.settled.state cells c.requires.settled.settled)
 
 pub returns-in_default-clause-lists : goal.returns-in_default-clause-lists
 returns-in_default-clause-lists g c = λ made.
     let cells = g.D.Device.cells c.args.device.now in
     subst (λ (r : Region). KeepsLists (layout_shape c.args.layout) cells r)
-    (sym (c.run.ensures.made made ∙ ap (λ (r : Repair). after_plan RECOVERY cells (region_repair c.args.p r)) c.asked-repair.ensures))
+    (sym (c.run.ensures.made made ∙ ap (λ (r : Repair). after_plan RECOVERY_LANE cells (region_repair c.args.p r)) c.asked-repair.ensures))
     (repair_lists (layout_shape c.args.layout) (allowed_at c.args.layout cells c.requires.settled) c.args.p c.requires.partition c.requires.settled.first c.requires.settled.state cells c.requires.settled.settled)
 
 pub returns-in_default-clause-stopped : goal.returns-in_default-clause-stopped
@@ -73,7 +73,7 @@ returns-in_default-clause-stopped g c = λ stopped first y sound h.
     let cells = g.D.Device.cells c.args.device.now in
     let at = c.run.ensures.stopped stopped in
     subst (λ (r : Region). EachKeeps (layout_shape c.args.layout) first r)
-    (sym (at.1 ∙ ap (λ (r : Repair). after_plan RECOVERY cells (take at.0 (region_repair c.args.p r))) c.asked-repair.ensures))
+    (sym (at.1 ∙ ap (λ (r : Repair). after_plan RECOVERY_LANE cells (take at.0 (region_repair c.args.p r))) c.asked-repair.ensures))
     (repair_keeps (layout_shape c.args.layout) (allowed_at c.args.layout cells c.requires.settled) c.args.p c.requires.partition first y cells h sound at.0)
 
 pub returns-in_default-clause-counted : goal.returns-in_default-clause-counted

@@ -1,7 +1,7 @@
 use Rattle.std.proofs.Common.{◌+◌, ap, sym, ◌∙◌, refl, subst, arith, take}
 use Rattle.std.proofs.lemmas.Option.{get_or_from_slice_get, slice_get_within}
 use Rattle.persist_model.specs.Region.{Region, after}
-use Rattle.log_laws.specs.Recovering.{RECOVERY}
+use Rattle.log_laws.specs.Recovering.{RECOVERY_LANE}
 use Rattle.lane_traits.specs.Device.{Counts, counted, IsWithin}
 use Rattle.log_laws.specs.Parts.{after_plan}
 use Rattle.recovery_run.specs.Edges.{HasOnlyValue}
@@ -58,10 +58,10 @@ loop-event-preserved g c =
     let spare = so_far.spare in
     let lt = slice_get_within plan i e found in
     record {
-      cells = made ∙ ap (λ (r : Region). after r RECOVERY e) so_far.cells ∙ sym (plan_more RECOVERY (g.D.Device.cells c.args.device.now) plan i e found);
+      cells = made ∙ ap (λ (r : Region). after r RECOVERY_LANE e) so_far.cells ∙ sym (plan_more RECOVERY_LANE (g.D.Device.cells c.args.device.now) plan i e found);
       counts = counts ∙ ap (λ n. record old { events = n }) (omega arith);
       spare = omega (arith, left, used, spare);
-      size = ap (λ (r : Region). r.size) made ∙ same_size (g.D.Device.cells c.loop-event.device) RECOVERY e ∙ so_far.size;
+      size = ap (λ (r : Region). r.size) made ∙ same_size (g.D.Device.cells c.loop-event.device) RECOVERY_LANE e ∙ so_far.size;
       within = omega (arith, lt);
     }
 
@@ -90,13 +90,13 @@ pub returns-in-Stopped-clause-aside : goal.returns-in-Stopped-clause-aside
 returns-in-Stopped-clause-aside g c = λ a v off one.
     let plan = g.P.Plan.events c.args.plan.now in
     subst (λ (r : Region). HasOnlyValue v (r.at a)) (sym (c.in-Stopped.ensures.stopped_cells refl ∙ c.loop-event.invariant.cells))
-    (plan_keeps RECOVERY (g.D.Device.cells c.args.device.now) (take c.loop-event.i plan) a v (elsewhere_take a c.loop-event.i plan off) one)
+    (plan_keeps RECOVERY_LANE (g.D.Device.cells c.args.device.now) (take c.loop-event.i plan) a v (elsewhere_take a c.loop-event.i plan off) one)
 
 pub returns-clause-made : goal.returns-clause-made
 returns-clause-made g c = λ made.
     let plan = g.P.Plan.events c.args.plan.now in
     let end = past_end plan c.loop-event.i (sym c.event.ensures ∙ c.in_default.is) in
-    c.loop-event.invariant.cells ∙ ap (after_plan RECOVERY (g.D.Device.cells c.args.device.now)) (take_whole plan c.loop-event.i end)
+    c.loop-event.invariant.cells ∙ ap (after_plan RECOVERY_LANE (g.D.Device.cells c.args.device.now)) (take_whole plan c.loop-event.i end)
 
 pub returns-clause-events_made : goal.returns-clause-events_made
 returns-clause-events_made g c = λ made.
@@ -112,4 +112,4 @@ pub returns-clause-aside : goal.returns-clause-aside
 returns-clause-aside g c = λ a v off one.
     let plan = g.P.Plan.events c.args.plan.now in
     subst (λ (r : Region). HasOnlyValue v (r.at a)) (sym c.loop-event.invariant.cells)
-    (plan_keeps RECOVERY (g.D.Device.cells c.args.device.now) (take c.loop-event.i plan) a v (elsewhere_take a c.loop-event.i plan off) one)
+    (plan_keeps RECOVERY_LANE (g.D.Device.cells c.args.device.now) (take c.loop-event.i plan) a v (elsewhere_take a c.loop-event.i plan off) one)

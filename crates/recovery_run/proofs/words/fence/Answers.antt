@@ -2,7 +2,7 @@ use Rattle.std.proofs.Common.{◌≡◌, [], ◌∷◌, refl, sym, subst}
 use Rattle.persist_model.specs.declared.event.Event.TheVariants.{Fence}
 use Rattle.lane_traits.specs.declared.device.Done.{Done}
 use Rattle.lane_traits.specs.declared.device.Done.TheVariants.{Made, Stopped}
-use Rattle.log_laws.specs.Recovering.{RECOVERY}
+use Rattle.log_laws.specs.Recovering.{RECOVERY_LANE}
 use Rattle.recovery_run.specs.Edges.{HasOnlyValue, KeepsWords}
 use Rattle.recovery_run.proofs.Aside.{plan_keeps}
 use Rattle.persist_model.specs.Region.{Region}
@@ -26,5 +26,5 @@ returns-clause-aside g c = by_done c.event.result refl
   where
     by_done : (d : Done) → c.event.result ≡ d → KeepsWords (λ b. Unit {0}) (g.D.Device.cells c.args.device.now) (g.D.Device.cells c.event.new.self)
     by_done Made is = λ a v off one. subst (λ (r : Region). HasOnlyValue v (r.at a)) (sym (c.event.ensures.made_cells is))
-        (plan_keeps RECOVERY (g.D.Device.cells c.args.device.now) (Fence ∷ []) a v (tt, tt) one)
+        (plan_keeps RECOVERY_LANE (g.D.Device.cells c.args.device.now) (Fence ∷ []) a v (tt, tt) one)
     by_done Stopped is = λ a v off one. subst (λ (r : Region). HasOnlyValue v (r.at a)) (sym (c.event.ensures.stopped_cells is)) one
