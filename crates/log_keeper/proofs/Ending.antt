@@ -32,6 +32,7 @@ use Rattle.log_clearing.proofs.RemovalStates.{removals_are_states}
 use Rattle.plan_records.specs.Appends.{with_record}
 use Rattle.plan_records.specs.Passing.{inserted}
 use Rattle.plan_records.proofs.Passing.{inserted_gains, inserted_in}
+use Rattle.log_keeper.specs.declared.slots.TheConstants.{NOBODY}
 use Rattle.log_keeper.specs.Parts.{LogPart, rests, appends, closes, takes_back, drops, Running, plan_of, waits_for, words_behind, CanRun}
 use Rattle.log_keeper.specs.Ledger.{Noted, settled_log}
 use Rattle.log_keeper.specs.Logged.{Keeping, with_chain, resting, ended, waiting, plan_in, IsLoggedAt}
@@ -100,7 +101,7 @@ module _ (shape : Shape) (base : Words) (s : State) (chains : ℕ → List ℕ) 
         (own_words_take.views shape q base later h.allowed lt (beside q lt ne)) (h.rest q lt)) lt;
     header = λ a off v c. h.header a off v c ∙ sym (outside a (λ m. off.1 p inside m));
     parts = λ q lt. by_part (λ n t. n < shape.partitions → Tracks (IsPartWord shape n) (waits_for (run n t).part (k.holder n)) (progress_at later (plan_of shape n (run n t).part) (run n t).made) region) p q
-        (λ lt. Tracks-settled (IsPartWord shape p) 17 later region settled)
+        (λ lt. Tracks-settled (IsPartWord shape p) NOBODY later region settled)
         (λ ne lt. tracks_alike (IsPartWord shape q) (waiting k q) base later (plan_in shape k q) (k.runs q).made region (beside q lt ne) (h.parts q lt)) lt;
     can = λ q lt. by_part (λ n t. n < shape.partitions → CanRun shape n later x (chain_of n t) (run n t).part) p q (λ lt. tt)
         (λ ne lt. can_beside shape q base later s x (chains q) (k.runs q).part h.allowed lt (beside q lt ne) (there q lt ne) (h.can q lt)) lt;

@@ -14,6 +14,7 @@ use Rattle.bucket_log.specs.Words.{IsPartWord}
 use Rattle.bucket_log.specs.PartWords.{IsOnPart}
 use Rattle.bucket_log.proofs.Partitions.{part_words_apart, part_word_below}
 use Rattle.bucket_log.proofs.PartWords.{own_words_take}
+use Rattle.log_keeper.specs.declared.slots.TheConstants.{NOBODY}
 use Rattle.log_keeper.specs.Parts.{LogPart, rests, Running, plan_of, waits_for, CanRun}
 use Rattle.log_keeper.specs.Logged.{Keeping, one_more, begun, IsNone's, waiting, plan_in}
 use Rattle.log_keeper.specs.Laws.{EventsPass, HeapEventsPass, FencesPass, PartsGoOn, PartsBegin, RegionsStart, TrackedImagesReach, ImagesAreReached, RestingPartsAreSettled}
@@ -52,8 +53,8 @@ fences_pass shape k by lt others = record {
 -- the words of a partition where nothing is under way are settled
 rests_settled : (shape : Shape) (p : ℕ) (base : Words) (k : Keeping) (region : Region) → (k.runs p).part ≡ rests →
     Tracks (IsPartWord shape p) (waiting k p) (progress_at base (plan_in shape k p) (k.runs p).made) region → AreSettledAt (IsPartWord shape p) base region
-rests_settled shape p base k region free tracks = settled_of (IsPartWord shape p) 17 (start base) region refl
-    (subst (λ es. Tracks (IsPartWord shape p) 17 (advance_all (start base) es) region) (take_nil {X = Event} (k.runs p).made)
+rests_settled shape p base k region free tracks = settled_of (IsPartWord shape p) NOBODY (start base) region refl
+    (subst (λ es. Tracks (IsPartWord shape p) NOBODY (advance_all (start base) es) region) (take_nil {X = Event} (k.runs p).made)
     (subst (λ (part : LogPart). Tracks (IsPartWord shape p) (waits_for part (k.holder p)) (progress_at base (plan_of shape p part) (k.runs p).made) region) free tracks))
 
 -- an event of one partition is aside of another
@@ -64,7 +65,7 @@ aside_of shape p q lane by (PStore a v) ok lt lt' ne other on = λ m. part_words
 aside_of shape p q lane by (WriteBack a) ok lt lt' ne other on = λ m. part_words_apart shape p q a ok lt lt' ne m on
 aside_of shape p q lane by Fence ok lt lt' ne other on = λ e. other (sym e)
 
-aside_header : (shape : Shape) (p by : ℕ) (e : Event) → p < shape.partitions → by < 17 → IsOnPart shape p e → IsAside (IsNone's shape) 17 by e
+aside_header : (shape : Shape) (p by : ℕ) (e : Event) → p < shape.partitions → by < NOBODY → IsOnPart shape p e → IsAside (IsNone's shape) NOBODY by e
 aside_header shape p by (Store a v) lt few on = λ none. none.1 p lt on
 aside_header shape p by (PStore a v) lt few on = λ none. none.1 p lt on
 aside_header shape p by (WriteBack a) lt few on = λ none. none.1 p lt on
@@ -132,8 +133,8 @@ regions_start shape base s chains k region size ok has records rest settled rest
   rest = rest;
   header = λ a none. settled a (let low = none.0 in omega (arith, low));
   parts = λ p lt. subst (λ (part : LogPart). Tracks (IsPartWord shape p) (waits_for part (k.holder p)) (progress_at base (plan_of shape p part) (k.runs p).made) region) (sym (resting p lt))
-      (subst (λ es. Tracks (IsPartWord shape p) 17 (advance_all (start base) es) region) (sym (take_nil {X = Event} (k.runs p).made))
-      (Tracks-settled (IsPartWord shape p) 17 base region (λ a m. settled a (part_word_below shape p a ok lt m))));
+      (subst (λ es. Tracks (IsPartWord shape p) NOBODY (advance_all (start base) es) region) (sym (take_nil {X = Event} (k.runs p).made))
+      (Tracks-settled (IsPartWord shape p) NOBODY base region (λ a m. settled a (part_word_below shape p a ok lt m))));
   can = λ p lt. subst (CanRun shape p base s (chains p)) (sym (resting p lt)) tt;
 }
 

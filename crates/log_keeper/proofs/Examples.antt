@@ -9,6 +9,7 @@ use Rattle.bucket_log.specs.declared.append.Place.{Place}
 use Rattle.bucket_log.specs.declared.scanning.Placed.{Placed}
 use Rattle.log_clearing.specs.Closed.{IsListed}
 use Rattle.plan_records.specs.Passing.{inserted}
+use Rattle.log_keeper.specs.declared.slots.TheConstants.{NOBODY}
 use Rattle.log_keeper.specs.Parts.{LogPart, rests, appends, closes, takes_back, drops, plan_of, waits_for}
 use Rattle.log_keeper.specs.Ledger.{Drawn, Stored, Settled, Noted, AreNewestFirst, settled_log, newest_log, with_stage, left_open, without}
 use Rattle.log_keeper.specs.Logged.{Keeping, resting, plan_in, waiting}
@@ -93,10 +94,10 @@ old_first : AreNewestFirst old
 old_first = (end_below, (update_below, ((λ y m. absurd m), tt)))
 
 -- numbers below the next one, 4 or more, and not where that is 3
-ordered : IsOrdered (record { ledger = old; runs = λ p. resting; holder = λ p. 17 }) 4
+ordered : IsOrdered (record { ledger = old; runs = λ p. resting; holder = λ p. NOBODY }) 4
 ordered = record { newest_first = old_first; below = old_below 4 (omega arith) }
 
-unordered : IsOrdered (record { ledger = old; runs = λ p. resting; holder = λ p. 17 }) 3 → ⊥
+unordered : IsOrdered (record { ledger = old; runs = λ p. resting; holder = λ p. NOBODY }) 3 → ⊥
 unordered k = (let lt = k.below (noted deletion) (inl refl) in absurd (omega (arith, lt)))
 
 -- ---- an append
@@ -106,7 +107,7 @@ place = record { bucket = 96; cell = 0; fresh = false; tail = 96 }
 
 -- lane 5 holds the second latch
 abbrev idle : Keeping
-idle = record { ledger = old; runs = λ p. resting; holder = λ p. if p == 1 then 5 else 17 }
+idle = record { ledger = old; runs = λ p. resting; holder = λ p. if p == 1 then 5 else NOBODY }
 
 abbrev behind : ℕ → Keeping
 behind zero = appending 1 place later idle
@@ -128,14 +129,14 @@ stages : (stage_behind (plan_in shape (behind 0) 1) 8 ≡ Drawn) × (stage_behin
 stages = (refl, refl)
 
 -- the partition waits for its holder's fences, and another for nobody's
-waited : (waiting (behind 3) 1 ≡ 5) × (waiting (behind 3) 0 ≡ 17) × (waiting (behind 10) 1 ≡ 17)
+waited : (waiting (behind 3) 1 ≡ 5) × (waiting (behind 3) 0 ≡ NOBODY) × (waiting (behind 10) 1 ≡ NOBODY)
 waited = (refl, refl, refl)
 
 -- ---- the other parts
 
 -- a lane begins this part in the first partition, whose latch lane 3 holds
 abbrev begun_first : LogPart → Keeping
-begun_first part = begun_in 0 part old (record { ledger = old; runs = λ p. resting; holder = λ p. if p == 0 then 3 else 17 })
+begun_first part = begun_in 0 part old (record { ledger = old; runs = λ p. resting; holder = λ p. if p == 0 then 3 else NOBODY })
 
 abbrev closing : Keeping
 closing = begun_first (closes (40 ∷ []) [] [])
@@ -171,7 +172,7 @@ removed = record { node = 96; prev = 0; next = 112 }
 dropped : plan_of shape 1 (drops removed) ≡ PStore 25 96 ∷ Fence ∷ PStore 21 112 ∷ PStore 113 0 ∷ Fence ∷ PStore 25 0 ∷ Fence ∷ []
 dropped = refl
 
-nothing : (plan_of shape 0 rests ≡ []) × (waits_for rests 3 ≡ 17) × (waits_for (drops removed) 3 ≡ 3)
+nothing : (plan_of shape 0 rests ≡ []) × (waits_for rests 3 ≡ NOBODY) × (waits_for (drops removed) 3 ≡ 3)
 nothing = (refl, refl, refl)
 
 -- ---- latches
@@ -179,7 +180,7 @@ nothing = (refl, refl, refl)
 latches : ((latched_if true 0 3 idle).holder 0 ≡ 3) × ((latched_if false 1 3 idle).holder 1 ≡ 5)
 latches = (refl, refl)
 
-all_latches : ((all_latched_if true 3 2 idle).holder 0 ≡ 3) × ((all_latched_if true 3 2 idle).holder 1 ≡ 3) × ((all_latched_if true 3 2 idle).holder 2 ≡ 17)
+all_latches : ((all_latched_if true 3 2 idle).holder 0 ≡ 3) × ((all_latched_if true 3 2 idle).holder 1 ≡ 3) × ((all_latched_if true 3 2 idle).holder 2 ≡ NOBODY)
     × ((all_latched_if false 3 2 idle).holder 1 ≡ 5)
 all_latches = (refl, refl, refl, refl)
 

@@ -1,6 +1,7 @@
 -- What memory slots have, and slots that are free.
 use Rattle.std.proofs.Common.{◌≡◌, ℕ, zero, suc, ◌<◌, List, [], ◌∷◌, ◌++◌, length, get_or, set, map, refl, sym, ap, subst, arith}
 use Rattle.std.proofs.lemmas.List.{length-set, length-map}
+use Rattle.log_keeper.specs.declared.slots.TheConstants.{NOBODY}
 use Rattle.log_keeper.specs.declared.slots.Slot.{Slot}
 use Rattle.log_keeper.specs.Slots.{run_of_slot, HasRoomOf}
 use Rattle.log_keeper.specs.Logged.{resting}
@@ -50,7 +51,7 @@ free_runs [] q each = refl
 free_runs (x ∷ xs) zero each = each.0.0
 free_runs (x ∷ xs) (suc q) each = free_runs xs q each.1
 
-pub free_holders : (xs : List Slot) (q : ℕ) → AreFree xs → at_slot holder_of 17 xs q ≡ 17
+pub free_holders : (xs : List Slot) (q : ℕ) → AreFree xs → at_slot holder_of NOBODY xs q ≡ NOBODY
 free_holders [] q each = refl
 free_holders (x ∷ xs) zero each = each.0.1
 free_holders (x ∷ xs) (suc q) each = free_holders xs q each.1

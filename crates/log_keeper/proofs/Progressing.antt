@@ -24,6 +24,7 @@ use Rattle.bucket_log.proofs.PartWords.{part_stores, appends_are_on_part}
 use Rattle.log_clearing.specs.Plans.{closes as closes_gates, group}
 use Rattle.log_clearing.specs.Closed.{AreGroups}
 use Rattle.log_clearing.proofs.PartPlans.{removals_are_on_part, closings_are_on_part}
+use Rattle.log_keeper.specs.declared.slots.TheConstants.{NOBODY}
 use Rattle.log_keeper.specs.Parts.{LogPart, rests, appends, closes, takes_back, drops, AreDeletions, plan_of, waits_for, words_behind, IsListedGate, CanRun}
 
 -- ---- tests of partitions
@@ -67,9 +68,9 @@ pub settled_of : (A : ℕ → Type 0) (lane : ℕ) (p : Progress) (region : Regi
 settled_of A lane p region none h = λ a m v k.
     elim ((subst (λ ws. IsWordOf (lane + 1) (p.durable a) ws a (region.at a)) none (h a m)).values v k) [ inl e ↦ e | inr w ↦ absurd w ]
 
-pub settled_aside : (A : ℕ → Type 0) (by : ℕ) (w : Words) (region : Region) (e : Event) → IsAside A 17 by e → AreSettledAt A w region → AreSettledAt A w (after region by e)
+pub settled_aside : (A : ℕ → Type 0) (by : ℕ) (w : Words) (region : Region) (e : Event) → IsAside A NOBODY by e → AreSettledAt A w region → AreSettledAt A w (after region by e)
 settled_aside A by w region e aside h =
-    settled_of A 17 (start w) (after region by e) refl (Tracks-aside A 17 by (start w) region e aside (Tracks-settled A 17 w region h))
+    settled_of A NOBODY (start w) (after region by e) refl (Tracks-aside A NOBODY by (start w) region e aside (Tracks-settled A NOBODY w region h))
 
 pub size_after : (region : Region) (by : ℕ) (e : Event) → (after region by e).size ≡ region.size
 size_after region by (Store a v) = refl

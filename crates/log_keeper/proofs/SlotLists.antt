@@ -9,6 +9,7 @@ use Rattle.persist_model.specs.Shape.{Shape}
 use Rattle.persist_model.specs.ImageRecords.{cell_address}
 use Rattle.region_layout.specs.declared.cell.Cell.{Cell}
 use Rattle.region_layout.specs.Cell.{record_of}
+use Rattle.log_keeper.specs.declared.slots.TheConstants.{NOBODY}
 use Rattle.log_keeper.specs.declared.ledger.Entry.{Entry}
 use Rattle.log_keeper.specs.declared.slots.Slot.{Slot}
 use Rattle.log_keeper.specs.Parts.{LogPart, Running, plan_of}
@@ -50,11 +51,11 @@ same_slot f d xs p x y lt is same q = by_part (λ n t. at_slot f d (set xs p y) 
 -- p's run and the ledger are others
 pub run_moves : (later : List Entry) (xs : List Slot) (p : ℕ) (x y : Slot) (run : Running) (ledger : List Noted) → p < length xs → x ≡ get_or xs p x →
     run_of_slot y ≡ run → y.holder ≡ x.holder → ledger_of later ≡ ledger →
-    plain_of later (set xs p y) ≡ record { ledger = ledger; runs = with_run p run (at_slot run_of_slot resting xs); holder = at_slot holder_of 17 xs }
+    plain_of later (set xs p y) ≡ record { ledger = ledger; runs = with_run p run (at_slot run_of_slot resting xs); holder = at_slot holder_of NOBODY xs }
 run_moves later xs p x y run ledger lt is e h l = λ i. record {
   ledger = l i;
   runs = λ q. (set_slot run_of_slot resting xs p y lt q ∙ ap (λ (r : Running). if q == p then r else at_slot run_of_slot resting xs q) e) i;
-  holder = λ q. same_slot holder_of 17 xs p x y lt is h q i;
+  holder = λ q. same_slot holder_of NOBODY xs p x y lt is h q i;
 }
 
 -- the holder of p begins a part
@@ -66,7 +67,7 @@ part_begins later xs p x y part ledger entries lt is e h l =
     ∙ (λ i. record {
       ledger = ledger;
       runs = with_run p (begun part) (at_slot run_of_slot resting xs);
-      holder = λ q. by_part (λ n t. at_slot holder_of 17 xs n ≡ (if t then at_slot holder_of 17 xs p else at_slot holder_of 17 xs n)) p q refl (λ ne. refl) i;
+      holder = λ q. by_part (λ n t. at_slot holder_of NOBODY xs n ≡ (if t then at_slot holder_of NOBODY xs p else at_slot holder_of NOBODY xs n)) p q refl (λ ne. refl) i;
     })
 
 -- p's latch is another's
@@ -75,7 +76,7 @@ pub latch_moves : (entries : List Entry) (xs : List Slot) (p : ℕ) (x y : Slot)
 latch_moves entries xs p x y lane lt is e h = λ i. record {
   ledger = ledger_of entries;
   runs = λ q. same_slot run_of_slot resting xs p x y lt is e q i;
-  holder = λ q. (set_slot holder_of 17 xs p y lt q ∙ ap (λ (n : ℕ). if q == p then n else at_slot holder_of 17 xs q) h) i;
+  holder = λ q. (set_slot holder_of NOBODY xs p y lt q ∙ ap (λ (n : ℕ). if q == p then n else at_slot holder_of NOBODY xs q) h) i;
 }
 
 -- an event of the plan is there, or there are no more
@@ -122,24 +123,24 @@ run_goes_on shape entries later xs p x y over store lt is over_of off store_of e
     ∙ ap (λ (r : Running). made_of_run shape p r (plain_of entries xs)) (sym (read_slot run_of_slot resting xs p x lt is))
 
 -- whose latch it is
-nobody_told : (n : ℕ) → n ≡ 17 → true ≡ (n == 17)
-nobody_told n e = elim (eqb_tells n 17) [ inl k ↦ sym k.0 | inr k ↦ absurd (k.1 e) ]
+nobody_told : (n : ℕ) → n ≡ NOBODY → true ≡ (n == NOBODY)
+nobody_told n e = elim (eqb_tells n NOBODY) [ inl k ↦ sym k.0 | inr k ↦ absurd (k.1 e) ]
 
-somebody_told : (n : ℕ) → n ≢ 17 → false ≡ (n == 17)
-somebody_told n ne = elim (eqb_tells n 17) [ inl k ↦ absurd (ne k.1) | inr k ↦ sym k.0 ]
+somebody_told : (n : ℕ) → n ≢ NOBODY → false ≡ (n == NOBODY)
+somebody_told n ne = elim (eqb_tells n NOBODY) [ inl k ↦ absurd (ne k.1) | inr k ↦ sym k.0 ]
 
-pub nobody_is : (xs : List Slot) (p : ℕ) (x : Slot) → p < length xs → x ≡ get_or xs p x → x.holder ≡ 17 → true ≡ (at_slot holder_of 17 xs p == 17)
-nobody_is xs p x lt is e = nobody_told _ (read_slot holder_of 17 xs p x lt is ∙ e)
+pub nobody_is : (xs : List Slot) (p : ℕ) (x : Slot) → p < length xs → x ≡ get_or xs p x → x.holder ≡ NOBODY → true ≡ (at_slot holder_of NOBODY xs p == NOBODY)
+nobody_is xs p x lt is e = nobody_told _ (read_slot holder_of NOBODY xs p x lt is ∙ e)
 
-pub somebody_is : (xs : List Slot) (p : ℕ) (x : Slot) → p < length xs → x ≡ get_or xs p x → x.holder ≢ 17 → false ≡ (at_slot holder_of 17 xs p == 17)
-somebody_is xs p x lt is ne = somebody_told _ (λ e. ne (sym (read_slot holder_of 17 xs p x lt is) ∙ e))
+pub somebody_is : (xs : List Slot) (p : ℕ) (x : Slot) → p < length xs → x ≡ get_or xs p x → x.holder ≢ NOBODY → false ≡ (at_slot holder_of NOBODY xs p == NOBODY)
+somebody_is xs p x lt is ne = somebody_told _ (λ e. ne (sym (read_slot holder_of NOBODY xs p x lt is) ∙ e))
 
 -- the record of an append is noted for the latch's holder
 pub drawn_is : (later : List Noted) (xs : List Slot) (p : ℕ) (x : Slot) (bucket place : ℕ) (cell : Cell) (ledger : List Noted) → p < length xs → x ≡ get_or xs p x →
     later ≡ record { lane = x.holder; entry = record_of (bucket + 8 + 8 * place) cell; stage = Drawn } ∷ ledger →
-    later ≡ record { lane = at_slot holder_of 17 xs p; entry = record_of (cell_address bucket place) cell; stage = Drawn } ∷ ledger
+    later ≡ record { lane = at_slot holder_of NOBODY xs p; entry = record_of (cell_address bucket place) cell; stage = Drawn } ∷ ledger
 drawn_is later xs p x bucket place cell ledger lt is e =
-    e ∙ ap (λ (n : ℕ). record { lane = n; entry = record_of (bucket + 8 + 8 * place) cell; stage = Drawn } ∷ ledger) (sym (read_slot holder_of 17 xs p x lt is))
+    e ∙ ap (λ (n : ℕ). record { lane = n; entry = record_of (bucket + 8 + 8 * place) cell; stage = Drawn } ∷ ledger) (sym (read_slot holder_of NOBODY xs p x lt is))
 
 pub add_one : (n : ℕ) → n + 1 ≡ suc n
 add_one n = omega arith
@@ -150,17 +151,17 @@ runs_held lane [] q = refl
 runs_held lane (x ∷ xs) zero = refl
 runs_held lane (x ∷ xs) (suc q) = runs_held lane xs q
 
-holders_in : (lane : ℕ) (xs : List Slot) (q : ℕ) → q < length xs → at_slot holder_of 17 (map (held_by lane) xs) q ≡ lane
+holders_in : (lane : ℕ) (xs : List Slot) (q : ℕ) → q < length xs → at_slot holder_of NOBODY (map (held_by lane) xs) q ≡ lane
 holders_in lane [] q lt = absurd (omega (arith, lt))
 holders_in lane (x ∷ xs) zero lt = refl
 holders_in lane (x ∷ xs) (suc q) lt = holders_in lane xs q (omega (arith, lt))
 
-holders_past : (lane : ℕ) (xs : List Slot) (q : ℕ) → length xs ≤ q → at_slot holder_of 17 (map (held_by lane) xs) q ≡ at_slot holder_of 17 xs q
+holders_past : (lane : ℕ) (xs : List Slot) (q : ℕ) → length xs ≤ q → at_slot holder_of NOBODY (map (held_by lane) xs) q ≡ at_slot holder_of NOBODY xs q
 holders_past lane [] q le = refl
 holders_past lane (x ∷ xs) zero le = absurd (omega (arith, le))
 holders_past lane (x ∷ xs) (suc q) le = holders_past lane xs q (omega (arith, le))
 
-holders_held : (lane : ℕ) (xs : List Slot) (q : ℕ) → at_slot holder_of 17 (map (held_by lane) xs) q ≡ (if nat_lt q (length xs) then lane else at_slot holder_of 17 xs q)
+holders_held : (lane : ℕ) (xs : List Slot) (q : ℕ) → at_slot holder_of NOBODY (map (held_by lane) xs) q ≡ (if nat_lt q (length xs) then lane else at_slot holder_of NOBODY xs q)
 holders_held lane xs q = elim (cases_lt q (length xs)) [
   | inl lt ↦ (let on : nat_lt q (length xs) ≡ true = grind (arith, nat_tests, lt) in rw on (holders_in lane xs q lt))
   | inr le ↦ (let off : nat_lt q (length xs) ≡ false = grind (arith, nat_tests, le) in rw off (holders_past lane xs q le))
@@ -179,5 +180,5 @@ pub slot_stays : (entries : List Entry) (xs : List Slot) (p : ℕ) (x y : Slot) 
 slot_stays entries xs p x y lt is e h = λ i. record {
   ledger = ledger_of entries;
   runs = λ q. same_slot run_of_slot resting xs p x y lt is e q i;
-  holder = λ q. same_slot holder_of 17 xs p x y lt is h q i;
+  holder = λ q. same_slot holder_of NOBODY xs p x y lt is h q i;
 }

@@ -11,6 +11,7 @@ use Rattle.bucket_log.specs.Appends.{chain_behind}
 use Rattle.log_clearing.specs.Removals.{with_room, more_room}
 use Rattle.persist_model.specs.Records.{Record}
 use Rattle.plan_records.specs.Appends.{with_record}
+use Rattle.log_keeper.specs.declared.slots.TheConstants.{NOBODY}
 use Rattle.log_keeper.specs.Parts.{LogPart, rests, appends, closes, takes_back, drops, words_behind}
 use Rattle.log_keeper.specs.Ledger.{AreNewestFirst, left_open}
 use Rattle.log_keeper.specs.Making.{made_part}
@@ -22,7 +23,7 @@ use Rattle.log_keeper.specs.Ordered.{FitsRuns}
 -- e is the next event of the partition's part, whose holder has no part under way elsewhere
 pub record IsNextEvent (shape : Shape) (k : Keeping) (p : ℕ) (e : Event) : Type 0 where
   pub inside : p < shape.partitions
-  pub held : k.holder p < 17
+  pub held : k.holder p < NOBODY
   pub alone : IsAlone shape k p
   pub next : slice_get (plan_in shape k p) (k.runs p).made ≡ Some e
 

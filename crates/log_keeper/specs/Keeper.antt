@@ -4,6 +4,7 @@ use Rattle.std.specs.Vec.{vec_len, vec_capacity}
 use Rattle.persist_model.specs.Records.{Record}
 use Rattle.region_layout.specs.declared.cell.Cell.{Cell}
 use Rattle.bucket_log.specs.declared.append.Place.{Place}
+use Rattle.log_keeper.specs.declared.slots.TheConstants.{NOBODY}
 use Rattle.log_keeper.specs.declared.ledger.Entry.{Entry}
 use Rattle.log_keeper.specs.declared.slots.Slot.{Slot}
 use Rattle.log_keeper.specs.declared.keeper.LogKeeper.{LogKeeper}
@@ -23,7 +24,7 @@ abbrev pub holder_of : Slot → ℕ
 holder_of slot = slot.holder
 
 abbrev pub plain_of : List Entry → List Slot → Keeping
-plain_of entries slots = record { ledger = ledger_of entries; runs = at_slot run_of_slot resting slots; holder = at_slot holder_of 17 slots }
+plain_of entries slots = record { ledger = ledger_of entries; runs = at_slot run_of_slot resting slots; holder = at_slot holder_of NOBODY slots }
 
 abbrev pub keeping_of : LogKeeper → Keeping
 keeping_of keeper = plain_of keeper.ledger.items keeper.slots.items
@@ -56,7 +57,7 @@ HasRoomIn slots p n = (x : Slot) → x ≡ get_or slots p x → HasRoomOf x n
 
 -- somebody holds the slot's latch
 abbrev pub is_held : Slot → Bool
-is_held slot = not (slot.holder == 17)
+is_held slot = not (slot.holder == NOBODY)
 
 abbrev pub held_by : ℕ → Slot → Slot
 held_by lane slot = record slot { holder = lane }

@@ -24,6 +24,7 @@ use Rattle.log_clearing.specs.Clearing.{AreDeferred}
 use Rattle.log_clearing.specs.Removals.{CanDrop, with_room, more_room}
 use Rattle.plan_records.specs.Appends.{with_record}
 use Rattle.plan_records.specs.Passing.{inserted}
+use Rattle.log_keeper.specs.declared.slots.TheConstants.{NOBODY}
 use Rattle.log_keeper.specs.Parts.{LogPart, rests, appends, closes, takes_back, drops, Running, words_behind, CanRun}
 use Rattle.log_keeper.specs.Ledger.{Stage, Drawn, Stored, Settled, Noted, AreNewestFirst, IsUnsettled, settled_log, with_stage, left_open, without}
 use Rattle.log_keeper.specs.Making.{settled_by, made_part}
@@ -48,12 +49,12 @@ abbrev pub HeapEventsPass : Type 0
 HeapEventsPass = (shape : Shape) (k : Keeping) (by : ℕ) (e : Event) → IsAllowed shape → IsBehindLog shape e → IsPassing shape k by e
 
 abbrev pub FencesPass : Type 0
-FencesPass = (shape : Shape) (k : Keeping) (by : ℕ) → by < 17 → ((p : ℕ) → p < shape.partitions → waiting k p ≢ by) → IsPassing shape k by Fence
+FencesPass = (shape : Shape) (k : Keeping) (by : ℕ) → by < NOBODY → ((p : ℕ) → p < shape.partitions → waiting k p ≢ by) → IsPassing shape k by Fence
 
 -- the next event of a part, by its holder
 abbrev pub PartsGoOn : Type 0
 PartsGoOn = (shape : Shape) (base : Words) (s : State) (chains : ℕ → List ℕ) (k : Keeping) (region : Region) (p : ℕ) (e : Event) →
-    p < shape.partitions → k.holder p < 17 → IsAlone shape k p → slice_get (plan_in shape k p) (k.runs p).made ≡ Some e →
+    p < shape.partitions → k.holder p < NOBODY → IsAlone shape k p → slice_get (plan_in shape k p) (k.runs p).made ≡ Some e →
     IsLoggedAt shape base s chains k region → IsLoggedAt shape base s chains (advanced p k) (after region (k.holder p) e)
 
 -- ---- parts

@@ -11,10 +11,11 @@ use Rattle.persist_model.specs.Sound.{HasState}
 use Rattle.atomic_list.specs.Rules.{IsAtRest}
 use Rattle.region_layout.specs.Layout.{IsAllowed}
 use Rattle.bucket_log.specs.Words.{IsPartWord}
+use Rattle.log_keeper.specs.declared.slots.TheConstants.{NOBODY}
 use Rattle.log_keeper.specs.Parts.{LogPart, rests, Running, plan_of, waits_for, CanRun}
 use Rattle.log_keeper.specs.Ledger.{Noted, settled_log}
 
--- The keeper's plain data: the records, newest first, and for each partition what is under way and the lane that holds its latch, 17 where it is free.
+-- The keeper's plain data: the records, newest first, and for each partition what is under way and the lane that holds its latch, NOBODY where it is free.
 pub record Keeping : Type 0 where
   pub ledger : List Noted
   pub runs : ℕ → Running
@@ -53,7 +54,7 @@ ended p ledger k = record { ledger = ledger; runs = with_run p resting k.runs; h
 abbrev pub beginning : ℕ → ℕ → LogPart → List Noted → Keeping → Keeping
 beginning p lane part ledger k = record { ledger = ledger; runs = with_run p (begun part) k.runs; holder = with_holder p lane k.holder }
 
--- another holder of the partition's latch, 17 where it is let go
+-- another holder of the partition's latch, NOBODY where it is let go
 abbrev pub latched : ℕ → ℕ → Keeping → Keeping
 latched p lane k = record { ledger = k.ledger; runs = k.runs; holder = with_holder p lane k.holder }
 
@@ -107,7 +108,7 @@ pub record IsLogged (shape : Shape) (k : Keeping) (region : Region) : Type 0 whe
 -- The event names no word of the log, and is no fence of a lane that a partition waits for.
 pub record IsPassing (shape : Shape) (k : Keeping) (by : ℕ) (e : Event) : Type 0 where
   pub parts : (p : ℕ) → p < shape.partitions → IsAside (IsPartWord shape p) (waiting k p) by e
-  pub header : IsAside (IsNone's shape) 17 by e
+  pub header : IsAside (IsNone's shape) NOBODY by e
 
 -- in no other partition is a part of this one's holder under way
 abbrev pub IsAlone : Shape → Keeping → ℕ → Type 0

@@ -13,6 +13,7 @@ use Rattle.bucket_log.specs.Appends.{CanAppend, region_append}
 use Rattle.log_clearing.specs.Plans.{closing_plan}
 use Rattle.log_clearing.specs.Closed.{AreGroups}
 use Rattle.log_clearing.specs.Removals.{CanDrop, region_removal}
+use Rattle.log_keeper.specs.declared.slots.TheConstants.{NOBODY}
 
 -- Nothing, the append of a record, a group of a closing (its gates, ends and checkpoint records, two of these lists empty), the closing of deletions
 -- that running transactions take back (their gates), or a removal.
@@ -38,7 +39,7 @@ pub record Running : Type 0 where
 
 -- The lane whose fences the partition's words wait for. Where nothing is under way it is none: there are at most 16 lanes.
 abbrev pub waits_for : LogPart → ℕ → ℕ
-waits_for rests lane = 17
+waits_for rests lane = NOBODY
 waits_for (appends place r) lane = lane
 waits_for (closes gates ends checkpoints) lane = lane
 waits_for (takes_back gates) lane = lane

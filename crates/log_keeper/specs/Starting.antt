@@ -11,6 +11,7 @@ use Rattle.atomic_list.specs.Rules.{IsAtRest}
 use Rattle.region_layout.specs.Layout.{IsAllowed}
 use Rattle.bucket_log.specs.declared.scanning.Placed.{Placed}
 use Rattle.bucket_log.specs.Scans.{record_of_placed}
+use Rattle.log_keeper.specs.declared.slots.TheConstants.{NOBODY}
 use Rattle.log_keeper.specs.declared.ledger.Progress.TheVariants.{Settled as IsSettled}
 use Rattle.log_keeper.specs.declared.ledger.Entry.{Entry}
 use Rattle.log_keeper.specs.declared.slots.Slot.{Slot}
@@ -21,18 +22,18 @@ use Rattle.log_keeper.specs.Ordered.{FitsRuns}
 
 -- a record that was found is settled, and no lane's
 abbrev pub found_entry : Placed → Entry
-found_entry placed = record { lane = 17; placed = placed; stage = IsSettled }
+found_entry placed = record { lane = NOBODY; placed = placed; stage = IsSettled }
 
 abbrev pub found : Placed → Noted
-found placed = record { lane = 17; entry = record_of_placed placed; stage = Settled }
+found placed = record { lane = NOBODY; entry = record_of_placed placed; stage = Settled }
 
 -- these records, oldest first, were found, nothing is under way, and no latch is held
 abbrev pub starting : List Placed → Keeping
-starting records = record { ledger = reverse (map found records); runs = λ p. resting; holder = λ p. 17 }
+starting records = record { ledger = reverse (map found records); runs = λ p. resting; holder = λ p. NOBODY }
 
 -- nothing is under way in the slot, and its latch is free
 abbrev pub IsFree : Slot → Type 0
-IsFree slot = (run_of_slot slot ≡ resting) × (slot.holder ≡ 17)
+IsFree slot = (run_of_slot slot ≡ resting) × (slot.holder ≡ NOBODY)
 
 abbrev pub AreFree : List Slot → Type 0
 AreFree [] = Unit {0}

@@ -16,14 +16,11 @@ ghost use Rattle.log_keeper.specs.Ordered.{IsOrdered};
 ghost use Rattle.log_keeper.specs.Listing.{gates_in};
 
 use crate::ledger::{Entry, Progress, close_listed, come_to, note};
-use crate::slots::{Part, Slot};
+use crate::slots::{NOBODY, Part, Slot};
 use atomic_list::Remove;
 use bucket_log::{Place, Placed};
 use persist_model::{Event, NoMemory};
 use region_layout::{Cell, Layout};
-
-/// The holder of a latch that is free.
-pub const NOBODY: u32 = 17;
 
 /// The log's keeper: the records of all lanes, what is under way in each partition and who holds its latch, and the next record's number.
 #[derive(Drop)]
@@ -231,7 +228,7 @@ impl LogKeeper {
     /// The lane takes the partition's latch, if it is free.
     pub fn take_latch(&mut self, p: u32, lane: u32) -> bool
         requires { p < length self.old.slots.items }
-        ensures result { result ≡ ((keeping_of self.old).holder p == 17) }
+        ensures result { result ≡ ((keeping_of self.old).holder p == NOBODY) }
         ensures kept { keeping_of self.new ≡ latched_if result p lane (keeping_of self.old) }
         ensures number { self.new.next_lsn ≡ self.old.next_lsn }
         ensures ledger { self.new.ledger ≡ self.old.ledger }
@@ -251,7 +248,7 @@ impl LogKeeper {
     pub fn release_latch(&mut self, p: u32)
         requires slot { p < length self.old.slots.items }
         requires rests { ((keeping_of self.old).runs p).part ≡ rests }
-        ensures kept { keeping_of self.new ≡ latched p 17 (keeping_of self.old) }
+        ensures kept { keeping_of self.new ≡ latched p NOBODY (keeping_of self.old) }
         ensures number { self.new.next_lsn ≡ self.old.next_lsn }
         ensures ledger { self.new.ledger ≡ self.old.ledger }
         ensures slots { KeepsSlots self.old.slots.items self.new.slots.items }

@@ -10,6 +10,6 @@ pub mod need_laws;
 mod slots;
 mod starting;
 
-pub use keeper::{LogKeeper, NOBODY};
+pub use keeper::LogKeeper;
 pub use ledger::{Entry, Progress, close_listed, come_to, note};
-pub use slots::{Part, Slot};
+pub use slots::{NOBODY, Part, Slot};

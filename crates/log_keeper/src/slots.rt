@@ -21,6 +21,9 @@ use persist_model::{Event, NoMemory};
 use region_layout::{Cell, Layout};
 use std::alloc::Global;
 
+/// The holder of a latch that is free: no lane has this number.
+pub const NOBODY: u32 = 17;
+
 /// What is under way in a partition. The gates that are closed or taken back are the slot's.
 #[derive(Clone, Copy, Debug, PartialEq, Eq)]
 pub enum Part {
@@ -31,7 +34,7 @@ pub enum Part {
     Drop(Remove),
 }
 
-/// What the keeper has of a partition: who holds its latch, 17 where it is free, its part, and how many of its events were made.
+/// What the keeper has of a partition: who holds its latch, `NOBODY` where it is free, its part, and how many of its events were made.
 #[derive(Drop)]
 pub struct Slot {
     pub holder: u32,
@@ -81,7 +84,7 @@ impl Slot {
         ensures free { IsFree result }
     {
         Slot {
-            holder: 17,
+            holder: NOBODY,
             part: Part::Rest,
             made: 0,
             gates: Vec::new(alloc),

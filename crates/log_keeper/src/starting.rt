@@ -4,9 +4,9 @@ ghost use Rattle.log_keeper.specs.Keeper.{keeping_of};
 ghost use Rattle.log_keeper.specs.Ordered.{IsOrdered};
 ghost use Rattle.log_keeper.specs.Starting.{starting, found_entry, AreFree, AreOldestFirst};
 
-use crate::keeper::{LogKeeper, NOBODY};
+use crate::keeper::LogKeeper;
 use crate::ledger::{Entry, Progress};
-use crate::slots::Slot;
+use crate::slots::{NOBODY, Slot};
 use bucket_log::Placed;
 use persist_model::NoMemory;
 use std::alloc::{AllocError, Global};
