@@ -2,6 +2,7 @@
 //! and the words of a structure.
 #![tactic(auto)]
 
+mod counters;
 mod device;
 mod draft;
 mod fail_list;
@@ -10,6 +11,7 @@ mod text_sink;
 mod text_source;
 mod words;
 
+pub use counters::Counters;
 pub use device::{Device, Done};
 pub use draft::{Draft, Drafted, WordWrite};
 pub use stream::{Failed, Sink, Source};

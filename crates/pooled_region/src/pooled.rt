@@ -1,7 +1,7 @@
 ghost use Rattle.std.specs.Prelude.{◌≡◌, ℕ, ◌+◌, ◌-◌, ◌^◌, ◌<◌, ◌≤◌, [], length, refl, vec_len, vec_capacity};
 ghost use Rattle.std.specs.Option.{option_copied};
 ghost use Rattle.persist_model.specs.Region.{loaded, newest_words};
-ghost use Rattle.lane_traits.specs.Device.{MAX_WORDS, fresh, common_pick};
+ghost use Rattle.lane_traits.specs.Device.{MAX_WORDS, fresh};
 ghost use Rattle.pooled_region.specs.Pool.{ArePooled, cells_of, later_count};
 ghost use Rattle.pooled_region.specs.Marks.{AreListed, AreFound};
 ghost use Rattle.std.proofs.Common.{arith};
@@ -11,7 +11,7 @@ use crate::pool::{Free, Place, Word};
 use crate::room::{free_all, make_room};
 use crate::settling::{settle, settled_words};
 use crate::walks::{newest_value, read_word};
-use lane_traits::{Device, Done};
+use lane_traits::{Counters, Device, Done};
 use persist_model::{Event, Look, NoMemory, Pick};
 use std::alloc::Global;
 
@@ -31,12 +31,7 @@ pub struct Cells {
     // The words that have a mark, and for each word its place there, if it has one.
     listed: Vec<usize>,
     positions: Vec<usize>,
-    events: u64,
-    budget: u64,
-    stopped: u64,
-    loaded_at: u64,
-    restarts: u64,
-    pick: Option<Pick>,
+    counters: Counters,
     ghost pooled: { ArePooled places.items words.items free },
     ghost none_lost: { later_count words.items + free.count ≡ vec_len places },
     ghost are_listed: { AreListed listed.items positions.items },
@@ -44,9 +39,9 @@ pub struct Cells {
     ghost long: { length positions.items ≡ length words.items },
     ghost list_room: { length positions.items ≤ vec_capacity listed },
     ghost small: { length words.items ≤ MAX_WORDS },
-    ghost events_within: { events ≤ budget },
-    ghost budget_fits: { budget < 2 ^ 64 },
-    ghost stopped_fits: { stopped < 2 ^ 64 },
+    ghost events_within: { counters.events ≤ counters.budget },
+    ghost budget_fits: { counters.budget < 2 ^ 64 },
+    ghost stopped_fits: { counters.stopped < 2 ^ 64 },
 }
 
 impl Cells {
@@ -64,12 +59,7 @@ impl Cells {
             free: Free { first: 0, count: 0 },
             listed: Vec::new(alloc),
             positions: Vec::new(alloc),
-            events: 0,
-            budget,
-            stopped: 0,
-            loaded_at: 0,
-            restarts: 0,
-            pick: None,
+            counters: Counters::new(budget),
         }
     }
 }
@@ -86,26 +76,10 @@ impl Look for Cells {
     }
 }
 
-/// The pick that all restarts had, with one more.
-fn pick_with(times: u64, before: Option<Pick>, pick: Pick) -> Option<Pick>
-    ensures { result ≡ common_pick times before pick }
-{
-    match before {
-        None => { if times == 0 { Some(pick) } else { None } }
-        Some(earlier) => { if earlier == pick { Some(earlier) } else { None } }
-    }
-}
-
 impl Device for Cells {
     ghost cells = { λ p. cells_of p.places.items p.words.items };
 
-    ghost counts = { λ p. record {
-      events = p.events;
-      budget = p.budget;
-      stopped = p.stopped;
-      restarts = record { loaded_at = p.loaded_at; times = p.restarts; pick = p.pick };
-      origin = [];
-    } };
+    ghost counts = { λ p. p.counters };
 
     ghost spare = { λ p. p.free.count };
 
@@ -117,9 +91,7 @@ impl Device for Cells {
         self.words = made;
         self.listed = listed;
         self.positions = positions;
-        self.loaded_at = self.events;
-        self.restarts = 0;
-        self.pick = None;
+        self.counters.loaded();
         Ok(())
     }
 
@@ -128,12 +100,12 @@ impl Device for Cells {
     }
 
     fn events(&self) -> u64 {
-        self.events
+        self.counters.events()
     }
 
     fn event(&mut self, lane: u32, event: Event) -> Done {
-        if self.events == self.budget {
-            self.stopped = self.stopped.saturating_add(1);
+        if self.counters.at_budget() {
+            self.counters.stopped();
             return Done::Stopped;
         }
         apply(
@@ -145,7 +117,7 @@ impl Device for Cells {
             lane,
             event,
         );
-        self.events += 1;
+        self.counters.made();
         Done::Made
     }
 
@@ -153,8 +125,7 @@ impl Device for Cells {
         settle(&self.places, &mut self.words, pick);
         self.free = free_all(&mut self.places);
         self.listed.clear();
-        self.pick = pick_with(self.restarts, self.pick, pick);
-        self.restarts = self.restarts.saturating_add(1);
+        self.counters.restarted(pick);
     }
 
     ghost reads = { λ p. refl };
