@@ -6,6 +6,7 @@ use Rattle.persist_model.specs.Shape.{Shape, heap, IsBucketOf}
 use Rattle.persist_model.specs.Chain.{word_behind, Each, AreBuckets, IsAbsent, HasNoRepeats, first_or, last_or, Links}
 use Rattle.atomic_list.specs.Rules.{IsAtRest, IsAppending, IsRemoving, IsList, at_rest, appending, removing}
 use Rattle.persist_model.specs.Records.{IsAmong}
+use Rattle.persist_model.proofs.Among.{among_append}
 use Rattle.atomic_list.specs.Reads.{IsLinkedOn, behind, next_in}
 use Rattle.atomic_list.proofs.Fits.{asked_fit}
 use Rattle.atomic_list.proofs.Parts.{bucket_fits}
@@ -18,11 +19,6 @@ pub Each-among : (P : ℕ → Type 0) (xs : List ℕ) (b : ℕ) → Each P xs �
 Each-among P [] b h m = elim m [ ]
 Each-among P (x ∷ xs) b h (inl e) = subst P (sym e) h.0
 Each-among P (x ∷ xs) b h (inr m) = Each-among P xs b h.1 m
-
-IsAmong-cases : (xs ys : List ℕ) (b : ℕ) → IsAmong (xs ++ ys) b → IsAmong xs b ⊎ IsAmong ys b
-IsAmong-cases [] ys b m = inr m
-IsAmong-cases (x ∷ xs) ys b (inl e) = inl (inl e)
-IsAmong-cases (x ∷ xs) ys b (inr m) = elim (IsAmong-cases xs ys b m) [ inl k ↦ inl (inr k) | inr k ↦ inr k ]
 
 -- Of a bucket among linked ones the next is what its NEXT names, and that of the last is the first of what follows.
 abbrev NextOf : Words → ℕ → List ℕ → List ℕ → ℕ → Type 0
@@ -124,7 +120,7 @@ finds-appending shape part w front node b h m = record {
         first : (xs : List ℕ) → Links w 8 xs links.0 → (last_or 0 xs ≡ 0 → ⊥) → next_in (xs ++ node ∷ []) b ≡ w (word_behind b)
         first [] l q = absurd (q refl)
         first (x ∷ xs) l q = rw e (sym l.0)
-    next ne off (inr k) = elim (IsAmong-cases front (node ∷ []) b k) [
+    next ne off (inr k) = elim (among_append front (node ∷ []) b k) [
       | inl i ↦ let nz = among_not_0 shape part front b h.buckets i in
           next_in-bucket (front ++ node ∷ []) b nz
           ∙ elim (next_of_linked w 8 front (node ∷ []) links.0 b links.1 h.no_repeats i)
@@ -200,7 +196,7 @@ finds-removing shape part w front node rest b h m = record {
         at [] l (inl q) = rw e (inr (q, refl))
         at [] l (inr q) = rw e (inl (sym q))
         at (x ∷ xs) l q = rw e (inl (sym l.0))
-    found (inr k) = elim (IsAmong-cases front rest b k) [
+    found (inr k) = elim (among_append front rest b k) [
       | inl i ↦ let nz = among_not_0 shape part front b fronts i in
           elim (next_of_linked w 8 front rest links.0 b links.1 (HasNoRepeats-left front rest h.no_repeats) i) [
             | inl r ↦ elim ends [

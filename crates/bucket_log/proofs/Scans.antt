@@ -15,6 +15,7 @@ use Rattle.persist_model.specs.Records.{Record, Log, IsAmong, IsNewer, IsNewestF
 use Rattle.persist_model.specs.Shape.{Shape, IsBucketOf}
 use Rattle.persist_model.specs.Chain.{HasNoRepeats, AreBuckets}
 use Rattle.persist_model.specs.ImageRecords.{cell_address, record_at, IsRecordOf}
+use Rattle.persist_model.proofs.Among.{among_left, among_right, among_append}
 use Rattle.region_layout.specs.declared.cell.Cell.{Cell}
 use Rattle.region_layout.specs.Cell.{cell_at}
 use Rattle.bucket_log.specs.declared.scanning.Placed.{Placed}
@@ -39,20 +40,6 @@ kept_more w b n items found later cell is so_far more =
 pub walked_more : (w : Words) (cells : ℕ) (front : List ℕ) (b : ℕ) (found later : List Placed) → found ≡ chain_cells w cells front → later ≡ found ++ open_cells w b cells →
     later ≡ chain_cells w cells (front ++ b ∷ [])
 walked_more w cells front b found later so_far more = more ∙ ap (λ xs. xs ++ open_cells w b cells) so_far ∙ sym (chain_cells-push w cells front b)
-
-pub among_left : {X : Type 0} (xs ys : List X) (x : X) → IsAmong xs x → IsAmong (xs ++ ys) x
-among_left [] ys x m = absurd m
-among_left (y ∷ xs) ys x (inl e) = inl e
-among_left (y ∷ xs) ys x (inr m) = inr (among_left xs ys x m)
-
-pub among_right : {X : Type 0} (xs ys : List X) (x : X) → IsAmong ys x → IsAmong (xs ++ ys) x
-among_right [] ys x m = m
-among_right (y ∷ xs) ys x m = inr (among_right xs ys x m)
-
-pub among_append : {X : Type 0} (xs ys : List X) (x : X) → IsAmong (xs ++ ys) x → IsAmong xs x ⊎ IsAmong ys x
-among_append [] ys x m = inr m
-among_append (y ∷ xs) ys x (inl e) = inl (inl e)
-among_append (y ∷ xs) ys x (inr m) = elim (among_append xs ys x m) [ inl k ↦ inl (inr k) | inr k ↦ inr k ]
 
 -- ---- what is found
 

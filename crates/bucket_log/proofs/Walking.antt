@@ -5,6 +5,7 @@ use Rattle.persist_model.specs.Region.{Words}
 use Rattle.persist_model.specs.Records.{IsAmong}
 use Rattle.persist_model.specs.Shape.{Shape, shape_of, heap, IsBucketOf, count_buckets}
 use Rattle.persist_model.specs.Chain.{TAIL, TO_APPEND, TO_REMOVE, AreBuckets, HasNoRepeats, first_or, last_or}
+use Rattle.persist_model.proofs.Among.{among_left}
 use Rattle.atomic_list.specs.Rules.{IsList, at_rest, appending, removing}
 use Rattle.atomic_list.specs.Reads.{SameLog, IsInChain, next_in}
 use Rattle.atomic_list.specs.Walk.{chain_of}
@@ -130,11 +131,6 @@ pub record IsWalked (P : List ℕ → Type 0) (chain : List ℕ) (last count : �
 
 pub walk_begins : (P : List ℕ → Type 0) (chain : List ℕ) → P [] → IsWalked P chain 0 0
 walk_begins P chain h = record { front = []; back = chain; chain_is = refl; last_is = refl; count_is = refl; holds = h }
-
-among_left : (xs ys : List ℕ) (b : ℕ) → IsAmong xs b → IsAmong (xs ++ ys) b
-among_left [] ys b m = elim m [ ]
-among_left (x ∷ xs) ys b (inl e) = inl e
-among_left (x ∷ xs) ys b (inr m) = inr (among_left xs ys b m)
 
 last_among : (x : ℕ) (xs : List ℕ) → IsAmong (x ∷ xs) (last_or x xs)
 last_among x [] = inl refl

@@ -22,7 +22,7 @@ use Rattle.bucket_log.proofs.AppendImages.{Each-among}
 use Rattle.bucket_log.proofs.ListFacts.{list_plan_stores}
 use Rattle.bucket_log.proofs.Partitions.{log_word_out, part_of_cell}
 use Rattle.bucket_log.proofs.PartWords.{on_part, own_words_take, gate_same, bucket_of}
-use Rattle.bucket_log.proofs.Scans.{among_right}
+use Rattle.persist_model.proofs.Among.{among_right}
 use Rattle.log_clearing.specs.Plans.{closes, group}
 use Rattle.log_clearing.specs.Removals.{region_removal}
 use Rattle.log_clearing.specs.PartPlans.{RemovalsAreOnPart, ClosingsAreOnPart, OwnWordsDrop}

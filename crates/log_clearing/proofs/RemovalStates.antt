@@ -35,7 +35,7 @@ use Rattle.bucket_log.proofs.Partitions.{few_parts, log_word_out, log_word_own, 
 use Rattle.bucket_log.proofs.PartStates.{part_kept, part_with_room}
 use Rattle.bucket_log.proofs.RecordSets.{same_cell}
 use Rattle.bucket_log.proofs.Rooms.{closed_same, room-last, room_same}
-use Rattle.bucket_log.proofs.Scans.{among_left, among_right, among_append}
+use Rattle.persist_model.proofs.Among.{among_left, among_right, among_append}
 use Rattle.log_clearing.specs.Removals.{region_removal, more_room, with_room, IsDrop, ReadRemovalsMayBeMade, RemovalsAreStates, RoomKeeps}
 
 -- ---- lists

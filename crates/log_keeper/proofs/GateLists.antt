@@ -3,7 +3,7 @@ use Rattle.std.proofs.Common.{◌≡◌, inl, inr, ℕ, suc, ◌+◌, ◌<◌, �
 use Rattle.std.proofs.Math.Seq.{drop-cons}
 use Rattle.std.proofs.lemmas.List.{append_assoc, append-nil, drop_all}
 use Rattle.persist_model.specs.Records.{IsAmong}
-use Rattle.bucket_log.proofs.Scans.{among_left, among_right, among_append}
+use Rattle.persist_model.proofs.Among.{among_left, among_right, among_append}
 use Rattle.log_keeper.specs.declared.ledger.Entry.{Entry}
 use Rattle.log_keeper.specs.Ledger.{Noted}
 use Rattle.log_keeper.specs.Noting.{noted_of, ledger_of}

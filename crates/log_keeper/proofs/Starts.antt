@@ -4,7 +4,7 @@ use Rattle.std.proofs.lemmas.List.{reverse-append}
 use Rattle.persist_model.specs.Records.{Record, Log, IsAmong}
 use Rattle.bucket_log.specs.declared.scanning.Placed.{Placed}
 use Rattle.bucket_log.specs.Scans.{record_of_placed}
-use Rattle.bucket_log.proofs.Scans.{among_append}
+use Rattle.persist_model.proofs.Among.{among_append}
 use Rattle.log_keeper.specs.declared.ledger.Entry.{Entry}
 use Rattle.log_keeper.specs.declared.slots.Slot.{Slot}
 use Rattle.log_keeper.specs.Parts.{rests, appends}

@@ -4,6 +4,7 @@ use Rattle.std.proofs.lemmas.Bool.Decides.{eqb_tells}
 use Rattle.persist_model.specs.Region.{Words}
 use Rattle.persist_model.specs.Records.{Record, Log, IsAmong, IsNewer, IsNewestFirst}
 use Rattle.persist_model.specs.Shape.{Shape}
+use Rattle.persist_model.proofs.Among.{among_left, among_right, among_append}
 use Rattle.persist_model.specs.ImageRecords.{cell_address, record_at, IsRecordOf, AreRecords}
 use Rattle.log_laws.proofs.Deciding.{IsDecided, decide_equal, decide_less, decide_either, decide_both}
 
@@ -145,20 +146,6 @@ abbrev pub all_cells : ℕ → (ℕ → List ℕ) → ℕ → List ℕ
 all_cells cells chains zero = []
 all_cells cells chains (suc p) = chain_cells cells (chains p) ++ all_cells cells chains p
 
-among_either : (xs ys : List ℕ) (a : ℕ) → IsAmong (xs ++ ys) a → IsAmong xs a ⊎ IsAmong ys a
-among_either [] ys a m = inr m
-among_either (x ∷ xs) ys a (inl e) = inl (inl e)
-among_either (x ∷ xs) ys a (inr m) = elim (among_either xs ys a m) [ inl k ↦ inl (inr k) | inr k ↦ inr k ]
-
-among_left : (xs ys : List ℕ) (a : ℕ) → IsAmong xs a → IsAmong (xs ++ ys) a
-among_left [] ys a m = absurd m
-among_left (x ∷ xs) ys a (inl e) = inl e
-among_left (x ∷ xs) ys a (inr m) = inr (among_left xs ys a m)
-
-among_right : (xs ys : List ℕ) (a : ℕ) → IsAmong ys a → IsAmong (xs ++ ys) a
-among_right [] ys a m = m
-among_right (x ∷ xs) ys a m = inr (among_right xs ys a m)
-
 cell_on : (b n at : ℕ) → IsAmong (cells_of b n) at → (c : ℕ) × (c < n) × (at ≡ cell_address b c)
 cell_on b zero at m = absurd m
 cell_on b (suc n) at (inl e) = (n, omega arith, e)
@@ -174,7 +161,7 @@ IsCellOf cells chain at = (b : ℕ) × IsAmong chain b × (c : ℕ) × (c < cell
 
 chain_on : (cells : ℕ) (chain : List ℕ) (at : ℕ) → IsAmong (chain_cells cells chain) at → IsCellOf cells chain at
 chain_on cells [] at m = absurd m
-chain_on cells (b ∷ chain) at m = elim (among_either (cells_of b cells) (chain_cells cells chain) at m) [
+chain_on cells (b ∷ chain) at m = elim (among_append (cells_of b cells) (chain_cells cells chain) at m) [
   | inl k ↦ (let h = cell_on b cells at k in (b, inl refl, h.0, h.1, h.2))
   | inr k ↦ (let h = chain_on cells chain at k in (h.0, inr h.1, h.2, h.3, h.4))
 ]
@@ -187,7 +174,7 @@ chain_back cells (x ∷ chain) b c (inr m) lt = among_right (cells_of x cells) (
 
 all_on : (cells : ℕ) (chains : ℕ → List ℕ) (n at : ℕ) → IsAmong (all_cells cells chains n) at → (p : ℕ) × (p < n) × IsCellOf cells (chains p) at
 all_on cells chains zero at m = absurd m
-all_on cells chains (suc n) at m = elim (among_either (chain_cells cells (chains n)) (all_cells cells chains n) at m) [
+all_on cells chains (suc n) at m = elim (among_append (chain_cells cells (chains n)) (all_cells cells chains n) at m) [
   | inl k ↦ (n, omega arith, chain_on cells (chains n) at k)
   | inr k ↦ (let h = all_on cells chains n at k in let lt = h.1 in (h.0, omega (arith, lt), h.2))
 ]

@@ -16,7 +16,7 @@ use Rattle.region_layout.specs.Layout.{layout_shape}
 use Rattle.region_layout.specs.Apart.{IsInPartition}
 use Rattle.bucket_log.proofs.AppendImages.{Each-among}
 use Rattle.bucket_log.proofs.Counting.{bucket_one}
-use Rattle.bucket_log.proofs.Scans.{among_left, among_right, among_append}
+use Rattle.persist_model.proofs.Among.{among_left, among_right, among_append}
 use Rattle.log_partition.specs.declared.used.UsedBuckets.{UsedBuckets}
 use Rattle.log_partition.specs.Marks.{HasMark, AddsMarks}
 use Rattle.log_partition.specs.Merging.{AreLogsOf}

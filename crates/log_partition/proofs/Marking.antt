@@ -18,7 +18,7 @@ use Rattle.bucket_log.specs.Reads.{IsLogOf}
 use Rattle.bucket_log.proofs.AppendImages.{Each-among}
 use Rattle.bucket_log.proofs.Counting.{bucket_one}
 use Rattle.bucket_log.proofs.Walking.{next_among, good_chain}
-use Rattle.bucket_log.proofs.Scans.{among_left, among_right, among_append}
+use Rattle.persist_model.proofs.Among.{among_left, among_right, among_append}
 use Rattle.log_partition.specs.Marks.{HasMark, HasPlace, AddsMarks}
 
 -- ---- numbers of buckets

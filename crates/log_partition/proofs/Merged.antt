@@ -27,7 +27,8 @@ use Rattle.bucket_log.specs.Scans.{record_of_placed, IsLogIn, IsSortedOf}
 use Rattle.bucket_log.proofs.AppendImages.{Each-among}
 use Rattle.bucket_log.proofs.Partitions.{few_parts, part_of_cell}
 use Rattle.bucket_log.proofs.ScanLogs.{views_have_logs}
-use Rattle.bucket_log.proofs.Scans.{among_left, among_right, among_append, counts, count_at, counts_small, count-append, count-cons, count_none, ascending, permuted, among_map, map_among, reverse-cons, reverse_among, among_reverse, newest}
+use Rattle.persist_model.proofs.Among.{among_left, among_right, among_append}
+use Rattle.bucket_log.proofs.Scans.{counts, count_at, counts_small, count-append, count-cons, count_none, ascending, permuted, among_map, map_among, reverse-cons, reverse_among, among_reverse, newest}
 use Rattle.log_partition.specs.Views.{viewed}
 use Rattle.log_partition.specs.Merging.{AreLogsOf}
 use Rattle.log_partition.proofs.Views.{length-viewed, viewed-is, view_shape, out_below}

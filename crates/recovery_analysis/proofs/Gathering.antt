@@ -12,7 +12,7 @@ use Rattle.log_clearing.specs.Closed.{IsListed}
 use Rattle.recovery_run.specs.Groups.{ListsAll}
 use Rattle.bucket_log.specs.declared.scanning.Placed.{Placed}
 use Rattle.bucket_log.specs.Scans.{record_of_placed}
-use Rattle.bucket_log.proofs.Scans.{among_append}
+use Rattle.persist_model.proofs.Among.{among_append}
 use Rattle.recovery_analysis.specs.declared.grouping.Transaction.{Transaction}
 use Rattle.recovery_analysis.specs.Grouping.{number_of, IsTransactionOf, AreTransactionsOf}
 use Rattle.recovery_analysis.specs.Works.{next_lsn}

@@ -4,7 +4,7 @@ use Rattle.std.specs.List.{filter}
 use Rattle.std.proofs.lemmas.List.{reverse-append}
 use Rattle.std.proofs.lemmas.List.Elements.{filter-append}
 use Rattle.persist_model.specs.Records.{IsAmong}
-use Rattle.bucket_log.proofs.Scans.{among_left, among_right, among_append}
+use Rattle.persist_model.proofs.Among.{among_left, among_right, among_append}
 use Rattle.recovery_analysis.specs.Grouping.{IsAscending}
 
 -- ---- members

@@ -5,7 +5,7 @@ use Rattle.std.proofs.Math.Seq.{take-suc}
 use Rattle.std.proofs.lemmas.List.{map-append}
 use Rattle.persist_model.specs.Records.{Log, IsAmong, Has, IsOf, IsEnded, IsRunning, IsCommitted, IsSkipped, IsLoser}
 use Rattle.log_laws.proofs.Deciding.{ended_or_running}
-use Rattle.bucket_log.proofs.Scans.{among_left, among_right, among_append}
+use Rattle.persist_model.proofs.Among.{among_left, among_right, among_append}
 use Rattle.recovery_analysis.specs.declared.grouping.Transaction.{Transaction}
 use Rattle.recovery_analysis.specs.Grouping.{IsAscending, number_of, IsTransactionOf, AreTransactionsOf}
 use Rattle.recovery_analysis.specs.Analyses.{AreThose, IsUnskipped}

@@ -17,7 +17,7 @@ use Rattle.log_laws.proofs.Growing.{Descends}
 use Rattle.log_laws.proofs.Applying.{set_word, redone_words, deleted_words, passed_words, pass_applies}
 use Rattle.bucket_log.specs.declared.scanning.Placed.{Placed}
 use Rattle.bucket_log.specs.Scans.{record_of_placed}
-use Rattle.bucket_log.proofs.Scans.{among_append}
+use Rattle.persist_model.proofs.Among.{among_append}
 use Rattle.recovery_run.specs.Reached.{with_value}
 use Rattle.recovery_analysis.specs.declared.changing.Change.{Change}
 use Rattle.recovery_analysis.specs.Grouping.{IsAscending}

@@ -14,7 +14,8 @@ use Rattle.persist_model.specs.Records.{Record, Log, IsAmong, Has, IsOf}
 use Rattle.persist_model.specs.Need.{is_of}
 use Rattle.bucket_log.specs.declared.scanning.Placed.{Placed}
 use Rattle.bucket_log.specs.Scans.{record_of_placed}
-use Rattle.bucket_log.proofs.Scans.{among_left, among_right, among_append, permuted}
+use Rattle.persist_model.proofs.Among.{among_left, among_right, among_append}
+use Rattle.bucket_log.proofs.Scans.{permuted}
 use Rattle.recovery_run.specs.Groups.{records_of}
 use Rattle.recovery_analysis.specs.declared.grouping.Transaction.{Transaction}
 use Rattle.recovery_analysis.specs.Grouping.{IsAscending, number_of, AreTransactionsOf, Rises, all_records, IsRun, AreRuns}

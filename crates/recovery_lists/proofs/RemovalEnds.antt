@@ -21,7 +21,7 @@ use Rattle.atomic_list.proofs.Walks.{chain_of_list}
 use Rattle.region_layout.specs.Layout.{IsAllowed}
 use Rattle.bucket_log.proofs.Addresses.{list_word_is_log_word}
 use Rattle.bucket_log.proofs.AppendImages.{Each-among}
-use Rattle.bucket_log.proofs.Scans.{among_right}
+use Rattle.persist_model.proofs.Among.{among_right}
 use Rattle.recovery_lists.proofs.Asking.{bucket_small}
 use Rattle.bucket_log.proofs.ListFacts.{list_plan_stores}
 use Rattle.log_clearing.specs.Removals.{CanDrop, region_removal}

@@ -14,7 +14,7 @@ use Rattle.region_layout.specs.declared.cell.Cell.{Cell}
 use Rattle.region_layout.specs.Cell.{record_of}
 use Rattle.region_layout.specs.Layout.{layout_shape}
 use Rattle.bucket_log.specs.States.{less_room}
-use Rattle.bucket_log.proofs.Scans.{among_append, among_right}
+use Rattle.persist_model.proofs.Among.{among_append, among_right}
 use Rattle.recovery_run.specs.Edges.{HasCounted, KeepsWords}
 use Rattle.recovery_run.specs.Groups.{records_of, ListsAll}
 use Rattle.recovery_run.specs.Reached.{HasSettled}

@@ -12,7 +12,7 @@ use Rattle.log_laws.proofs.Keeping.{good_of}
 use Rattle.log_laws.proofs.Needs.{kind_test}
 use Rattle.log_laws.proofs.Applying.{undone_words, undone_stored}
 use Rattle.bucket_log.specs.States.{less_room}
-use Rattle.bucket_log.proofs.Scans.{among_right, among_append}
+use Rattle.persist_model.proofs.Among.{among_right, among_append}
 use Rattle.recovery_run.specs.Groups.{records_of}
 use Rattle.recovery_undo.specs.Numbers.{next_lsn}
 use Rattle.recovery_run.specs.Reached.{with_value}

@@ -30,7 +30,7 @@ use Rattle.bucket_log.proofs.AppendImages.{Each-among}
 use Rattle.bucket_log.proofs.ListFacts.{list_plan_stores, chain_few}
 use Rattle.bucket_log.proofs.Partitions.{few_parts, log_word_out, log_word_own, part_word_below}
 use Rattle.bucket_log.proofs.Rooms.{closed_same, room-last}
-use Rattle.bucket_log.proofs.Scans.{among_right}
+use Rattle.persist_model.proofs.Among.{among_right}
 use Rattle.log_clearing.specs.Removals.{CanDrop, region_removal}
 use Rattle.log_keeper.specs.Rooms.{IsRoomAt}
 use Rattle.log_keeper.proofs.Rooms.{room_is_one, room_of_state}
