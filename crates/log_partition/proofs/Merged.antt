@@ -1,7 +1,7 @@
 -- The records of all partitions, gathered one by one and sorted, are the log.
-use Rattle.std.proofs.Common.{◌≡◌, ◌↔◌, inl, inr, ℕ, ◌+◌, ◌<◌, ◌≤◌, true, cond, List, [], ◌∷◌, ◌++◌, length, map, reverse, refl, ap, sym, ◌∙◌, arith, subst, nat_lt}
+use Rattle.std.proofs.Common.{◌≡◌, ◌↔◌, inl, inr, ℕ, ◌+◌, ◌<◌, ◌≤◌, cond, List, [], ◌∷◌, ◌++◌, length, map, reverse, refl, ap, sym, ◌∙◌, arith, subst}
 use Rattle.std.specs.Prelude.{slice_index}
-use Rattle.std.proofs.lemmas.Bool.Decides.{nat_tests, eqb_tells}
+use Rattle.std.proofs.lemmas.Bool.Decides.{eqb_tells}
 use Rattle.std.proofs.lemmas.List.{map-append}
 use Rattle.std.proofs.lemmas.List.Sorted.{IsPermutation-sym, sum_by-IsPermutation}
 use Rattle.persist_model.specs.Region.{Words}
@@ -24,6 +24,7 @@ use Rattle.region_layout.proofs.Headers.{shapes_are_read}
 use Rattle.bucket_log.specs.declared.scanning.Placed.{Placed}
 use Rattle.bucket_log.specs.Reads.{IsLogOf}
 use Rattle.bucket_log.specs.Scans.{record_of_placed, IsLogIn, IsSortedOf}
+use Rattle.bucket_log.proofs.Appended.{inside_log}
 use Rattle.bucket_log.proofs.AppendImages.{Each-among}
 use Rattle.bucket_log.proofs.Partitions.{few_parts, part_of_cell}
 use Rattle.bucket_log.proofs.ScanLogs.{views_have_logs}
@@ -61,9 +62,6 @@ log_of_view layout p xs row lt logs is =
       has_layout = logs.has_layout;
     }
 
-pub log_word_below : (shape : Shape) (v : Words) (a : ℕ) → a < heap shape → log_words shape v a ≡ v a
-log_word_below shape v a lt = let on : nat_lt a (heap shape) ≡ true = grind (arith, nat_tests, lt) in ap (λ t. cond t (v a) 0) on
-
 -- words with the same log show the same in the partition's view
 pub same_seen : (layout : Layout) (p : ℕ) (xs row : List ℕ) (v : Words) → p < layout.partitions → AreLogsOf layout (length xs) (slice_index xs) → row ≡ viewed p xs →
     SameLog (slice_index xs) v → SameLog (slice_index row) (view p (log_words (layout_shape layout) v))
@@ -77,7 +75,7 @@ same_seen layout p xs row v lt logs is same =
     out_word : (a : ℕ) → a < heap (shape_of (slice_index xs)) → log_words (layout_shape layout) v (out_address p a) ≡ slice_index xs (out_address p a)
     out_word a below =
         let inside = out_below p a (heap (shape_of (slice_index xs))) few (omega arith) below in
-        log_word_below (layout_shape layout) v (out_address p a) (subst (λ s. out_address p a < heap s) logs.has_layout inside) ∙ same (out_address p a) inside
+        inside_log (layout_shape layout) v (out_address p a) (subst (λ s. out_address p a < heap s) logs.has_layout inside) ∙ same (out_address p a) inside
 
     seen : SameLog (view p (slice_index xs)) (view p (log_words (layout_shape layout) v))
     seen a below = view-out p (log_words (layout_shape layout) v) a ∙ out_word a below ∙ sym (view-out p (slice_index xs) a)

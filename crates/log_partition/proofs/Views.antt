@@ -8,7 +8,7 @@ use Rattle.persist_model.specs.declared.event.Event.TheVariants.{Store, PStore, 
 use Rattle.persist_model.specs.declared.event.Candidate.{Candidate}
 use Rattle.persist_model.specs.Region.{Words, candidate, mark_last}
 use Rattle.persist_model.specs.Records.{IsAmong}
-use Rattle.persist_model.specs.Shape.{Shape, IsBucketOf, list_words, IsShape, IsKind}
+use Rattle.persist_model.specs.Shape.{Shape, IsBucketOf, list_words, IsShape, IsKind, heap, log_words}
 use Rattle.persist_model.specs.Chain.{view, out_address, last_or}
 use Rattle.persist_model.specs.ImageRecords.{cell_address}
 use Rattle.log_laws.proofs.Views.{list_words_cases, out_cases, view-out, view_behind, out_apart}
@@ -17,6 +17,7 @@ use Rattle.atomic_list.proofs.Agreeing.{lists_agree}
 use Rattle.atomic_list.proofs.Cases.{chain_is_buckets}
 use Rattle.bucket_log.specs.Words.{IsLogWord}
 use Rattle.bucket_log.proofs.Addresses.{list_word_is_log_word, cell_word_is_log_word}
+use Rattle.bucket_log.proofs.Appended.{inside_log}
 use Rattle.bucket_log.proofs.AppendImages.{Each-among, among_last}
 use Rattle.bucket_log.proofs.Partitions.{bucket_word_above}
 use Rattle.bucket_log.proofs.RecordSets.{same_cell}
@@ -56,6 +57,11 @@ out_below p a n lt enough below = elim (out_cases p a) [
   | inl h ↦ (let e = h.2 in let low = h.0 in let high = h.1 in let most = list_words_high p lt in omega (arith, e, low, high, most, enough))
   | inr h ↦ (let e = h.1 in omega (arith, e, below))
 ]
+
+-- the view of the log's words is that of the words
+pub view_below : (shape : Shape) (p : ℕ) (w : Words) (a : ℕ) → p < 3 → a < heap shape → view p w a ≡ view p (log_words shape w) a
+view_below shape p w a few lt =
+    view-out p w a ∙ sym (inside_log shape w (out_address p a) (out_below p a (heap shape) few (omega arith) lt)) ∙ sym (view-out p (log_words shape w) a)
 
 -- ---- rows of words
 

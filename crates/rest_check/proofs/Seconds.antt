@@ -3,8 +3,8 @@ use Rattle.std.proofs.Common.{◌≡◌, ◌≢◌, inl, inr, ℕ, ◌+◌, ◌*
 use Rattle.std.specs.Prelude.{slice_index}
 use Rattle.std.proofs.lemmas.Bool.Decides.{eqb_tells}
 use Rattle.persist_model.specs.Region.{Words}
-use Rattle.persist_model.specs.Shape.{Shape, shape_of, IsBucketOf, bucket_size, heap, log_words}
-use Rattle.persist_model.specs.Chain.{view, out_address, Each, first_or, ListRules}
+use Rattle.persist_model.specs.Shape.{Shape, shape_of, IsBucketOf, bucket_size, log_words}
+use Rattle.persist_model.specs.Chain.{view, Each, first_or, ListRules}
 use Rattle.persist_model.specs.Sound.{HasChain}
 use Rattle.log_laws.proofs.SameLists.{chain_buckets, rules_same}
 use Rattle.atomic_list.specs.Walk.{chain_of}
@@ -17,9 +17,8 @@ use Rattle.region_layout.specs.Layout.{layout_shape}
 use Rattle.bucket_log.proofs.Partitions.{few_parts}
 use Rattle.log_partition.specs.Merging.{AreLogsOf}
 use Rattle.log_partition.specs.Views.{viewed}
-use Rattle.log_laws.proofs.Views.{view-out}
-use Rattle.log_partition.proofs.Merged.{allowed_of, log_of_view, log_word_below}
-use Rattle.log_partition.proofs.Views.{viewed-is, out_below}
+use Rattle.log_partition.proofs.Merged.{allowed_of, log_of_view}
+use Rattle.log_partition.proofs.Views.{viewed-is, view_below}
 use Rattle.recovery_run.specs.Reached.{HasFewBuckets}
 use Rattle.rest_check.specs.Rest.{second_of, IsFirstSecond}
 
@@ -72,10 +71,6 @@ pub few_where_none : (shape : Shape) (w : Words) (p : ℕ) → ((chain : List �
 few_where_none shape w p none = λ chain h. none_are_few shape p chain (buckets_of shape w p chain h) (none chain h)
 
 -- ---- what is read of a partition's view
-
-view_below : (shape : Shape) (p : ℕ) (w : Words) (a : ℕ) → p < 3 → a < heap shape → view p w a ≡ view p (log_words shape w) a
-view_below shape p w a few lt =
-    view-out p w a ∙ sym (log_word_below shape w (out_address p a) (out_below p a (heap shape) few (omega arith) lt)) ∙ sym (view-out p (log_words shape w) a)
 
 module _ (layout : Layout) (p : ℕ) (xs row : List ℕ) (lt : p < layout.partitions) (logs : AreLogsOf layout (length xs) (slice_index xs)) (is : row ≡ viewed p xs) where
   pub list_of_row : HasList (length row) (slice_index row)

@@ -9,7 +9,7 @@ use Rattle.persist_model.specs.Visit.{chain_from}
 use Rattle.persist_model.specs.State.{State}
 use Rattle.persist_model.specs.Sound.{IsListOf, HaveChains, HasState, IsSound}
 use Rattle.persist_model.specs.Faults.{IsListFault, IsFirstFault, in_lists, in_log}
-use Rattle.log_laws.proofs.SameLists.{rules_same, view_same}
+use Rattle.log_laws.proofs.SameLists.{rules_same}
 use Rattle.log_laws.proofs.Visits.{visit_some, visit_one}
 use Rattle.sound_check.specs.declared.fault.CheckFault.{CheckFault}
 use Rattle.sound_check.specs.declared.fault.CheckFault.TheVariants.{Unsound, NoMemory}
@@ -20,7 +20,7 @@ use Rattle.atomic_list.proofs.Parts.{whole_bucket_fits}
 use Rattle.region_layout.specs.declared.layout.Layout.{Layout}
 use Rattle.region_layout.specs.Layout.{layout_shape}
 use Rattle.log_partition.specs.Merging.{AreLogsOf}
-use Rattle.log_partition.proofs.Merged.{log_word_below}
+use Rattle.log_partition.proofs.Views.{view_below}
 use Rattle.sound_check.specs.Rules.{HasGoodList, EachPart}
 use Rattle.sound_check.specs.Logs.{HoldsLog, HasLogFault}
 use Rattle.sound_check.proofs.Buckets.{heap_small}
@@ -53,11 +53,8 @@ module _ (layout : Layout) (w : Words) (p : ℕ) (lt : p < layout.partitions) wh
   few : p < 3
   few = let most = layout.partitions_within in omega (arith, lt, most)
 
-  first : (c : ℕ) → c < 32 → w c ≡ log_words (layout_shape layout) w c
-  first c low = let small = heap_small layout in sym (log_word_below (layout_shape layout) w c (omega (arith, small, low)))
-
   seen : (a : ℕ) → a < heap (layout_shape layout) → view p w a ≡ view p (log_words (layout_shape layout) w) a
-  seen a below = view_same p a (log_words (layout_shape layout) w) w few first (sym (log_word_below (layout_shape layout) w a below))
+  seen a below = view_below (layout_shape layout) p w a few below
 
   pub whole_rules : (chain : List ℕ) → ListRules (IsBucketOf (layout_shape layout) p) (view p (log_words (layout_shape layout) w)) chain → ListRules (IsBucketOf (layout_shape layout) p) (view p w) chain
   whole_rules chain rules = rules_same (IsBucketOf (layout_shape layout) p) (view p (log_words (layout_shape layout) w)) (view p w)
