@@ -1,5 +1,5 @@
 -- What a layout says of a region, as a shape.
-use Rattle.std.specs.Prelude.{◌≡◌, ◌≢◌, ◌⊎◌, ℕ, ◌+◌, ◌-◌, ◌*◌, ◌/◌, ◌<◌, ◌≤◌}
+use Rattle.std.specs.Prelude.{◌≡◌, ◌≢◌, ℕ, ◌+◌, ◌-◌, ◌*◌, ◌/◌, ◌<◌, ◌≤◌}
 use Rattle.persist_model.specs.Shape.{Shape, IsCellCount, IsBucketCount, IsBlockCount, IsStructureCount, heap, block, IsHeapWord, first_bucket, count_buckets}
 use Rattle.region_layout.specs.declared.layout.Kind.{Kind}
 use Rattle.region_layout.specs.declared.layout.Kind.TheVariants.{Cells, Tree, Hash}

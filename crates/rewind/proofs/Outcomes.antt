@@ -1,17 +1,12 @@
 -- What a job came to with the text of its whole input is the cause of the call's outcome.
-use Rattle.std.proofs.Common.{◌≡◌, ◌≤◌, ℕ, List, length, subst, arith}
+use Rattle.std.proofs.Common.{◌≡◌, ◌≤◌, ℕ, List, length, subst}
 use Rattle.rewind.specs.declared.words.Job.{Job}
 use Rattle.rewind.specs.declared.words.Job.TheVariants as job
 use Rattle.rewind.specs.declared.replay.Outcome.{Outcome}
 use Rattle.rewind.specs.declared.replay.Outcome.TheVariants as outcome
 use Rattle.image_runner.specs.declared.runner.Wanted.{Wanted}
-use Rattle.rewind.specs.Words.{AreWordsOf, IMAGE_LIMIT, limit_of}
+use Rattle.rewind.specs.Words.{AreWordsOf, limit_of}
 use Rattle.rewind.specs.Call.{Call, TookAll, HasReadFor, IsCauseOf, IsTextOutcome, IsJobOutcome, unmade}
-
--- no job takes a longer input
-pub short_inputs : (j : Job) → limit_of j ≤ IMAGE_LIMIT
-short_inputs job.Run = omega arith
-short_inputs (job.Recover wanted) = omega arith
 
 module _ (call : Call) (text : List ℕ) where
   run_caused : (o : Outcome) → HasReadFor job.Run call text → IsTextOutcome text call.region call.counts call.region_after call.counts_after o → IsCauseOf o call

@@ -5,7 +5,7 @@ use mathlib.Core.Option.{none, some, some-injective}
 use lib.ListN.{get_elem?}
 use prog.Atomic.{either}
 use Rattle.std.proofs.lemmas.Bool.Decides.{nat_tests}
-use Rattle.atomic_table.specs.Table.{Me, step, Allows, Splits, rest, Final, opening}
+use Rattle.atomic_table.specs.Table.{step, Allows, Splits, rest, Final, opening}
 use Rattle.atomic_table.specs.Table as Table
 use Rattle.lane_types.specs.Seen.{Seen, AreInAgreement}
 use Rattle.turn_hub.specs.declared.view.Sight.{Sight}
