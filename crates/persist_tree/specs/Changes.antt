@@ -43,6 +43,11 @@ pub record HasParts (s : Space) (b left right : ℕ) : Type 0 where
   pub r : Tree
   pub are : AreParts s b left right k v l r
 
+-- the block can be turned about this side, which is a node
+pub record CanTurn (s : Space) (b left right side : ℕ) : Type 0 where
+  pub parts : HasParts s b left right
+  pub child : 0 < side
+
 -- a tree stands at this address
 pub record HasTree (s : Space) (a : ℕ) : Type 0 where
   pub tree : Tree
@@ -63,6 +68,10 @@ Hangs s u b left right = (k v : ℕ) (l r : Tree) → AreParts s b left right k 
 abbrev pub Builds : (ℕ → ℕ → ℕ → Tree → Tree → Tree) → ℕ → Space → Space → ℕ → ℕ → ℕ → ℕ → Type 0
 Builds built n s u b left right link = (k v : ℕ) (l r : Tree) → AreParts s b left right k v l r
     → IsRebuilt (IsIn (Node b k v l r)) n s u link (built b k v l r)
+
+-- so a turn does, in the writes that two turns take
+abbrev pub Turns : (ℕ → ℕ → ℕ → Tree → Tree → Tree) → Space → Space → ℕ → ℕ → ℕ → ℕ → Type 0
+Turns built s u b left right link = Builds built 9 s u b left right link
 
 -- the height that is stored where a link leads
 abbrev pub stored_height : Words → ℕ → ℕ

@@ -2,7 +2,7 @@
 ghost use Rattle.std.specs.Prelude.{◌≡◌, ◌+◌, ◌<◌, IfOk};
 ghost use Rattle.lane_traits.specs.Space.{Space};
 ghost use Rattle.persist_tree.specs.Trees.{lowered_left, lowered_right, turned_twice_right, turned_twice_left};
-ghost use Rattle.persist_tree.specs.Changes.{HasParts, Builds};
+ghost use Rattle.persist_tree.specs.Changes.{CanTurn, Turns};
 
 use crate::fields::{height_at, sides_of};
 use crate::hang::hang;
@@ -16,10 +16,9 @@ fn turn_twice_right<W: Words>(
     left: u32,
     right: u32,
 ) -> Result<u32, NoMemory>
-    requires parts { HasParts (W.space words.old) at left right }
-    requires child { 0 < left }
+    requires turn { CanTurn (W.space words.old) at left right left }
     requires inner { 0 < (W.space words.old).word (left + 4) }
-    ensures { IfOk result (λ link. Builds turned_twice_right 9 (W.space words.old) (W.space words.new) at left right link) }
+    ensures { IfOk result (Turns turned_twice_right (W.space words.old) (W.space words.new) at left right) }
 {
     let child = sides_of(words, left);
     let inner = sides_of(words, child.right);
@@ -31,10 +30,9 @@ fn turn_twice_right<W: Words>(
 
 // The left child of the right child comes above both.
 fn turn_twice_left<W: Words>(words: &mut W, at: u32, left: u32, right: u32) -> Result<u32, NoMemory>
-    requires parts { HasParts (W.space words.old) at left right }
-    requires child { 0 < right }
+    requires turn { CanTurn (W.space words.old) at left right right }
     requires inner { 0 < (W.space words.old).word (right + 3) }
-    ensures { IfOk result (λ link. Builds turned_twice_left 9 (W.space words.old) (W.space words.new) at left right link) }
+    ensures { IfOk result (Turns turned_twice_left (W.space words.old) (W.space words.new) at left right) }
 {
     let child = sides_of(words, right);
     let inner = sides_of(words, child.left);
@@ -51,9 +49,8 @@ pub(crate) fn lower_left<W: Words>(
     left: u32,
     right: u32,
 ) -> Result<u32, NoMemory>
-    requires parts { HasParts (W.space words.old) at left right }
-    requires child { 0 < left }
-    ensures { IfOk result (λ link. Builds lowered_left 9 (W.space words.old) (W.space words.new) at left right link) }
+    requires { CanTurn (W.space words.old) at left right left }
+    ensures { IfOk result (Turns lowered_left (W.space words.old) (W.space words.new) at left right) }
 {
     let child = sides_of(words, left);
     let outer = height_at(words, child.left);
@@ -73,9 +70,8 @@ pub(crate) fn lower_right<W: Words>(
     left: u32,
     right: u32,
 ) -> Result<u32, NoMemory>
-    requires parts { HasParts (W.space words.old) at left right }
-    requires child { 0 < right }
-    ensures { IfOk result (λ link. Builds lowered_right 9 (W.space words.old) (W.space words.new) at left right link) }
+    requires { CanTurn (W.space words.old) at left right right }
+    ensures { IfOk result (Turns lowered_right (W.space words.old) (W.space words.new) at left right) }
 {
     let child = sides_of(words, right);
     let outer = height_at(words, child.right);
