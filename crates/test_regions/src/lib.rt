@@ -4,7 +4,7 @@
 mod pairs;
 mod row;
 
-pub use pairs::{word_of, words_of};
+pub use pairs::{changed_words, word_of, words_of};
 pub use row::Row;
 
 #[cfg(test)]

@@ -1,4 +1,4 @@
-ghost use Rattle.std.specs.Prelude.{◌≡◌, IfOk};
+ghost use Rattle.std.specs.Prelude.{◌≡◌, ◌++◌, IfOk};
 ghost use Rattle.test_regions.specs.Pairs.{word_in, words_in};
 
 use std::alloc::{AllocError, Global};
@@ -25,4 +25,18 @@ pub fn words_of(alloc: Global, pairs: &[(u32, u64)], size: u32) -> Result<Vec<u6
         words.push(word)?;
     }
     Ok(words)
+}
+
+/// The words at so many addresses from 0 on: as the changes say, and where they say nothing as the pairs do.
+pub fn changed_words(
+    alloc: Global,
+    pairs: &[(u32, u64)],
+    changes: &[(u32, u64)],
+    size: u32,
+) -> Result<Vec<u64>, AllocError>
+    ensures { IfOk result (λ words. words.items ≡ words_in (changes.now ++ pairs.now) size) }
+{
+    let mut all = Vec::from_slice(alloc, changes)?;
+    all.extend_from_slice(pairs)?;
+    words_of(alloc, all.as_slice(), size)
 }

@@ -1,7 +1,7 @@
-ghost use Rattle.std.specs.Prelude.{◌≡◌, ◌<◌, ◌^◌, length, IfOk};
+ghost use Rattle.std.specs.Prelude.{◌≡◌, ◌<◌, ◌^◌, ◌++◌, length, IfOk};
 ghost use Rattle.test_regions.specs.Pairs.{words_in};
 
-use crate::pairs::words_of;
+use crate::pairs::{changed_words, words_of};
 use persist_model::Look;
 use std::alloc::{AllocError, Global};
 
@@ -26,6 +26,20 @@ impl Row {
         ensures { IfOk result (λ row. ⟦<Row as Look>⟧.words row ≡ words_in pairs.now size) }
     {
         let words = words_of(alloc, pairs, size)?;
+        Ok(Row { words })
+    }
+
+    /// The words at so many addresses: as the changes say, and where they say nothing as the pairs do.
+    pub fn changed(
+        alloc: Global,
+        pairs: &[(u32, u64)],
+        changes: &[(u32, u64)],
+        size: u32,
+    ) -> Result<Self, AllocError>
+        ensures words { IfOk result (λ row. ⟦<Row as Look>⟧.words row ≡ words_in (changes.now ++ pairs.now) size) }
+        ensures size { IfOk result (λ row. length (⟦<Row as Look>⟧.words row) ≡ size) }
+    {
+        let words = changed_words(alloc, pairs, changes, size)?;
         Ok(Row { words })
     }
 }

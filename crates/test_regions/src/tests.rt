@@ -20,3 +20,13 @@ fn a_row_ends_at_its_size(rt: HostRuntime) -> Result<(), Fail> {
     assert_eq!(rt; row.word(1), 0);
     Ok(())
 }
+
+#[test]
+fn a_change_counts_before_what_it_changes(rt: HostRuntime) -> Result<(), Fail> {
+    let row = Row::changed(rt.alloc(), &[(0, 7), (1, 8)], &[(1, 0), (2, 9)], 4)?;
+    assert_eq!(rt; row.size(), 4);
+    for (a, word) in [(0, 7), (1, 0), (2, 9), (3, 0)] {
+        assert_eq!(rt; row.word(a), word, "at {a}");
+    }
+    Ok(())
+}
