@@ -2,26 +2,19 @@
 ghost use Rattle.std.specs.Prelude.{◌≡◌, slice_get};
 ghost use Rattle.force_policy.specs.Plans.{write_plan, give_plan};
 
-use plan_records::{Giving, Part, Update, deletion_cell, update_cell, word_store};
+use plan_records::{Giving, Part, Update};
 use region_layout::Policy;
 
 /// Part i of the write of a word: its record, and then the store.
 pub fn write_part(update: &Update, i: u64) -> Option<Part>
     ensures { result ≡ slice_get (write_plan update.now) i }
 {
-    match i {
-        0 => Some(Part::Append(update_cell(update))),
-        1 => Some(Part::Word(word_store(Policy::Force, update.word, update.after))),
-        _ => None,
-    }
+    plan_records::write_part(update, Policy::Force, i)
 }
 
 /// Part i of the giving back of a block, which is deleted at the transaction's commit.
 pub fn give_part(giving: &Giving, i: u64) -> Option<Part>
     ensures { result ≡ slice_get (give_plan giving.now) i }
 {
-    match i {
-        0 => Some(Part::Append(deletion_cell(giving))),
-        _ => None,
-    }
+    plan_records::give_part(giving, i)
 }

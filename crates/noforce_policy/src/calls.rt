@@ -4,30 +4,21 @@ ghost use Rattle.plan_records.specs.Sequences.{HasAddress};
 ghost use Rattle.noforce_policy.specs.Plans.{write_plan, give_plan, commit_plan, abort_plan};
 
 use persist_model::Outcome;
-use plan_records::{
-    Closing, Giving, Part, Undoing, Update, deletion_cell, undo_part, update_cell, word_store,
-};
+use plan_records::{Closing, Giving, Part, Undoing, Update, undo_part};
 use region_layout::{Policy, end_cell, rollback_cell};
 
 /// Part i of the write of a word: its record, and then the store, which nothing asks to be kept.
 pub fn write_part(update: &Update, i: u64) -> Option<Part>
     ensures { result ≡ slice_get (write_plan update.now) i }
 {
-    match i {
-        0 => Some(Part::Append(update_cell(update))),
-        1 => Some(Part::Word(word_store(Policy::NoForce, update.word, update.after))),
-        _ => None,
-    }
+    plan_records::write_part(update, Policy::NoForce, i)
 }
 
 /// Part i of the giving back of a block, which is deleted at the next checkpoint.
 pub fn give_part(giving: &Giving, i: u64) -> Option<Part>
     ensures { result ≡ slice_get (give_plan giving.now) i }
 {
-    match i {
-        0 => Some(Part::Append(deletion_cell(giving))),
-        _ => None,
-    }
+    plan_records::give_part(giving, i)
 }
 
 /// Part i of a commit: its end alone.

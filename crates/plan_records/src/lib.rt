@@ -8,4 +8,4 @@ mod sequences;
 
 pub use cells::{deletion_cell, update_cell};
 pub use parts::{Closing, Giving, Part, Undoing, Update};
-pub use sequences::{owner_part, owner_part_count, undo_part, word_store};
+pub use sequences::{give_part, owner_part, owner_part_count, undo_part, word_store, write_part};

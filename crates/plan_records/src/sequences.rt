@@ -1,8 +1,10 @@
 //! The parts that the plans of both policies share.
 ghost use Rattle.std.specs.Prelude.{◌≡◌, ◌<◌, ◌^◌, All, length, slice_get};
 ghost use Rattle.plan_records.specs.Sequences.{store_of, undo_parts, owner_parts, HasAddress};
+ghost use Rattle.plan_records.specs.Courses.{write_parts, give_parts};
 
-use crate::parts::Part;
+use crate::cells::{deletion_cell, update_cell};
+use crate::parts::{Giving, Part, Update};
 use persist_model::{Event, List};
 use region_layout::{Cell, Policy, compensation_cell};
 
@@ -13,6 +15,27 @@ pub fn word_store(policy: Policy, word: u32, value: u64) -> Event
     match policy {
         Policy::Force => Event::PStore(word, value),
         Policy::NoForce => Event::Store(word, value),
+    }
+}
+
+/// Part i of the write of a word: its record, and then the store.
+pub fn write_part(update: &Update, policy: Policy, i: u64) -> Option<Part>
+    ensures { result ≡ slice_get (write_parts policy update.now) i }
+{
+    match i {
+        0 => Some(Part::Append(update_cell(update))),
+        1 => Some(Part::Word(word_store(policy, update.word, update.after))),
+        _ => None,
+    }
+}
+
+/// Part i of the giving back of a block: the record of its deletion.
+pub fn give_part(giving: &Giving, i: u64) -> Option<Part>
+    ensures { result ≡ slice_get (give_parts giving.now) i }
+{
+    match i {
+        0 => Some(Part::Append(deletion_cell(giving))),
+        _ => None,
     }
 }
 
