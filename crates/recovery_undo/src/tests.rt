@@ -1,5 +1,5 @@
 //! One transaction on small regions, which is undone to its end or up to a stop.
-ghost use Rattle.std.specs.Prelude.{◌≡◌, ◌≤◌, ◌+◌, ℕ, IfOk, [], ◌∷◌};
+ghost use Rattle.std.specs.Prelude.{◌≡◌, ◌≤◌, ◌+◌, ◌++◌, ℕ, IfOk, [], ◌∷◌};
 ghost use Rattle.persist_model.specs.Region.{loaded};
 ghost use Rattle.persist_model.specs.State.{State};
 ghost use Rattle.region_layout.specs.Layout.{layout_shape};
@@ -7,7 +7,7 @@ ghost use Rattle.bucket_log.specs.Scans.{record_of_placed};
 ghost use Rattle.recovery_undo.specs.RecoveryAppends.{KnowsRegion};
 ghost use Rattle.recovery_undo.specs.Checkpoint.{CanCheckpoint};
 ghost use Rattle.test_regions.specs.Pairs.{words_in};
-ghost use Rattle.recovery_undo.specs.UndoRegions.{small, narrow, running, running_narrow, record_with, HasRunningGates, IsTested};
+ghost use Rattle.recovery_undo.specs.UndoRegions.{small, narrow, running, running_narrow, running_records, record_with, HasRunningGates, IsTested};
 
 use crate::{Held, append_checkpoint, undo};
 use bucket_log::Placed;
@@ -20,7 +20,7 @@ use region_layout::{Cell, Layout, Policy};
 use std::alloc::Global;
 use std::process::Abort;
 use std::test::Fail;
-use test_regions::words_of;
+use test_regions::changed_words;
 use word_region::{Cut, PlainCells};
 
 fn small_layout() -> Layout
@@ -52,12 +52,44 @@ fn narrow_layout() -> Layout
     }
 }
 
-// A region of 832 words, with memory for the stores of an undo and of a checkpoint record.
-fn region_of(alloc: Global, pairs: &[(u32, u64)]) -> Result<PlainCells, Fail>
-    ensures cells { IfOk result (λ region. ⟦<PlainCells as Device>⟧.cells region ≡ loaded (words_in pairs.now 832)) }
+// The records of the transaction, which both regions have.
+const RECORDS: &[(u32, u64)] = &[
+    (40, 1),
+    (41, 1),
+    (42, 1),
+    (43, 577),
+    (44, 5),
+    (45, 7),
+    (56, 2),
+    (57, 1),
+    (58, 1),
+    (59, 578),
+    (61, 9),
+    (62, 1),
+    (88, 3),
+    (89, 1),
+    (90, 2),
+    (91, 578),
+    (92, 9),
+    (94, 1),
+    (104, 4),
+    (105, 1),
+    (106, 6),
+    (107, 592),
+    (108, 1),
+    (576, 1),
+    (577, 7),
+    (578, 9),
+    (592, 1),
+];
+
+// A region of 832 words with this header, these links and the records, and with memory for the stores of an undo and of a
+// checkpoint record.
+fn region_of(alloc: Global, front: &[(u32, u64)]) -> Result<PlainCells, Fail>
+    ensures cells { IfOk result (λ region. ⟦<PlainCells as Device>⟧.cells region ≡ loaded (words_in (front.now ++ running_records) 832)) }
     ensures spare { IfOk result (λ region. 153 ≤ ⟦<PlainCells as Device>⟧.spare region) }
 {
-    let words = words_of(alloc, pairs, 832)?;
+    let words = changed_words(alloc, RECORDS, front, 832)?;
     let mut region = PlainCells::new(alloc, 100000);
     region.load(words.as_slice())?;
     region.reserve(153)?;
@@ -69,7 +101,7 @@ fn small_region(alloc: Global) -> Result<PlainCells, Fail>
     ensures cells { IfOk result (λ region. ⟦<PlainCells as Device>⟧.cells region ≡ loaded (words_in running 832)) }
     ensures spare { IfOk result (λ region. 153 ≤ ⟦<PlainCells as Device>⟧.spare region) }
 {
-    let pairs = [
+    let front = [
         (0, 5933297088048660481),
         (1, 2),
         (2, 16),
@@ -78,35 +110,8 @@ fn small_region(alloc: Global) -> Result<PlainCells, Fail>
         (5, 1),
         (8, 32),
         (9, 32),
-        (40, 1),
-        (41, 1),
-        (42, 1),
-        (43, 577),
-        (44, 5),
-        (45, 7),
-        (56, 2),
-        (57, 1),
-        (58, 1),
-        (59, 578),
-        (61, 9),
-        (62, 1),
-        (88, 3),
-        (89, 1),
-        (90, 2),
-        (91, 578),
-        (92, 9),
-        (94, 1),
-        (104, 4),
-        (105, 1),
-        (106, 6),
-        (107, 592),
-        (108, 1),
-        (576, 1),
-        (577, 7),
-        (578, 9),
-        (592, 1),
     ];
-    region_of(alloc, &pairs)
+    region_of(alloc, &front)
 }
 
 // Each record in a bucket of its own: the first, the second, the fourth and the fifth.
@@ -114,7 +119,7 @@ fn narrow_region(alloc: Global) -> Result<PlainCells, Fail>
     ensures cells { IfOk result (λ region. ⟦<PlainCells as Device>⟧.cells region ≡ loaded (words_in running_narrow 832)) }
     ensures spare { IfOk result (λ region. 153 ≤ ⟦<PlainCells as Device>⟧.spare region) }
 {
-    let pairs = [
+    let front = [
         (0, 5933297088048660481),
         (1, 2),
         (2, 1),
@@ -129,35 +134,8 @@ fn narrow_region(alloc: Global) -> Result<PlainCells, Fail>
         (80, 96),
         (81, 48),
         (97, 80),
-        (40, 1),
-        (41, 1),
-        (42, 1),
-        (43, 577),
-        (44, 5),
-        (45, 7),
-        (56, 2),
-        (57, 1),
-        (58, 1),
-        (59, 578),
-        (61, 9),
-        (62, 1),
-        (88, 3),
-        (89, 1),
-        (90, 2),
-        (91, 578),
-        (92, 9),
-        (94, 1),
-        (104, 4),
-        (105, 1),
-        (106, 6),
-        (107, 592),
-        (108, 1),
-        (576, 1),
-        (577, 7),
-        (578, 9),
-        (592, 1),
     ];
-    region_of(alloc, &pairs)
+    region_of(alloc, &front)
 }
 
 // A record of the transaction that isn't an end.
