@@ -1,5 +1,5 @@
 -- A transaction begins, and is over.
-use Rattle.std.proofs.Common.{◌≡◌, ◌≢◌, ◌⊎◌, inl, inr, ℕ, ◌<◌, ◌≤◌, Bool, true, false, List, [], ◌∷◌, length, take, refl, sym, ap, ◌∙◌, subst, arith}
+use Rattle.std.proofs.Common.{◌≡◌, ◌≢◌, ◌⊎◌, inl, inr, ℕ, ◌<◌, ◌≤◌, Bool, true, false, List, [], ◌∷◌, ◌++◌, length, take, refl, sym, ap, ◌∙◌, subst, arith}
 use Rattle.std.proofs.lemmas.Bool.Decides.{eqb_tells}
 use Rattle.persist_model.specs.Region.{Words, Region, IsCandidate, newest}
 use Rattle.persist_model.specs.Progress.{Write, start, latest}
@@ -9,15 +9,15 @@ use Rattle.persist_model.specs.Shape.{Shape, IsHeapWord}
 use Rattle.persist_model.specs.State.{State}
 use Rattle.persist_model.proofs.Tracking.{Tracks-settled}
 use Rattle.log_laws.specs.Recovery.{HasDecidingRecord}
-use Rattle.history_laws.specs.Histories.{fold}
+use Rattle.history_laws.specs.Histories.{Entry, value_behind, fold}
 use Rattle.history_laws.specs.UnderWay.{UnderWay, nothing, appends, closes, takes_back, drops}
 use Rattle.txn_laws.specs.Txns.{Gift, Txn, idle, txn_at, with_txn, written}
 use Rattle.txn_laws.specs.Owners.{IsMine, IsNobodys, AreOwners}
-use Rattle.txn_laws.specs.Heaps.{IsKept}
-use Rattle.txn_laws.specs.AreTransactions.{IsTransaction}
-use Rattle.txn_laws.specs.PartsOf.{Fits}
+use Rattle.txn_laws.specs.Heaps.{StandsForHeap, IsHeapOf, IsKept}
+use Rattle.txn_laws.specs.AreTransactions.{IsTransaction, AreTransactions}
+use Rattle.txn_laws.specs.PartsOf.{Fits, IsResting, IsPartIn}
 use Rattle.txn_laws.specs.Worlds.{World, with_lane, IsWorldAt}
-use Rattle.txn_laws.specs.Beginnings.{begun, MayBegin, BeginsKeep, MayLeave, LeavesKeep}
+use Rattle.txn_laws.specs.Beginnings.{begun, MayBegin, BeginsKeep, MayLeave, LeavesKeep, MayLeaveUnrecorded, UnrecordedLeave, UnrecordedCommit}
 use Rattle.txn_laws.proofs.Finding.{idle_none}
 use Rattle.txn_laws.proofs.Lanes.{with_here, with_other, by_lane, whose, IsFound, found_of, now_found, owners_changed, numbers_changed, parts_changed, parts_rest}
 use Rattle.txn_laws.proofs.SameRecords.{transaction_same, own_none}
@@ -28,6 +28,35 @@ stands_itself policy log w a v off (undone u first is) = absurd (off (inl (u, fi
 stands_itself policy log w a v off (deleted none d is) = absurd (off (inr (inl d)))
 stands_itself policy log w a v off (redone none nd r last is) = absurd (off (inr (inr (r, last.among, last.has))))
 stands_itself policy log w a v off (kept none nd nr is) = is
+
+-- behind its end, and before its first store, a transaction has written nothing that isn't in the history
+over_unwritten : (x : Txn) → x.over ≡ true → written x ≡ []
+over_unwritten x over = rw over refl
+
+unstored_unwritten : (x : Txn) → x.over ≡ false → x.stored ≡ 0 → written x ≡ []
+unstored_unwritten x runs none = rw (runs, none) refl
+
+-- an entry that writes nothing leaves the heap
+pub value_unwritten : (history : List Entry) (e : Entry) (a u : ℕ) → e.writes ≡ [] → value_behind (history ++ e ∷ []) a u ≡ value_behind history a u
+value_unwritten [] e a u none = ap (λ (ws : List Write). latest ws a u) none
+value_unwritten (f ∷ history) e a u none = value_unwritten history e a (latest f.writes a u) none
+
+pub fold_unwritten : (heap : Words) (history : List Entry) (e : Entry) → e.writes ≡ [] → fold heap (history ++ e ∷ []) ≡ fold heap history
+fold_unwritten heap history e none = λ i a. value_unwritten history e a (heap a) none i
+
+-- a history with the same heap does as well
+with_history : (shape : Shape) (base : Words) (s : State) (chains : ℕ → List ℕ) (start_heap : Words) (w : World) (region : Region) (history : List Entry) →
+    fold start_heap history ≡ fold start_heap w.history → IsWorldAt shape base s chains start_heap w region → IsWorldAt shape base s chains start_heap (record w { history = history }) region
+with_history shape base s chains start_heap w region history same world = record {
+  force = world.force;
+  log = world.log;
+  owners = world.owners;
+  transactions = subst (λ h. AreTransactions shape s.log h w.lanes) (sym same) world.transactions;
+  heap = subst (λ h. IsHeapOf shape s.log h w.lanes region) (sym same) world.heap;
+  kept = world.kept;
+  stands = subst (λ h. StandsForHeap shape s.log h region) (sym same) world.stands;
+  parts = λ p lt. subst (λ h. IsPartIn shape s h w.keeping w.lanes p (w.under p)) (sym same) (world.parts p lt);
+}
 
 -- without a record, without a write
 pub begun_plain : (shape : Shape) (h : Words) (number part : ℕ) (words : ℕ → Bool) → IsTransaction shape [] h (begun number part words)
@@ -147,29 +176,28 @@ module _ (shape : Shape) (base : Words) (s : State) (chains : ℕ → List ℕ) 
 
   -- ---- its end
 
-  module _ (l : ℕ) (may : MayLeave shape s w l) where
+  -- nothing of the lane is under way, no record of its transaction is left, and it has written nothing beyond the history
+  module _ (l : ℕ) (lane : l < length w.lanes) (resting : IsResting shape w.keeping l) (no_record : HasNo (IsOf (txn_at w.lanes l).number) s.log)
+      (unwritten : written (txn_at w.lanes l) ≡ []) where
     none_of_zero : HasNo (IsOf 0) s.log
     none_of_zero r m of = let k = world.transactions.known r m in let one = k.1 in let e = k.2.0 in let z = of.0 in omega (arith, one, e, z)
 
     owners_left : AreOwners shape (with_txn l idle w.lanes)
-    owners_left = owners_changed shape l idle w.lanes may.lane (λ a m. absurd (idle_none a m)) (λ k a ne m. absurd (idle_none a m)) world.owners
+    owners_left = owners_changed shape l idle w.lanes lane (λ a m. absurd (idle_none a m)) (λ k a ne m. absurd (idle_none a m)) world.owners
 
     -- what nobody has now the lane had, with nothing written beyond the history, or nobody
     others_left : (a : ℕ) → IsHeapWord shape a → IsNobodys (with_txn l idle w.lanes) a → HasNo (IsToDelete s.log a) s.log → newest (region.at a) ≡ h a
     others_left a m nobodys none = elim (whose w.lanes a) [
       | inl k ↦ (elim (eqb_tells k.0 l) [
-        | inl e ↦ found_here.own k.0 a k.1 none ∙ ap (λ (x : List Write). latest x a (h a)) (nothing_left k.0 e.1)
+        | inl e ↦ found_here.own k.0 a k.1 none ∙ ap (λ (x : List Write). latest x a (h a)) (ap (λ j. written (txn_at w.lanes j)) e.1 ∙ unwritten)
         | inr ne ↦ absurd (nobodys k.0 (subst (λ x. IsMine x a) (sym (with_other l k.0 idle w.lanes ne.1)) k.1))
       ])
       | inr was ↦ found_here.others a m was none
     ]
-      where
-        nothing_left : (k : ℕ) → k ≡ l → written (txn_at w.lanes k) ≡ []
-        nothing_left k e = let over = ap (λ j. (txn_at w.lanes j).over) e ∙ may.is_over in rw over refl
 
     found_left : IsFound shape s.log h (with_txn l idle w.lanes) region
     found_left = record {
-      own = λ k a. by_lane (λ j x. IsMine x a → HasNo (IsToDelete s.log a) s.log → newest (region.at a) ≡ latest (written x) a (h a)) l idle w.lanes may.lane
+      own = λ k a. by_lane (λ j x. IsMine x a → HasNo (IsToDelete s.log a) s.log → newest (region.at a) ≡ latest (written x) a (h a)) l idle w.lanes lane
           (λ m. absurd (idle_none a m)) (λ j ne. found_here.own j a) k;
       others = others_left;
     }
@@ -177,7 +205,7 @@ module _ (shape : Shape) (base : Words) (s : State) (chains : ℕ → List ℕ) 
     known_left : (r : Record) → IsAmong s.log r → (k : ℕ) × (1 ≤ (txn_at (with_txn l idle w.lanes) k).number) × IsOf (txn_at (with_txn l idle w.lanes) k).number r
     known_left r m =
         let k = world.transactions.known r m in
-        let ne : k.0 ≢ l = (λ e. may.no_record r m (subst (λ j. IsOf (txn_at w.lanes j).number r) e k.2)) in
+        let ne : k.0 ≢ l = (λ e. no_record r m (subst (λ j. IsOf (txn_at w.lanes j).number r) e k.2)) in
         let same = with_other l k.0 idle w.lanes ne in
         (k.0, subst (λ (x : Txn). 1 ≤ x.number) (sym same) k.1, subst (λ (x : Txn). IsOf x.number r) (sym same) k.2)
 
@@ -187,23 +215,33 @@ module _ (shape : Shape) (base : Words) (s : State) (chains : ℕ → List ℕ) 
       log = world.log;
       owners = owners_left;
       transactions = record {
-        each = by_lane (λ j x. IsTransaction shape s.log h x) l idle w.lanes may.lane (transaction_same shape [] s.log h idle (own_none 0 s.log none_of_zero) (begun_plain shape h 0 0 idle.words)) (λ j ne. world.transactions.each j);
+        each = by_lane (λ j x. IsTransaction shape s.log h x) l idle w.lanes lane (transaction_same shape [] s.log h idle (own_none 0 s.log none_of_zero) (begun_plain shape h 0 0 idle.words)) (λ j ne. world.transactions.each j);
         known = known_left;
-        apart = numbers_changed l idle w.lanes may.lane (λ k ne one. absurd (omega (arith, one))) world.transactions.apart;
+        apart = numbers_changed l idle w.lanes lane (λ k ne one. absurd (omega (arith, one))) world.transactions.apart;
       };
       heap = record {
         full = world.heap.full;
         now = now_found shape s.log h (with_txn l idle w.lanes) region owners_left found_left;
-        found = λ k g. by_lane (λ j x. x.over ≡ true → IsAmong (take x.zeroed x.gifts) g → newest (region.at g.word) ≡ 0) l idle w.lanes may.lane (λ over m. absurd m) (λ j ne. world.heap.found j g) k;
+        found = λ k g. by_lane (λ j x. x.over ≡ true → IsAmong (take x.zeroed x.gifts) g → newest (region.at g.word) ≡ 0) l idle w.lanes lane (λ over m. absurd m) (λ j ne. world.heap.found j g) k;
       };
-      kept = by_lane (λ j x. IsKept j x region) l idle w.lanes may.lane
+      kept = by_lane (λ j x. IsKept j x region) l idle w.lanes lane
           (record { progress = start h; tracks = λ a m. absurd (idle_none a m); own = λ a v k. absurd k; fenced = λ fenced a v k. absurd k }) (λ j ne. world.kept j);
       stands = world.stands;
-      parts = λ p lt. parts_rest shape s h w.keeping l idle w.lanes p (w.under p) may.lane lt may.resting (world.parts p lt);
+      parts = λ p lt. parts_rest shape s h w.keeping l idle w.lanes p (w.under p) lane lt resting (world.parts p lt);
     }
 
 pub begins_keep : BeginsKeep
 begins_keep shape base s chains start_heap w region l number part words may world = begins_there shape base s chains start_heap w region world l number part words may
 
 pub leaves_keep : LeavesKeep
-leaves_keep shape base s chains start_heap w region l may world = leaves_there shape base s chains start_heap w region world l may
+leaves_keep shape base s chains start_heap w region l may world =
+    leaves_there shape base s chains start_heap w region world l may.lane may.resting may.no_record (over_unwritten (txn_at w.lanes l) may.is_over)
+
+pub unrecorded_leave : UnrecordedLeave
+unrecorded_leave shape base s chains start_heap w region l may world =
+    leaves_there shape base s chains start_heap w region world l may.lane may.resting may.no_record (unstored_unwritten (txn_at w.lanes l) may.runs may.none_stored)
+
+pub unrecorded_commit : UnrecordedCommit
+unrecorded_commit shape base s chains start_heap w region l e none may world =
+    with_history shape base s chains start_heap (with_lane l idle w) region (w.history ++ e ∷ []) (fold_unwritten start_heap w.history e none)
+    (unrecorded_leave shape base s chains start_heap w region l may world)

@@ -1,7 +1,7 @@
 //! What the invariant says of a stop, where it begins, and what keeps it.
 ghost use Rattle.txn_laws.specs.Laws.{WorldsStand};
 ghost use Rattle.txn_laws.specs.StartLaws.{WorldsStart};
-ghost use Rattle.txn_laws.specs.Beginnings.{BeginsKeep, LeavesKeep};
+ghost use Rattle.txn_laws.specs.Beginnings.{BeginsKeep, LeavesKeep, UnrecordedLeave, UnrecordedCommit};
 ghost use Rattle.txn_laws.specs.Stores.{WritesAreStored, WritesAreTakenBack, GiftsAreZeroed, FencesKeep};
 ghost use Rattle.txn_laws.specs.Going.{PartsKeep};
 ghost use Rattle.txn_laws.specs.Settled.{AppendsSettle};
@@ -27,6 +27,16 @@ pub fn begins_keep()
 /// and leaves its words once the log has none of its records.
 pub fn leaves_keep()
     ensures { LeavesKeep }
+{}
+
+/// One that runs leaves them where it has neither a record nor a store,
+pub fn unrecorded_leave()
+    ensures { UnrecordedLeave }
+{}
+
+/// and so does a commit that writes nothing, whose entry joins the history.
+pub fn unrecorded_commit()
+    ensures { UnrecordedCommit }
 {}
 
 /// Between the parts of the log a lane stores the next of its recorded writes,
