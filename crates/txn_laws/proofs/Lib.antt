@@ -16,6 +16,7 @@ pub mod Starting
 pub mod Lanes
 pub mod SameRecords
 pub mod Beginning
+pub mod Reading
 pub mod Storing
 pub mod LogEvents
 pub mod GoingOn

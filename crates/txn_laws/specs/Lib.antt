@@ -12,6 +12,7 @@ pub mod Worlds
 pub mod Laws
 pub mod StartLaws
 pub mod Beginnings
+pub mod Reads
 pub mod Stores
 pub mod Going
 pub mod Settled

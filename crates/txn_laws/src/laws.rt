@@ -2,6 +2,7 @@
 ghost use Rattle.txn_laws.specs.Laws.{WorldsStand};
 ghost use Rattle.txn_laws.specs.StartLaws.{WorldsStart};
 ghost use Rattle.txn_laws.specs.Beginnings.{BeginsKeep, LeavesKeep, UnrecordedLeave, UnrecordedCommit};
+ghost use Rattle.txn_laws.specs.Reads.{OwnReads, UnownedRead};
 ghost use Rattle.txn_laws.specs.Stores.{WritesAreStored, WritesAreTakenBack, GiftsAreZeroed, FencesKeep};
 ghost use Rattle.txn_laws.specs.Going.{PartsKeep};
 ghost use Rattle.txn_laws.specs.Settled.{AppendsSettle};
@@ -37,6 +38,16 @@ pub fn unrecorded_leave()
 /// and so does a commit that writes nothing, whose entry joins the history.
 pub fn unrecorded_commit()
     ensures { UnrecordedCommit }
+{}
+
+/// A running transaction reads what it has written to its own words,
+pub fn own_reads()
+    ensures { OwnReads }
+{}
+
+/// and in a word that nobody has the history's value is all that there is.
+pub fn unowned_read()
+    ensures { UnownedRead }
 {}
 
 /// Between the parts of the log a lane stores the next of its recorded writes,
