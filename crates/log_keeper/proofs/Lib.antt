@@ -21,4 +21,5 @@ pub mod Needs
 pub mod LeftNeeds
 pub mod Rooms
 pub mod RoomEvents
+pub mod PlanSizes
 mod Examples

@@ -1,6 +1,10 @@
 ghost use Rattle.std.specs.Prelude.{◌≡◌, ℕ, ◌<◌, ◌≤◌, ◌+◌, ◌^◌, [], true, false, option_map, slice_get, length, OnOk};
 ghost use Rattle.std.specs.Vec.{vec_capacity};
+ghost use Rattle.persist_model.specs.declared.format.TheConstants.{MAX_WORDS};
 ghost use Rattle.persist_model.specs.Chain.{out_event};
+ghost use Rattle.atomic_list.specs.Plans.{removal};
+ghost use Rattle.region_layout.specs.Cell.{record_of};
+ghost use Rattle.bucket_log.specs.Plans.{append_plan, place_address};
 ghost use Rattle.region_layout.specs.Layout.{layout_shape};
 ghost use Rattle.log_keeper.specs.Logged.{begun};
 ghost use Rattle.log_keeper.specs.Parts.{plan_of, closes, takes_back};
@@ -39,7 +43,7 @@ pub enum Part {
 pub struct Slot {
     pub holder: u32,
     pub part: Part,
-    pub made: u32,
+    pub made: u64,
     /// The gates that are being closed of all but ends and checkpoint records, or that are taken back.
     pub gates: Vec<u32>,
     pub ends: Vec<u32>,
@@ -55,6 +59,32 @@ fn out_some(p: u32, e: Option<Event>) -> Option<Event>
         Some(event) => Some(region_event(p, event)),
         None => None,
     }
+}
+
+// No append and no removal has so many events.
+const MANY: u64 = 64;
+
+// Event i of an append, none behind its last.
+fn append_event_at(layout: Layout, place: Place, cell: &Cell, i: u64) -> Option<Event>
+    requires bucket { place.bucket < MAX_WORDS }
+    requires below { place.cell < layout.cells }
+    ensures { result ≡ slice_get (append_plan layout.cells place (record_of (place_address place) cell.now)) i }
+{
+    if i >= MANY {
+        return None;
+    }
+    append_event(layout, place, cell, i as u32)
+}
+
+// Event i of a removal, none behind its last.
+fn remove_event_at(r: Remove, i: u64) -> Option<Event>
+    requires { r.next < MAX_WORDS }
+    ensures { result ≡ slice_get (removal r) i }
+{
+    if i >= MANY {
+        return None;
+    }
+    remove_event(r, i as u32)
 }
 
 // The list gets these gates, in memory that was taken before.
@@ -94,27 +124,27 @@ impl Slot {
     }
 
     /// Event i of the partition's part, none behind its last.
-    pub fn event_at(&self, layout: Layout, p: u32, i: u32) -> Option<Event>
+    pub fn event_at(&self, layout: Layout, p: u32, i: u64) -> Option<Event>
         requires partition { p < 3 }
         requires fits { FitsLayout layout (run_of_slot self.now).part }
         ensures { result ≡ slice_get (plan_of (layout_shape layout) p (run_of_slot self.now).part) i }
     {
         match self.part {
             Part::Rest => None,
-            Part::Append(place, cell) => out_some(p, append_event(layout, place, &cell, i)),
+            Part::Append(place, cell) => out_some(p, append_event_at(layout, place, &cell, i)),
             Part::Close => closing_event(
                 self.gates.as_slice(),
                 self.ends.as_slice(),
                 self.checkpoints.as_slice(),
-                i as u64,
+                i,
             ),
-            Part::TakeBack => gates_event(self.gates.as_slice(), i as u64),
-            Part::Drop(r) => out_some(p, remove_event(r, i)),
+            Part::TakeBack => gates_event(self.gates.as_slice(), i),
+            Part::Drop(r) => out_some(p, remove_event_at(r, i)),
         }
     }
 
     /// The part has no more than i events.
-    pub fn is_over(&self, layout: Layout, p: u32, i: u32) -> bool
+    pub fn is_over(&self, layout: Layout, p: u32, i: u64) -> bool
         requires partition { p < 3 }
         requires fits { FitsLayout layout (run_of_slot self.now).part }
         ensures { result ≡ is_over (plan_of (layout_shape layout) p (run_of_slot self.now).part) i }
@@ -124,7 +154,7 @@ impl Slot {
 
     /// The next event was made.
     pub fn advance(&mut self)
-        requires { self.now.made < 2 ^ 31 }
+        requires { self.now.made < 2 ^ 62 }
         ensures { self.new ≡ with_part self.old.part (self.old.made + 1) self.old }
     {
         self.made += 1;
