@@ -1,6 +1,8 @@
 -- Gates that are listed one after the other.
 use Rattle.std.proofs.Common.{◌≡◌, inl, inr, ℕ, suc, ◌+◌, ◌<◌, ◌≤◌, Bool, true, false, if◌then◌else◌, List, [], ◌∷◌, ◌++◌, length, drop, get_or, refl, sym, ap, ◌∙◌, subst, arith, length-append}
+use Rattle.std.specs.List.{filter, count_by}
 use Rattle.std.proofs.Math.Seq.{drop-cons}
+use Rattle.std.proofs.lemmas.List.Sums.{length-filter}
 use Rattle.std.proofs.lemmas.List.{append_assoc, append-nil, drop_all}
 use Rattle.persist_model.specs.Records.{IsAmong}
 use Rattle.persist_model.proofs.Among.{among_left, among_right, among_append}
@@ -17,6 +19,29 @@ gates-append t ends (x ∷ xs) ys = ap (λ l. l ++ gate_if t ends x) (gates-appe
 pub gates-first : (t : ℕ) (ends : Bool) (x : Entry) (entries : List Entry) →
     gates_in t ends (ledger_of (x ∷ entries)) ≡ gate_if t ends (noted_of x) ++ gates_in t ends (ledger_of entries)
 gates-first t ends x entries = gates-append t ends (ledger_of entries) (noted_of x ∷ [])
+
+-- ---- how many there are
+
+pub gates_counted : (t : ℕ) (ends : Bool) (entries : List Entry) → count_by (λ x. is_chosen t ends (noted_of x).entry) entries ≡ length (gates_in t ends (ledger_of entries))
+gates_counted t ends entries = sym (length-filter (λ x. is_chosen t ends (noted_of x).entry) entries) ∙ counted entries
+  where
+    chosen : List Entry → List Entry
+    chosen = filter (λ x. is_chosen t ends (noted_of x).entry)
+
+    one : (x : Entry) (n m : ℕ) (b : Bool) → n ≡ m → (if b then suc n else n) ≡ length (if b then (noted_of x).entry.at ∷ [] else []) + m
+    one x n m true e = omega (arith, e)
+    one x n m false e = omega (arith, e)
+
+    more : (x : Entry) (entries : List Entry) (b : Bool) → length (if b then x ∷ chosen entries else chosen entries) ≡ (if b then suc (length (chosen entries)) else length (chosen entries))
+    more x entries true = refl
+    more x entries false = refl
+
+    counted : (entries : List Entry) → length (filter (λ x. is_chosen t ends (noted_of x).entry) entries) ≡ length (gates_in t ends (ledger_of entries))
+    counted [] = refl
+    counted (x ∷ entries) = more x entries (is_chosen t ends (noted_of x).entry)
+        ∙ one x (length (chosen entries)) (length (gates_in t ends (ledger_of entries))) (is_chosen t ends (noted_of x).entry) (counted entries)
+        ∙ sym (length-append (gate_if t ends (noted_of x)) (gates_in t ends (ledger_of entries)))
+        ∙ ap length (sym (gates-first t ends x entries))
 
 -- ---- whose they are
 

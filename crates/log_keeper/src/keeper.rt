@@ -16,6 +16,7 @@ ghost use Rattle.log_keeper.specs.Ordered.{IsOrdered};
 ghost use Rattle.log_keeper.specs.Listing.{gates_in};
 
 use crate::ledger::{Entry, Progress, close_listed, come_to, note};
+use crate::listing::count_gates;
 use crate::slots::{NOBODY, Part, Slot};
 use atomic_list::Remove;
 use bucket_log::{Place, Placed};
@@ -271,6 +272,13 @@ impl LogKeeper {
         }
         latch_all(self.slots.as_mut_slice(), lane);
         true
+    }
+
+    /// How many records of the transaction the ledger has, its end aside.
+    pub fn records_of(&self, transaction: u64) -> u64
+        ensures { result ≡ length (gates_in transaction false (keeping_of self.now).ledger) }
+    {
+        count_gates(self.ledger.as_slice(), transaction, false)
     }
 
     /// Takes memory for so many more records. Nothing else changes.

@@ -1,5 +1,6 @@
 // The gates of one transaction's records, in the order of their numbers.
 ghost use Rattle.std.specs.Prelude.{◌≡◌, ◌+◌, ◌≤◌, ◌++◌, length};
+ghost use Rattle.std.specs.List.{count_by};
 ghost use Rattle.std.specs.Vec.{vec_capacity};
 ghost use Rattle.log_keeper.specs.Noting.{noted_of, ledger_of};
 ghost use Rattle.log_keeper.specs.Listing.{is_chosen, gate_if, gates_in};
@@ -17,6 +18,23 @@ fn is_chosen(entry: &Entry, transaction: u64, ends: bool) -> bool
     }
     let is_end = cell.is(RecordKind::End);
     if ends { is_end } else { !is_end }
+}
+
+// How many entries are such records.
+fn chosen(entries: &[Entry], transaction: u64, ends: bool) -> usize
+    ensures { result ≡ count_by (λ x. is_chosen transaction ends (noted_of x).entry) entries.now }
+{
+    entries
+        .iter()
+        .filter(|entry| is_chosen(entry, transaction, ends))
+        .count()
+}
+
+/// How many records of the transaction there are: its end, or all others.
+pub(crate) fn count_gates(entries: &[Entry], transaction: u64, ends: bool) -> u64
+    ensures { result ≡ length (gates_in transaction ends (ledger_of entries.now)) }
+{
+    chosen(entries, transaction, ends) as u64
 }
 
 // Puts the gate of such a record behind the others, in memory that was taken before.
