@@ -22,4 +22,5 @@ pub mod LeftNeeds
 pub mod Rooms
 pub mod RoomEvents
 pub mod PlanSizes
+pub mod LastChanges
 mod Examples

@@ -33,7 +33,7 @@ in_newest (x ∷ ledger) r m = by x.stage refl (λ k. (let y = in_newest ledger 
     by Settled e further (inl same) = (x, inl refl, sym same, λ d. (let f : Settled ≡ Drawn = sym e ∙ d in cc))
     by Settled e further (inr k) = further k
 
-settled_among : (ledger : List Noted) (x : Noted) → IsAmong ledger x → x.stage ≡ Settled → IsAmong (settled_log ledger) x.entry
+pub settled_among : (ledger : List Noted) (x : Noted) → IsAmong ledger x → x.stage ≡ Settled → IsAmong (settled_log ledger) x.entry
 settled_among [] x m e = absurd m
 settled_among (y ∷ ledger) x (inl same) e =
     subst (λ (st : Stage). IsAmong (if_settled st y.entry (settled_log ledger)) x.entry) (sym e ∙ ap (λ (q : Noted). q.stage) same) (inl (ap (λ (q : Noted). q.entry) same))

@@ -6,6 +6,7 @@ pub mod Slots
 pub mod Fitting
 pub mod Noting
 pub mod Listing
+pub mod Changes
 pub mod Making
 pub mod Keeper
 pub mod Ordered

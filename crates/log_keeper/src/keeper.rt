@@ -14,7 +14,10 @@ ghost use Rattle.log_keeper.specs.Making.{settled_by, stored_if, made_part};
 ghost use Rattle.log_keeper.specs.Keeper.{keeping_of, HasListsFor, HasListFor, numbered, begun_in, appending, latched_if, held_by, is_held, all_latched_if, HasRoomIn, KeepsSlots, free_places};
 ghost use Rattle.log_keeper.specs.Ordered.{IsOrdered};
 ghost use Rattle.log_keeper.specs.Listing.{gates_in};
+ghost use Rattle.log_keeper.specs.Ledger.{AreNewestFirst};
+ghost use Rattle.log_keeper.specs.Changes.{all_records, IsLastChange};
 
+use crate::changes::last_change;
 use crate::ledger::{Entry, Progress, close_listed, come_to, note};
 use crate::listing::count_gates;
 use crate::slots::{NOBODY, Part, Slot};
@@ -279,6 +282,13 @@ impl LogKeeper {
         ensures { result ≡ length (gates_in transaction false (keeping_of self.now).ledger) }
     {
         count_gates(self.ledger.as_slice(), transaction, false)
+    }
+
+    /// What the transaction's newest change of the word left: the NEW of its newest update or compensation, None where it has none.
+    pub fn change_of(&self, transaction: u64, word: u64) -> Option<u64>
+        ensures { AreNewestFirst (keeping_of self.now).ledger → IsLastChange transaction word (all_records (keeping_of self.now).ledger) result }
+    {
+        last_change(self.ledger.as_slice(), transaction, word)
     }
 
     /// Takes memory for so many more records. Nothing else changes.

@@ -22,6 +22,7 @@ ghost use Rattle.log_keeper.specs.Laws.{
   LedgersKeep,
 };
 ghost use Rattle.log_keeper.specs.Listing.{GatesAreListed};
+ghost use Rattle.log_keeper.specs.Changes.{ChangesAreSettled};
 ghost use Rattle.log_keeper.specs.Ordered.{OrdersKeep, RunsKeep, PartsSpare};
 ghost use Rattle.log_keeper.specs.Starting.{KeepersStart};
 ghost use Rattle.log_keeper.specs.Events.{
@@ -186,4 +187,9 @@ pub fn all_latches_pass()
 /// The gates that a closing lists for a transaction are those of its records.
 pub fn gates_are_listed()
     ensures { GatesAreListed }
+{}
+
+/// Where all records of a transaction are settled its newest change of a word is that of the settled log.
+pub fn changes_are_settled()
+    ensures { ChangesAreSettled }
 {}

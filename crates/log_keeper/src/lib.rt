@@ -1,6 +1,7 @@
 //! The keeper of the log for several lanes: what is under way in each partition, and what the settled log is meanwhile.
 #![tactic(auto)]
 
+mod changes;
 mod closing;
 mod keeper;
 pub mod laws;
