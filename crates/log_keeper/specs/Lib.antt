@@ -4,6 +4,7 @@ pub mod Logged
 pub mod Laws
 pub mod Slots
 pub mod Fitting
+pub mod Plans
 pub mod Noting
 pub mod Listing
 pub mod Changes

@@ -23,6 +23,7 @@ ghost use Rattle.log_keeper.specs.Laws.{
 };
 ghost use Rattle.log_keeper.specs.Listing.{GatesAreListed};
 ghost use Rattle.log_keeper.specs.Changes.{ChangesAreSettled};
+ghost use Rattle.log_keeper.specs.Plans.{PlansAreShort, PlansAreInside, EventsAreInside, PartsFitLayouts};
 ghost use Rattle.log_keeper.specs.Ordered.{OrdersKeep, RunsKeep, PartsSpare};
 ghost use Rattle.log_keeper.specs.Starting.{KeepersStart};
 ghost use Rattle.log_keeper.specs.Events.{
@@ -192,4 +193,24 @@ pub fn gates_are_listed()
 /// Where all records of a transaction are settled its newest change of a word is that of the settled log.
 pub fn changes_are_settled()
     ensures { ChangesAreSettled }
+{}
+
+/// A part has few events,
+pub fn plans_are_short()
+    ensures { PlansAreShort }
+{}
+
+/// which store in the region,
+pub fn plans_are_inside()
+    ensures { PlansAreInside }
+{}
+
+/// also in the keeper's,
+pub fn events_are_inside()
+    ensures { EventsAreInside }
+{}
+
+/// and fits the layout.
+pub fn parts_fit_layouts()
+    ensures { PartsFitLayouts }
 {}
