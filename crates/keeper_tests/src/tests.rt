@@ -89,3 +89,30 @@ fn closed_records_leave_the_ledger_and_their_buckets_the_chain(
     lanes.release(&rt, 1);
     Ok(())
 }
+
+#[test]
+fn a_transaction_has_its_records_and_its_newest_change(rt: HostRuntime) -> Result<(), Fail> {
+    let alloc = rt.alloc();
+    let mut lanes = Lanes::fresh(&rt, alloc)?;
+    assert!(rt; lanes.latch(&rt, 0, 3));
+    lanes.append(&rt, 0, &[], cell(1, UPDATE))?;
+    assert_eq!(rt; lanes.finish(&rt, 0), 22);
+    assert_eq!(rt; lanes.keeper.change_of(1, 169), Some(5));
+    // also one whose number is drawn
+    let second = Cell {
+        after: 7,
+        ..cell(1, UPDATE)
+    };
+    lanes.append(&rt, 0, &[0], second)?;
+    assert_eq!(rt; lanes.keeper.change_of(1, 169), Some(7));
+    assert_eq!(rt; lanes.keeper.change_of(1, 170), None);
+    assert_eq!(rt; lanes.keeper.change_of(2, 169), None);
+    assert_eq!(rt; lanes.finish(&rt, 0), 22);
+    // the end isn't counted, and is no change
+    lanes.append(&rt, 0, &[0, 1], cell(1, END))?;
+    assert_eq!(rt; lanes.finish(&rt, 0), 22);
+    assert_eq!(rt; lanes.keeper.records_of(1), 2);
+    assert_eq!(rt; lanes.keeper.records_of(2), 0);
+    assert_eq!(rt; lanes.keeper.change_of(1, 169), Some(7));
+    Ok(())
+}
