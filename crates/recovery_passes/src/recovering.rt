@@ -40,6 +40,28 @@ pub enum Unfinished {
     NoMemory,
 }
 
+impl From<CheckFault> for RecoverFault {
+    ghost from_gives = { λ fault refusal. refusal ≡ recover_fault fault };
+
+    fn from(fault: CheckFault) -> Self {
+        match fault {
+            CheckFault::Unsound(found) => RecoverFault::Unsound(found),
+            CheckFault::NoMemory => RecoverFault::NoMemory,
+        }
+    }
+}
+
+impl From<Unfinished> for RecoverFault {
+    ghost from_gives = { λ fault whole. whole ≡ unfinished_fault fault };
+
+    fn from(fault: Unfinished) -> Self {
+        match fault {
+            Unfinished::Stopped => RecoverFault::Stopped,
+            Unfinished::NoMemory => RecoverFault::NoMemory,
+        }
+    }
+}
+
 impl From<NoMemory> for Unfinished {
     ghost from_gives = { λ _ fault. fault ≡ Unfinished.NoMemory };
 
@@ -57,26 +79,6 @@ pub struct Recovered {
     pub losers: List<u64>,
     /// How many events were made.
     pub events: u64,
-}
-
-// What a refused check is to a recovery.
-fn refused(fault: CheckFault) -> RecoverFault
-    ensures { result ≡ recover_fault fault }
-{
-    match fault {
-        CheckFault::Unsound(found) => RecoverFault::Unsound(found),
-        CheckFault::NoMemory => RecoverFault::NoMemory,
-    }
-}
-
-// What a recovery that wasn't finished is to one that checks first.
-fn fault_of(fault: Unfinished) -> RecoverFault
-    ensures { result ≡ unfinished_fault fault }
-{
-    match fault {
-        Unfinished::Stopped => RecoverFault::Stopped,
-        Unfinished::NoMemory => RecoverFault::NoMemory,
-    }
 }
 
 // Makes room for the stores of a recovery, and for so many more.
@@ -171,13 +173,7 @@ pub fn recover<D: Device>(alloc: Global, device: &mut D) -> Result<Recovered, Re
     ensures owed { IsRecovery (D.cells device.old) (D.counts device.old) (D.cells device.new) (D.counts device.new) result }
     ensures header { KeepsHeader (D.cells device.old) (D.cells device.new) }
 {
-    let read = match read_sound(alloc, device) {
-        Ok(read) => read,
-        Err(fault) => return Err(refused(fault)),
-    };
-    let done = match recover_read(alloc, device, read.layout, read.records.as_slice()) {
-        Ok(done) => done,
-        Err(fault) => return Err(fault_of(fault)),
-    };
+    let read = read_sound(alloc, device)?;
+    let done = recover_read(alloc, device, read.layout, read.records.as_slice())?;
     Ok(done)
 }
