@@ -16,12 +16,12 @@ use Rattle.recovery_passes.specs.declared.recovering.Recovered.{Recovered}
 use Rattle.recovery_passes.specs.Recovered.{IsFinished, StandsAsIn, AreFew}
 use Rattle.recovery_passes.specs.declared.recovering.Unfinished.{Unfinished}
 use Rattle.recovery_passes.specs.declared.recovering.Unfinished.TheVariants as unfinished
-use Rattle.recovery_passes.specs.Recovery.{HasFinished, HasHalted as HasPaused, KeepsHeader, IsRecoveryOfSound}
+use Rattle.recovery_passes.specs.Recovery.{HasFinished, HasHalted, KeepsHeader, IsRecoveryOfSound}
 use Rattle.migration.specs.Fits.{Fit}
 use Rattle.migration.specs.Plan.{migration_plan}
 use Rattle.migration.specs.Migrated.{in_format, AreMigrated, IsOnTheWay, second}
 use Rattle.migration.specs.Laws.{Stands}
-use Rattle.migration.specs.Owed.{MigratesAs, own_events, AreFewInAll, HasStoppedAt, HasMigrated, HasHalted}
+use Rattle.migration.specs.Owed.{MigratesAs, own_events, AreFewInAll, HasStoppedAt, HasMigrated, HasBrokenOff}
 use Rattle.migration.specs.Outcomes.{IsMigrationOfSound}
 use Rattle.migration.proofs.Headers.{newest_image, each_settled, stands_finished, image_header, shape_header, fit_header, image_migrates}
 use Rattle.migration.proofs.Standing.{way_stands, way_shape, not_second, high_is_read}
@@ -64,8 +64,8 @@ module _ (kinds : List Kind) (before : Region) (counts : Counts) (settled : AreS
 
   -- ---- a stop of the recovery
 
-  pub recovery_halted : (after : Region) (counts_after : Counts) → KeepsHeader before after → HasPaused before counts after counts_after →
-      HasHalted kinds before counts after counts_after
+  pub recovery_halted : (after : Region) (counts_after : Counts) → KeepsHeader before after → HasHalted before counts after counts_after →
+      HasBrokenOff kinds before counts after counts_after
   recovery_halted after counts_after header h = record {
     sound = sound;
     each = λ words image. (let there = h.stands words image in image_migrates before after settled enough header words image kinds fit few there.0 there.1);
@@ -162,7 +162,7 @@ module _ (kinds : List Kind) (before : Region) (counts : Counts) (settled : AreS
       -- ---- a stop of the plan
 
       pub plan_halted : (after : Region) (counts_after : Counts) → HasStoppedAt (migration_plan kinds) mid counts_mid after counts_after →
-          HasHalted kinds before counts after counts_after
+          HasBrokenOff kinds before counts after counts_after
       plan_halted after counts_after stop = record {
         sound = sound;
         each = λ words image. migrates words (subst (λ (r : Region). IsImage words r) stop.cells image);

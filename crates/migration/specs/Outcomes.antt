@@ -14,16 +14,16 @@ use Rattle.recovery_passes.specs.declared.recovering.Unfinished.{Unfinished}
 use Rattle.recovery_passes.specs.declared.recovering.Unfinished.TheVariants as unfinished
 use Rattle.recovery_passes.specs.Recovery.{IsUntouched}
 use Rattle.migration.specs.Fits.{IsLineFault}
-use Rattle.migration.specs.Owed.{HasMigrated, HasHalted}
+use Rattle.migration.specs.Owed.{HasMigrated, HasBrokenOff}
 
 -- what is owed where the words are known to be sound, and the kinds to fit
 abbrev pub IsMigrationOfSound : List Kind → Region → Counts → Region → Counts → Result ℕ Unfinished → Type 0
 IsMigrationOfSound kinds before counts after counts_after (Ok events) = HasMigrated kinds before counts after counts_after events
-IsMigrationOfSound kinds before counts after counts_after (Err unfinished.Stopped) = HasHalted kinds before counts after counts_after
+IsMigrationOfSound kinds before counts after counts_after (Err unfinished.Stopped) = HasBrokenOff kinds before counts after counts_after
 IsMigrationOfSound kinds before counts after counts_after (Err unfinished.NoMemory) = IsUntouched before counts after counts_after
 
 -- The words break this rule first, or they are sound and the kinds don't fit them; which was found before any event.
-pub record IsRefused (kinds : List Kind) (before : Region) (counts : Counts) (after : Region) (counts_after : Counts) (found : ImageFault) : Type 0 where
+pub record HasRefused (kinds : List Kind) (before : Region) (counts : Counts) (after : Region) (counts_after : Counts) (found : ImageFault) : Type 0 where
   pub why : IsFirstFault before.size (newest_at before) (rule_number found.rule) found.address ⊎
       (IsSound before.size (newest_at before) × IsLineFault (newest_at before) kinds (rule_number found.rule) found.address)
   pub untouched : IsUntouched before counts after counts_after
@@ -31,6 +31,6 @@ pub record IsRefused (kinds : List Kind) (before : Region) (counts : Counts) (af
 -- what is owed of words of any kind
 abbrev pub IsMigration : List Kind → Region → Counts → Region → Counts → Result ℕ RecoverFault → Type 0
 IsMigration kinds before counts after counts_after (Ok events) = HasMigrated kinds before counts after counts_after events
-IsMigration kinds before counts after counts_after (Err (Unsound found)) = IsRefused kinds before counts after counts_after found
-IsMigration kinds before counts after counts_after (Err Stopped) = HasHalted kinds before counts after counts_after
+IsMigration kinds before counts after counts_after (Err (Unsound found)) = HasRefused kinds before counts after counts_after found
+IsMigration kinds before counts after counts_after (Err Stopped) = HasBrokenOff kinds before counts after counts_after
 IsMigration kinds before counts after counts_after (Err NoMemory) = IsUntouched before counts after counts_after

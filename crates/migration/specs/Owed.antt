@@ -70,7 +70,7 @@ pub record HasMigrated (kinds : List Kind) (before : Region) (counts : Counts) (
 
 -- The device stopped: the words were sound, and each image may be migrated in their place. They weren't recovered already in format 2, and the
 -- events up to the stop and one more are no more than a migration may take.
-pub record HasHalted (kinds : List Kind) (before : Region) (counts : Counts) (after : Region) (counts_after : Counts) : Type 0 where
+pub record HasBrokenOff (kinds : List Kind) (before : Region) (counts : Counts) (after : Region) (counts_after : Counts) : Type 0 where
   pub sound : IsSound before.size (newest_at before)
   pub each : EachMigratesAs kinds (newest_at before) after
   pub stopped : counts_after ≡ record counts { events = counts.budget; stopped = counted counts.stopped }

@@ -6,7 +6,6 @@ ghost use Rattle.persist_model.specs.Sound.{IsSound};
 ghost use Rattle.region_layout.specs.Layout.{layout_shape};
 ghost use Rattle.recovery_run.specs.Reached.{newest_at};
 ghost use Rattle.recovery_passes.specs.Reading.{IsLogRead};
-ghost use Rattle.recovery_passes.specs.Refusals.{recover_fault, unfinished_fault};
 ghost use Rattle.migration.specs.Fits.{Fit};
 ghost use Rattle.migration.specs.Outcomes.{IsMigrationOfSound, IsMigration};
 
@@ -15,7 +14,7 @@ use crate::making::make_events;
 use crate::plan::{EVENTS, STORES};
 use bucket_log::Placed;
 use lane_traits::{Device, Done};
-use recovery_passes::{CheckFault, RecoverFault, Unfinished, read_sound, recover_reserving};
+use recovery_passes::{RecoverFault, Unfinished, read_sound, recover_reserving};
 use region_layout::{Kind, Layout};
 use std::alloc::Global;
 
@@ -48,26 +47,6 @@ pub fn migrate_read<D: Device>(
     }
 }
 
-// What a refused check is to a migration.
-fn refused(fault: CheckFault) -> RecoverFault
-    ensures { result ≡ recover_fault fault }
-{
-    match fault {
-        CheckFault::Unsound(found) => RecoverFault::Unsound(found),
-        CheckFault::NoMemory => RecoverFault::NoMemory,
-    }
-}
-
-// What a migration that wasn't finished is to one that checks first.
-fn fault_of(fault: Unfinished) -> RecoverFault
-    ensures { result ≡ unfinished_fault fault }
-{
-    match fault {
-        Unfinished::Stopped => RecoverFault::Stopped,
-        Unfinished::NoMemory => RecoverFault::NoMemory,
-    }
-}
-
 /// Recovers a device whose words are settled, and makes them words of format 2 with these kinds. It answers how many events
 /// it made.
 ///
@@ -84,16 +63,11 @@ pub fn migrate<D: Device>(
     ensures owed { IsMigration kinds.now (D.cells device.old) (D.counts device.old) (D.cells device.new) (D.counts device.new) result }
     ensures size { (D.cells device.new).size ≡ (D.cells device.old).size }
 {
-    let read = match read_sound(alloc, device) {
-        Ok(read) => read,
-        Err(fault) => return Err(refused(fault)),
-    };
+    let read = read_sound(alloc, device)?;
     match wrong_line(device, kinds) {
         Some(found) => return Err(RecoverFault::Unsound(found)),
         None => {}
     }
-    match migrate_read(alloc, device, read.layout, read.records.as_slice(), kinds) {
-        Ok(events) => Ok(events),
-        Err(fault) => Err(fault_of(fault)),
-    }
+    let events = migrate_read(alloc, device, read.layout, read.records.as_slice(), kinds)?;
+    Ok(events)
 }
