@@ -16,3 +16,6 @@ pub mod Promising
 pub mod StoreRows
 pub mod PushedCells
 pub mod Moving
+pub mod Owing
+pub mod Starting
+pub mod Flying

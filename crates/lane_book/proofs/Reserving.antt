@@ -16,19 +16,19 @@ saturated_both most a b s n t e f g = omega (arith, e, f, g)
 
 -- ---- one lane is another
 
-ne_of_less : (m l : ℕ) → m < l → m ≢ l
+pub ne_of_less : (m l : ℕ) → m < l → m ≢ l
 ne_of_less m l lt e = omega (arith, lt, e)
 
-less_of_ne : (m l : ℕ) → l < suc m → m ≢ l → l < m
+pub less_of_ne : (m l : ℕ) → l < suc m → m ≢ l → l < m
 less_of_ne zero zero lt ne = absurd (ne refl)
 less_of_ne zero (suc l) lt ne = absurd (omega (arith, lt))
 less_of_ne (suc m) zero lt ne = omega arith
 less_of_ne (suc m) (suc l) lt ne = let below = less_of_ne m l (omega (arith, lt)) (λ e. ne (ap (λ (n : ℕ). suc n) e)) in omega (arith, below)
 
-sums_meet : (a b s t x y : ℕ) → a ≡ b → s + x ≡ t + y → (a + s) + x ≡ (b + t) + y
+pub sums_meet : (a b s t x y : ℕ) → a ≡ b → s + x ≡ t + y → (a + s) + x ≡ (b + t) + y
 sums_meet a b s t x y e f = omega (arith, e, f)
 
-sums_pass : (a b s t x y : ℕ) → a + x ≡ b + y → s ≡ t → (a + s) + x ≡ (b + t) + y
+pub sums_pass : (a b s t x y : ℕ) → a + x ≡ b + y → s ≡ t → (a + s) + x ≡ (b + t) + y
 sums_pass a b s t x y e f = omega (arith, e, f)
 
 module _ {E : Type 0} (book : Book E) (l : ℕ) (lane : Lane E) (touched : Option ℕ) (lt : l < length book.lanes.items) (partitions p : ℕ) where

@@ -1,12 +1,13 @@
 -- What holds of the book between its calls.
-use Rattle.std.specs.Prelude.{◌≡◌, ℕ, ◌+◌, ◌<◌, ◌≤◌, Bool, true, false, List, [], ◌∷◌, ◌++◌, length, take, get_or}
+use Rattle.std.specs.Prelude.{◌≡◌, ℕ, ◌+◌, ◌<◌, ◌≤◌, Bool, true, false, List, [], ◌∷◌, ◌++◌, length, take, get_or, None}
 use Rattle.lane_traits.specs.declared.draft.WordWrite.{WordWrite}
 use Rattle.lane_types.specs.declared.call.Phase.TheVariants.{Out}
+use Rattle.offset_alloc.specs.declared.Standing.{Standing}
 use Rattle.lane_book.specs.declared.lane.Lane.{Lane}
 use Rattle.lane_book.specs.declared.lane.Doing.{Doing}
 use Rattle.lane_book.specs.declared.lane.Point.{Point}
 use Rattle.lane_book.specs.declared.book.Book.{Book}
-use Rattle.lane_book.specs.FacesOf.{lane_at, front, standing_writes, standing_gives}
+use Rattle.lane_book.specs.FacesOf.{lane_at, idle_lane, front, standing_writes, standing_gives}
 use Rattle.lane_book.specs.Lanes.{no_point}
 use Rattle.lane_book.specs.Steps.{AreWithin}
 
@@ -83,3 +84,16 @@ pub record IsLane {E : Type 0} (entries : ℕ) (lane : Lane E) : Type 0 where
 
 abbrev pub IsBook : {E : Type 0} → Book E → Type 0
 IsBook book = (l : ℕ) → IsLane (length book.history.items) (lane_at book l)
+
+-- So many lanes before their first calls, with these blocks and sorts, and no commit.
+pub record IsFresh {E : Type 0} (lanes : ℕ) (blocks : List Standing) (sorts : List ℕ) (book : Book E) : Type 0 where
+  pub many : length book.lanes.items ≡ lanes
+  pub idle : (l : ℕ) → lane_at book l ≡ idle_lane
+  pub none_joined : book.history.items ≡ []
+  pub none_flies : book.flight.items ≡ []
+  pub room : 16 ≤ book.flight.capacity
+  pub stand : book.blocks ≡ blocks
+  pub common : book.sorts ≡ sorts
+  pub next : book.next_transaction ≡ 1
+  pub going : book.stopped ≡ false
+  pub untouched : book.touched ≡ None

@@ -170,7 +170,8 @@ idle_lane = record {
   point = 0;
   entry = None;
   entered = false;
-  owed_stores = 0;
+  owed_events = 0;
+  owed_records = 0;
   promised = 0;
 }
 

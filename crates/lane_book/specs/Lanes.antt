@@ -1,5 +1,5 @@
 -- What becomes of a lane, and of the book with it.
-use Rattle.std.specs.Prelude.{◌≡◌, ℕ, ◌+◌, ◌≤◌, true, false, Option, Some, None, List, [], ◌∷◌, ◌++◌, length, take, get_or}
+use Rattle.std.specs.Prelude.{◌≡◌, ℕ, ◌+◌, ◌-◌, ◌≤◌, true, false, Option, Some, None, List, [], ◌∷◌, ◌++◌, length, take, get_or}
 use Rattle.std.specs.Vec.{with_item}
 use Rattle.lane_traits.specs.declared.draft.WordWrite.{WordWrite}
 use Rattle.lane_types.specs.declared.face.Entry.{Entry}
@@ -74,8 +74,20 @@ left reply lane = record (closed reply lane) {
   ended = false;
   point = 0;
   entry = None;
-  owed_stores = 0;
+  owed_events = 0;
+  owed_records = 0;
 }
+
+-- its call may make so many events at the most, and begin to append so many records
+abbrev pub owing : {E : Type 0} → ℕ → ℕ → Lane E → Lane E
+owing events records lane = record lane { owed_events = events; owed_records = records }
+
+-- one of them is made
+abbrev pub paid_event : {E : Type 0} → Lane E → Lane E
+paid_event lane = owing (lane.owed_events - 1) lane.owed_records lane
+
+abbrev pub paid_record : {E : Type 0} → Lane E → Lane E
+paid_record lane = owing lane.owed_events (lane.owed_records - 1) lane
 
 -- the transaction with this number has begun, on these structures, behind so many entries
 abbrev pub begun_lane : {E : Type 0} → ℕ → ℕ → ℕ → Lane E → Lane E

@@ -10,3 +10,5 @@ pub mod Refusals
 pub mod Reserved
 pub mod Appends
 pub mod Stores
+pub mod Owed
+pub mod Flights

@@ -21,6 +21,8 @@ pub struct Book<E> {
     pub lanes: Vec<Lane<E>>,
     /// The commits, in order.
     pub history: Stock<Entry<E>>,
+    /// Where the commits in flight are put when the book is finished.
+    pub flight: Stock<Entry<E>>,
     /// Whose each block is.
     pub blocks: Blocks,
     /// What the deeds of all commits have in common.

@@ -72,8 +72,10 @@ pub struct Lane<E> {
     /// The entry of the commit in progress, until it joins the history, and whether it has.
     pub entry: Option<Entry<E>>,
     pub entered: bool,
-    /// The stores that the call in progress may still make.
-    pub owed_stores: u64,
+    /// The events that the call in progress may make at the most; each may want a place of the device.
+    pub owed_events: u64,
+    /// The records that it may still begin to append, each of which wants a place of the ledger.
+    pub owed_records: u64,
     /// The cells of the call in progress, beyond those of an undo.
     pub promised: u64,
 }
@@ -210,7 +212,8 @@ impl<E: Drop> Lane<E> {
         self.ended = false;
         self.point = 0;
         self.entry = None;
-        self.owed_stores = 0;
+        self.owed_events = 0;
+        self.owed_records = 0;
     }
 
     /// The entry of the commit is handed out, and the commit goes on.

@@ -4,14 +4,18 @@
 mod appends;
 mod asks;
 mod book;
+mod flights;
+mod fresh;
 mod lane;
 mod locks;
+mod owed;
 mod refusals;
 mod reserved;
 mod stock;
 mod stores;
 
 pub use book::Book;
+pub use flights::Commits;
 pub use lane::{Doing, Lane, Point};
 pub use locks::Holder;
 pub use stock::Stock;

@@ -1,4 +1,4 @@
-ghost use Rattle.std.specs.Prelude.{◌≡◌, ◌+◌, ◌<◌, ◌≤◌, ◌^◌, true, length, IsNone, IfSome, None};
+ghost use Rattle.std.specs.Prelude.{◌≡◌, ◌+◌, ◌-◌, ◌<◌, ◌≤◌, ◌^◌, true, length, IsNone, IfSome, None};
 ghost use Rattle.lane_types.specs.Heaps.{has_bit};
 ghost use Rattle.lane_book.specs.FacesOf.{lane_at};
 ghost use Rattle.lane_book.specs.Lanes.{begun_lane, with_lane};
@@ -64,7 +64,7 @@ impl<E: Deed> Book<E> {
     fn take_structures(&mut self, lane: u32, set: u8) -> Stepped
         requires lane { lane < length self.old.lanes.items }
         requires few { (lane_at self.old lane).begun < 2 ^ 59 }
-        requires numbers { self.old.next_transaction < 2 ^ 63 }
+        requires numbers { self.old.next_transaction < 2 ^ 64 - 1 }
         ensures is { self.new ≡ record (with_lane self.old lane (begun_lane self.old.next_transaction set (length self.old.history.items) (lane_at self.old lane)) None) {
           next_transaction = self.old.next_transaction + 1;
         } }
@@ -85,7 +85,7 @@ impl<E: Deed> Book<E> {
         requires calling { (lane_at self.old lane).phase ≡ Phase.Calling }
         requires doing { (lane_at self.old lane).doing ≡ Doing.Begin set }
         requires few { (lane_at self.old lane).begun < 2 ^ 59 }
-        requires numbers { self.old.next_transaction < 2 ^ 63 }
+        requires numbers { self.old.next_transaction < 2 ^ 64 - 1 }
         requires book { IsBook self.old }
         ensures ends { BeginEnds self.old self.new lane set result }
         ensures step { StepsIf (IsLawfulFrom E.meaning self.old.history.items) E.meaning self.old self.new lane result }

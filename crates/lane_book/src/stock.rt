@@ -2,7 +2,7 @@ ghost use Rattle.std.specs.Prelude.{◌≡◌, ◌+◌, ◌<◌, ◌≤◌, [], 
 ghost use Rattle.std.specs.Option.{option_copied};
 ghost use Rattle.lane_book.specs.Stocked.{Stocked, with_items};
 
-use persist_model::NoMemory;
+use persist_model::{List, NoMemory};
 use std::alloc::Global;
 use std::marker::Model;
 
@@ -41,6 +41,13 @@ impl<T> Stock<T> {
         ensures { result.now ≡ self.now.items }
     {
         self.items.as_slice()
+    }
+
+    /// The items as a list, without memory.
+    pub fn into_list(self) -> List<T>
+        ensures { result ≡ self.items }
+    {
+        List::from_vec(self.items)
     }
 
     /// Makes room for so many more. Nothing else changes, and no room is lost.
