@@ -1,8 +1,6 @@
 use crate::{Broken, sound};
-use persist_model::Look;
 use region_layout::{Layout, Policy};
 use std::alloc::Global;
-use std::process::Abort;
 use std::test::Fail;
 use test_regions::Row;
 
@@ -23,11 +21,7 @@ const HASH: &[(u32, u64)] = &[
 ];
 
 // What the check says of that region with some of its words changed.
-fn verdict(
-    rt: &impl Abort,
-    alloc: Global,
-    changes: &[(u32, u64)],
-) -> Result<Result<(), Broken>, Fail> {
+fn verdict(alloc: Global, changes: &[(u32, u64)]) -> Result<Result<(), Broken>, Fail> {
     let layout = Layout {
         policy: Policy::Force,
         cells: 1,
@@ -37,24 +31,19 @@ fn verdict(
         format: 1,
         partitions: 1,
     };
-    let mut pairs = Vec::from_slice(alloc, changes)?;
-    for pair in HASH {
-        pairs.push(*pair)?;
-    }
-    let row = Row::of(alloc, pairs.as_slice(), 352)?;
-    assert_eq!(rt; row.size(), 352);
+    let row = Row::changed(alloc, HASH, changes, 352)?;
     Ok(sound(alloc, &row, layout, 0))
 }
 
 #[test]
 fn each_kind_of_broken_map(rt: HostRuntime) -> Result<(), Fail> {
-    assert_eq!(rt; verdict(&rt, rt.alloc(), &[])?, Ok(()));
+    assert_eq!(rt; verdict(rt.alloc(), &[])?, Ok(()));
     assert_eq!(rt;
-        verdict(&rt, rt.alloc(), &[(101, 0), (112, 0), (128, 0), (144, 0)])?,
+        verdict(rt.alloc(), &[(101, 0), (112, 0), (128, 0), (144, 0)])?,
         Ok(())
     );
     assert_eq!(rt;
-        verdict(&rt, rt.alloc(), &[(120, 0), (128, 0), (144, 0)])?,
+        verdict(rt.alloc(), &[(120, 0), (128, 0), (144, 0)])?,
         Ok(())
     );
     let broken: [(&str, &[(u32, u64)]); 20] = [
@@ -81,7 +70,7 @@ fn each_kind_of_broken_map(rt: HostRuntime) -> Result<(), Fail> {
     ];
     for (what, changes) in broken {
         assert_eq!(rt;
-            verdict(&rt, rt.alloc(), changes)?,
+            verdict(rt.alloc(), changes)?,
             Err(Broken::At(96)),
             "{what}"
         );
