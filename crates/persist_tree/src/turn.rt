@@ -9,13 +9,11 @@ use crate::hang::hang;
 use lane_traits::Words;
 use persist_model::NoMemory;
 
+/// The block that comes above the others, or want of memory.
+type Topmost = Result<u32, NoMemory>;
+
 // The right child of the left child comes above both.
-fn turn_twice_right<W: Words>(
-    words: &mut W,
-    at: u32,
-    left: u32,
-    right: u32,
-) -> Result<u32, NoMemory>
+fn turn_twice_right<W: Words>(words: &mut W, at: u32, left: u32, right: u32) -> Topmost
     requires turn { CanTurn (W.space words.old) at left right left }
     requires inner { 0 < (W.space words.old).word (left + 4) }
     ensures { IfOk result (Turns turned_twice_right (W.space words.old) (W.space words.new) at left right) }
@@ -29,7 +27,7 @@ fn turn_twice_right<W: Words>(
 }
 
 // The left child of the right child comes above both.
-fn turn_twice_left<W: Words>(words: &mut W, at: u32, left: u32, right: u32) -> Result<u32, NoMemory>
+fn turn_twice_left<W: Words>(words: &mut W, at: u32, left: u32, right: u32) -> Topmost
     requires turn { CanTurn (W.space words.old) at left right right }
     requires inner { 0 < (W.space words.old).word (right + 3) }
     ensures { IfOk result (Turns turned_twice_left (W.space words.old) (W.space words.new) at left right) }
@@ -43,12 +41,7 @@ fn turn_twice_left<W: Words>(words: &mut W, at: u32, left: u32, right: u32) -> R
 }
 
 /// The left side is higher by two: it comes down by one.
-pub(crate) fn lower_left<W: Words>(
-    words: &mut W,
-    at: u32,
-    left: u32,
-    right: u32,
-) -> Result<u32, NoMemory>
+pub(crate) fn lower_left<W: Words>(words: &mut W, at: u32, left: u32, right: u32) -> Topmost
     requires { CanTurn (W.space words.old) at left right left }
     ensures { IfOk result (Turns lowered_left (W.space words.old) (W.space words.new) at left right) }
 {
@@ -64,12 +57,7 @@ pub(crate) fn lower_left<W: Words>(
 }
 
 /// The right side is higher by two: it comes down by one.
-pub(crate) fn lower_right<W: Words>(
-    words: &mut W,
-    at: u32,
-    left: u32,
-    right: u32,
-) -> Result<u32, NoMemory>
+pub(crate) fn lower_right<W: Words>(words: &mut W, at: u32, left: u32, right: u32) -> Topmost
     requires { CanTurn (W.space words.old) at left right right }
     ensures { IfOk result (Turns lowered_right (W.space words.old) (W.space words.new) at left right) }
 {
