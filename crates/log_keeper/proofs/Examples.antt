@@ -1,9 +1,12 @@
 -- The definitions on small literal data: two partitions of four buckets with one cell each. Transaction 1 has an update at 40 and an end at 56, and
 -- transaction 2 a deletion at 72; lane 5 appends an update of transaction 3 in the second partition, at 104.
-use Rattle.std.proofs.Common.{◌≡◌, ◌≢◌, inl, inr, ℕ, zero, suc, ◌<◌, ◌==◌, if◌then◌else◌, true, false, List, [], ◌∷◌, length, Some, slice_get, refl, sym, subst, arith}
+use Rattle.std.proofs.Common.{◌≡◌, ◌≢◌, inl, inr, ℕ, zero, suc, ◌<◌, ◌==◌, if◌then◌else◌, true, false, List, [], ◌∷◌, length, Some, slice_get, refl, sym, ap, subst, arith}
 use Rattle.persist_model.specs.declared.event.Event.TheVariants.{PStore, Fence}
+use Rattle.persist_model.specs.Chain.{view}
 use Rattle.persist_model.specs.Records.{Record, Log, IsAmong}
-use Rattle.persist_model.specs.Shape.{Shape}
+use Rattle.persist_model.specs.Region.{Words}
+use Rattle.persist_model.specs.Shape.{Shape, log_words}
+use Rattle.atomic_list.specs.Rules.{IsList, at_rest}
 use Rattle.atomic_list.specs.declared.plans.Remove.{Remove}
 use Rattle.bucket_log.specs.declared.append.Place.{Place}
 use Rattle.bucket_log.specs.declared.scanning.Placed.{Placed}
@@ -15,12 +18,12 @@ use Rattle.log_keeper.specs.Ledger.{Drawn, Stored, Settled, Noted, AreNewestFirs
 use Rattle.log_keeper.specs.Logged.{Keeping, resting, plan_in, waiting}
 use Rattle.log_keeper.specs.Making.{made_part}
 use Rattle.log_keeper.specs.Keeper.{appending, begun_in, latched_if, all_latched_if}
-use Rattle.log_keeper.specs.Ordered.{IsOrdered, stage_behind}
+use Rattle.log_keeper.specs.Ordered.{IsOrdered, IsNotedAt, stage_behind, FitsRuns}
 use Rattle.log_keeper.specs.Starting.{found, starting, AreOldestFirst}
 use Rattle.log_keeper.specs.Events.{IsNextEvent, IsLastEvent}
 use Rattle.log_keeper.specs.Newest.{AreOver}
-use Rattle.log_keeper.specs.Needs.{need_at}
-use Rattle.log_keeper.specs.Rooms.{IsElsewhere}
+use Rattle.log_keeper.specs.Needs.{need_at, IsComing}
+use Rattle.log_keeper.specs.Rooms.{IsRoomAt, IsElsewhere, HasRooms}
 
 abbrev shape : Shape
 shape = record { policy = 1; cells = 1; buckets = 8; blocks = 16; structures = 1; format = 2; partitions = 2 }
@@ -132,6 +135,56 @@ stages = (refl, refl)
 waited : (waiting (behind 3) 1 ≡ 5) × (waiting (behind 3) 0 ≡ NOBODY) × (waiting (behind 10) 1 ≡ NOBODY)
 waited = (refl, refl, refl)
 
+-- an append is no other part, and tells its record
+rests_no : (there : Place) (r : Record) → rests ≡ appends there r → ⊥
+rests_no there r e = cc
+
+no_rest : (there : Place) (r : Record) → appends there r ≡ rests → ⊥
+no_rest there r e = cc
+
+no_closing : (there : Place) (r : Record) (gates ends checkpoints : List ℕ) → appends there r ≡ closes gates ends checkpoints → ⊥
+no_closing there r gates ends checkpoints e = cc
+
+no_taking_back : (there : Place) (r : Record) (gates : List ℕ) → appends there r ≡ takes_back gates → ⊥
+no_taking_back there r gates e = cc
+
+no_drop : (there : Place) (r : Record) (bucket : Remove) → appends there r ≡ drops bucket → ⊥
+no_drop there r bucket e = cc
+
+same_record : (a b : Place) (r x : Record) → appends a r ≡ appends b x → r ≡ x
+same_record a b r x e = cc
+
+-- the append's record is noted as drawn behind three events, and all others are settled
+fits : FitsRuns shape (behind 3)
+fits = record { noted = noted_there; apart = apart_there; others = others_there }
+  where
+    noted_there : (p : ℕ) (there : Place) (r : Record) → p < 2 → ((behind 3).runs p).part ≡ appends there r →
+        IsNotedAt (behind 3).ledger r (stage_behind (plan_in shape (behind 3) p) ((behind 3).runs p).made)
+    noted_there zero there r lt e = absurd (rests_no there r e)
+    noted_there (suc zero) there r lt e = (record { lane = 5; entry = later; stage = Drawn }, inl refl, same_record place there later r e, refl)
+    noted_there (suc (suc p)) there r lt e = absurd (omega (arith, lt))
+
+    apart_there : (p q : ℕ) (a b : Place) (r x : Record) → p < 2 → q < 2 → q ≢ p → ((behind 3).runs p).part ≡ appends a r → ((behind 3).runs q).part ≡ appends b x → x.lsn ≢ r.lsn
+    apart_there zero q a b r x below lt ne e f = absurd (rests_no a r e)
+    apart_there (suc zero) zero a b r x below lt ne e f = absurd (rests_no b x f)
+    apart_there (suc zero) (suc zero) a b r x below lt ne e f = absurd (ne refl)
+    apart_there (suc zero) (suc (suc q)) a b r x below lt ne e f = absurd (omega (arith, lt))
+    apart_there (suc (suc p)) q a b r x below lt ne e f = absurd (omega (arith, below))
+
+    others_there : (x : Noted) → IsAmong (behind 3).ledger x → x.stage ≢ Settled → (p : ℕ) × (p < 2) × (there : Place) × (((behind 3).runs p).part ≡ appends there x.entry)
+    others_there x (inl e) ne = (1, omega arith, place, ap (λ (z : Noted). appends place z.entry) (sym e))
+    others_there x (inr (inl e)) ne = absurd (ne (ap (λ (z : Noted). z.stage) e))
+    others_there x (inr (inr (inl e))) ne = absurd (ne (ap (λ (z : Noted). z.stage) e))
+    others_there x (inr (inr (inr (inl e)))) ne = absurd (ne (ap (λ (z : Noted). z.stage) e))
+    others_there x (inr (inr (inr (inr m)))) ne = absurd m
+
+-- with nothing under way no record may be drawn
+unfit : FitsRuns shape (record { ledger = drawn; runs = λ p. resting; holder = λ p. 17 }) → ⊥
+unfit k = (let h = k.others (record { lane = 5; entry = later; stage = Drawn }) (inl refl) drawn_unsettled in rests_no h.2 later h.3)
+  where
+    drawn_unsettled : Drawn ≡ Settled → ⊥
+    drawn_unsettled e = cc
+
 -- ---- the other parts
 
 -- a lane begins this part in the first partition, whose latch lane 3 holds
@@ -206,6 +259,28 @@ rising = (omega arith, placed_above, (omega arith, (λ y m. absurd m), tt))
 falling : AreOldestFirst 3 (placed 56 2 ∷ placed 40 1 ∷ []) → ⊥
 falling k = (let lt = k.1 (placed 40 1) (inl refl) in absurd (omega (arith, lt)))
 
+-- ---- records that may come
+
+abbrev old_log : Log
+old_log = deletion ∷ end ∷ update ∷ []
+
+-- transaction 3 has no record in it
+not_third : (x : Record) → IsAmong old_log x → x.transaction ≡ 3 → ⊥
+not_third x (inl e) third = (let two = ap (λ (y : Record). y.transaction) e in omega (arith, two, third))
+not_third x (inr (inl e)) third = (let one = ap (λ (y : Record). y.transaction) e in omega (arith, one, third))
+not_third x (inr (inr (inl e))) third = (let one = ap (λ (y : Record). y.transaction) e in omega (arith, one, third))
+not_third x (inr (inr (inr m))) third = absurd m
+
+coming : IsComing shape old_log later
+coming = record {
+  running = record { running = λ x m is. not_third x m is.1; one_part = λ x m is. absurd (not_third x m is.0) };
+  newer = λ x m lt. not_third x m;
+}
+
+-- a record doesn't come before a newer one of its own transaction
+overtaken : IsComing shape old_log (record_of_kind 1 80 2 2) → ⊥
+overtaken k = k.newer deletion (inl refl) (omega arith) refl
+
 -- ---- needs, and records that are over
 
 -- a first update needs its compensation, the rollback record and the end, and a second one its compensation
@@ -241,3 +316,33 @@ too_early k = elim (k.whole end (inl refl) (inr (inl (inl refl))) refl update (i
 -- a store to TO_REMOVE of the second partition, or to its gate at 104, is elsewhere for the first one alone
 elsewhere : IsElsewhere shape 0 Fence × (IsElsewhere shape 1 (PStore 25 96) → ⊥) × (IsElsewhere shape 1 (PStore 104 4) → ⊥)
 elsewhere = (tt, (λ k. k (inl (omega arith, omega arith))), (λ k. k (inr (96, (4, omega arith, omega arith, refl), omega arith, omega arith))))
+
+-- the second partition's list has the bucket at 96 alone, with this gate
+abbrev listed : ℕ → Words
+listed gate = λ a. if a == 21 then 96 else (if a == 22 then 96 else (if a == 104 then gate else 0))
+
+list_is : (gate : ℕ) → IsList shape 1 (view 1 (log_words shape (listed gate))) (96 ∷ [])
+list_is gate = at_rest (record {
+  to_append = refl;
+  to_remove = refl;
+  last_tail = inl refl;
+  buckets = ((4, omega arith, omega arith, refl), tt);
+  no_repeats = (tt, tt);
+  links = (refl, omega arith, refl);
+  links_back = (refl, tt);
+  tail = refl;
+})
+
+-- with a closed gate all four cells are free, and with an open one those of the other buckets
+rooms : IsRoomAt shape 1 (listed 0) 4 × IsRoomAt shape 1 (listed 4) 3
+rooms = ((96 ∷ [], list_is 0, refl), (96 ∷ [], list_is 4, refl))
+
+-- up to the store of the gate the room is the settled one
+has_rooms : HasRooms shape (record { log = old_log; words = λ a. 0; room = λ q. 4 }) (behind 8) 1 (listed 0)
+has_rooms = record {
+  resting = λ e. absurd (no_rest place later e);
+  waiting = λ there r e few. rooms.0;
+  closing = λ gates ends checkpoints e. absurd (no_closing place later gates ends checkpoints e);
+  taking_back = λ gates e. absurd (no_taking_back place later gates e);
+  dropping = λ bucket e. absurd (no_drop place later bucket e);
+}
