@@ -1,6 +1,6 @@
 -- The definitions on small literal data: two partitions of four buckets with one cell each. Transaction 1 has an update at 40 and an end at 56, and
 -- transaction 2 a deletion at 72; lane 5 appends an update of transaction 3 in the second partition, at 104.
-use Rattle.std.proofs.Common.{◌≡◌, ◌≢◌, inl, inr, ℕ, zero, suc, ◌<◌, ◌==◌, if◌then◌else◌, true, false, List, [], ◌∷◌, length, Some, slice_get, refl, sym, ap, subst, arith}
+use Rattle.std.proofs.Common.{◌≡◌, ◌≢◌, inl, inr, ℕ, zero, suc, ◌<◌, ◌==◌, if◌then◌else◌, true, false, List, [], ◌∷◌, length, Some, None, slice_get, refl, sym, ap, subst, arith}
 use Rattle.persist_model.specs.declared.event.Event.TheVariants.{PStore, Fence}
 use Rattle.persist_model.specs.Chain.{view}
 use Rattle.persist_model.specs.Records.{Record, Log, IsAmong}
@@ -16,6 +16,8 @@ use Rattle.log_keeper.specs.declared.slots.TheConstants.{NOBODY}
 use Rattle.log_keeper.specs.Parts.{LogPart, rests, appends, closes, takes_back, drops, plan_of, waits_for}
 use Rattle.log_keeper.specs.Ledger.{Drawn, Stored, Settled, Noted, AreNewestFirst, settled_log, newest_log, with_stage, left_open, without}
 use Rattle.log_keeper.specs.Logged.{Keeping, resting, plan_in, waiting}
+use Rattle.log_keeper.specs.Changes.{all_records, left_behind, IsLastChange, AreSettledOf}
+use Rattle.log_keeper.specs.Plans.{events_of, IsInside}
 use Rattle.log_keeper.specs.Making.{made_part}
 use Rattle.log_keeper.specs.Keeper.{appending, begun_in, latched_if, all_latched_if}
 use Rattle.log_keeper.specs.Ordered.{IsOrdered, IsNotedAt, stage_behind, FitsRuns}
@@ -103,6 +105,22 @@ ordered = record { newest_first = old_first; below = old_below 4 (omega arith) }
 unordered : IsOrdered (record { ledger = old; runs = λ p. resting; holder = λ p. NOBODY }) 3 → ⊥
 unordered k = (let lt = k.below (noted deletion) (inl refl) in absurd (omega (arith, lt)))
 
+-- ---- a transaction's newest change of a word
+
+-- a deletion is no change
+changes : (left_behind 1 169 (all_records drawn) None ≡ Some 5) × (left_behind 1 170 (all_records drawn) None ≡ None) × (left_behind 2 169 (all_records drawn) None ≡ None)
+changes = (refl, refl, refl)
+
+-- that of the record whose number is drawn is none of the settled log's
+drawn_change : (left_behind 3 169 (all_records drawn) None ≡ Some 5) × (left_behind 3 169 (settled_log drawn) None ≡ None)
+drawn_change = (refl, refl)
+
+unsettled_change : AreSettledOf 3 drawn → ⊥
+unsettled_change settled = let e : Drawn ≡ Settled = settled (record { lane = 5; entry = later; stage = Drawn }) (inl refl) (refl, λ five. absurd (omega (arith, five))) in cc
+
+not_none : IsLastChange 3 169 (all_records drawn) None → ⊥
+not_none none = none later (inl refl) (inl refl, refl, refl)
+
 -- ---- an append
 
 abbrev place : Place
@@ -115,6 +133,14 @@ idle = record { ledger = old; runs = λ p. resting; holder = λ p. if p == 1 the
 abbrev behind : ℕ → Keeping
 behind zero = appending 1 place later idle
 behind (suc n) = made_part shape 1 (behind n)
+
+-- how many events parts have
+counts : (events_of shape (appends place later) ≡ 10) × (events_of shape (closes (40 ∷ 72 ∷ []) [] []) ≡ 3) × (events_of shape (closes [] (56 ∷ []) []) ≡ 2) × (events_of shape (takes_back []) ≡ 0)
+counts = (refl, refl, refl, refl)
+
+-- word 104 is one of 105 words, and none of 104
+inside : IsInside 105 (PStore 104 4) × (IsInside 104 (PStore 104 4) → ⊥) × IsInside 0 Fence
+inside = (omega arith, (λ lt. omega (arith, lt)), tt)
 
 -- of its ten events the ninth is the store of the gate
 append_events : (length (plan_in shape (behind 0) 1) ≡ 10) × (slice_get (plan_in shape (behind 0) 1) 8 ≡ Some (PStore 104 4))
