@@ -1,5 +1,5 @@
 -- An ask changes the asking lane's face alone.
-use Rattle.std.proofs.Common.{◌≡◌, ℕ, zero, suc, ◌-◌, drop, ◌<◌, List, [], ◌∷◌, ◌++◌, length, take, map, refl, sym, ◌∙◌, ap, subst, arith, Option, Some}
+use Rattle.std.proofs.Common.{◌≡◌, ℕ, zero, suc, ◌+◌, ◌-◌, drop, ◌<◌, ◌≤◌, List, [], ◌∷◌, ◌++◌, length, take, map, refl, sym, ◌∙◌, ap, subst, arith, Option, Some}
 use Rattle.std.specs.Prelude.{Result, Ok, Err, OnOk, OnErr}
 use Rattle.std.proofs.Math.ListN.{length-append}
 use Rattle.std.specs.List.{filter}
@@ -15,9 +15,9 @@ use Rattle.lane_book.specs.declared.lane.Lane.{Lane}
 use Rattle.lane_book.specs.declared.lane.Point.{Point}
 use Rattle.lane_book.specs.declared.lane.Doing.{Doing}
 use Rattle.lane_book.specs.declared.book.Book.{Book}
-use Rattle.lane_book.specs.Lanes.{asked_lane, refused_lane, IsRoomier, with_more, with_lane}
+use Rattle.lane_book.specs.Lanes.{asked_lane, refused_lane, IsRoomier, HasRoom, has_room, with_more, with_lane}
 use Rattle.lane_book.specs.FacesOf.{lane_at, face_of, call_of, front, waiting_writes, waiting_gives, held_after, point_of, begun_heap, is_of}
-use Rattle.lane_book.specs.Steps.{Asks, AreWithin, IsReady, AsksFor, IsPlain}
+use Rattle.lane_book.specs.Steps.{Asks, AreWithin, IsReady, AsksFor, IsAskedOf, IsAskedIn, IsRoomierIn, IsPlain, points_of}
 use Rattle.lane_book.proofs.Faces.{lane_at-same, lane_at-other, take_before}
 use Rattle.lane_book.proofs.WordRows.{take_whole}
 
@@ -142,6 +142,36 @@ pub roomier_book : {E : Type 0} (book : Book E) (l : ℕ) (read later : Lane E) 
 roomier_book book l read later touched lt is roomier =
     roomier_row book l later touched lt (subst (λ (x : Lane _). IsRoomier x later) is roomier)
 
+-- ---- the book then
+
+pub asked_in : {E : Type 0} (book : Book E) (l : ℕ) (read later : Lane E) (call : Call E) (doing : Doing) (writes : List WordWrite) (gives : List ℕ) (promised : ℕ) →
+    l < length book.lanes.items → read ≡ lane_at book l → IsAskedOf read call doing writes gives promised later →
+    IsAskedIn call doing writes gives promised book (with_lane book l later book.touched) l
+asked_in book l read later call doing writes gives promised lt is asked = record {
+  is = ap (λ (x : Lane _). with_lane book l x book.touched) (sym (lane_at-same book l later book.touched lt));
+  lane = subst (λ (x : Lane _). IsAskedOf (lane_at book l) call doing writes gives promised x) (sym (lane_at-same book l later book.touched lt))
+      (subst (λ (x : Lane _). IsAskedOf x call doing writes gives promised later) is asked);
+}
+
+-- the block that a take picks is set too
+pub taken_in : {E : Type 0} (book : Book E) (l : ℕ) (read later : Lane E) (call : Call E) (doing : Doing) (writes : List WordWrite) (gives : List ℕ) (promised : ℕ) (set blocks : List Standing) →
+    l < length book.lanes.items → read ≡ lane_at book l → set ≡ blocks → IsAskedOf read call doing writes gives promised later →
+    IsAskedIn call doing writes gives promised (record book { blocks = blocks }) (record (with_lane book l later book.touched) { blocks = set }) l
+taken_in book l read later call doing writes gives promised set blocks lt is same asked =
+    subst (λ (bs : List Standing). IsAskedIn call doing writes gives promised (record book { blocks = bs }) (record (with_lane book l later book.touched) { blocks = set }) l) same
+    (asked_in (record book { blocks = set }) l read later call doing writes gives promised lt is asked)
+
+pub roomier_in : {E : Type 0} (book : Book E) (l : ℕ) (read later : Lane E) → l < length book.lanes.items → read ≡ lane_at book l → IsRoomier read later →
+    IsRoomierIn book (with_lane book l later book.touched) l
+roomier_in book l read later lt is roomier = record {
+  is = ap (λ (x : Lane _). with_lane book l x book.touched) (sym (lane_at-same book l later book.touched lt));
+  lane = subst (λ (x : Lane _). IsRoomier (lane_at book l) x) (sym (lane_at-same book l later book.touched lt))
+      (subst (λ (x : Lane _). IsRoomier x later) is roomier);
+}
+
+same_entry : {E : Type 0} (lane later : Lane E) → IsRoomier lane later → later.entry ≡ lane.entry
+same_entry lane later roomier = ap (λ (x : Lane _). x.entry) roomier.is
+
 -- ---- a call that adds nothing to the lists
 
 append_nil : {X : Type 0} (xs : List X) → xs ≡ xs ++ []
@@ -173,7 +203,7 @@ plain_told mine entry writes _ _ IsPlain.checkpoint = refl
 plain_told mine entry writes _ _ IsPlain.savepoint = refl
 plain_told mine entry writes _ _ IsPlain.rollback = refl
 
-pub plain_asks : {E : Type 0} (lane mid later : Lane E) (call : Call E) (doing : Doing) → IsPlain call doing → IsRoomier lane mid →
+plain_asks : {E : Type 0} (lane mid later : Lane E) (call : Call E) (doing : Doing) → IsPlain call doing → IsRoomier lane mid →
     later ≡ asked_lane call doing 0 mid → AsksFor lane call doing [] [] 0 later
 plain_asks lane mid later call doing plain roomier is =
     subst (λ (x : Lane _). AsksFor lane call doing [] [] 0 x) (sym is)
@@ -187,6 +217,34 @@ plain_asks lane mid later call doing plain roomier is =
       waiting_given = no_gives call doing plain;
       told = λ mine. plain_told mine lane.entry mid.writes.items call doing plain;
     })
+
+few_points : (doing : Doing) (points capacity : ℕ) → points + 1 ≤ capacity → points + points_of doing ≤ capacity
+few_points doing points capacity room = elim doing as (λ d. points + points_of d ≤ capacity) [
+  | Doing.Nothing ↦ omega (arith, room)
+  | Doing.Begin set ↦ omega (arith, room)
+  | Doing.Read a ↦ omega (arith, room)
+  | Doing.Write a v ↦ omega (arith, room)
+  | Doing.Take s b ↦ omega (arith, room)
+  | Doing.Give b ↦ omega (arith, room)
+  | Doing.Commit ↦ omega (arith, room)
+  | Doing.Abort ↦ omega (arith, room)
+  | Doing.Checkpoint ↦ omega (arith, room)
+  | Doing.Batch n ↦ omega (arith, room)
+  | Doing.Savepoint ↦ room
+  | Doing.RollbackTo n ↦ omega (arith, room)
+]
+
+pub plain_asked : {E : Type 0} (lane mid later : Lane E) (call : Call E) (doing : Doing) → IsPlain call doing → IsRoomier lane mid → HasRoom 0 0 0 1 mid →
+    later ≡ asked_lane call doing 0 mid → IsAskedOf lane call doing [] [] 0 later
+plain_asked lane mid later call doing plain roomier room is =
+    subst (λ (x : Lane _). IsAskedOf lane call doing [] [] 0 x) (sym is) record {
+      asks = plain_asks lane mid (asked_lane call doing 0 mid) call doing plain roomier refl;
+      entry_stays = same_entry lane mid roomier;
+      gates_stay = roomier.gates;
+      updates_fit = room.updates_fit;
+      gates_fit = room.gates_fit;
+      points_fit = few_points doing (length mid.points.items) mid.points.capacity room.points_fit;
+    }
 
 -- ---- a take, a batch and a commit
 
@@ -225,7 +283,7 @@ commit_asks lane e = record {
   told = λ mine. refl;
 }
 
-pub batch_asks : {E : Type 0} (lane mid later : Lane E) (call : Call E) (writes : List WordWrite) (promised : ℕ) → call ≡ Call.Batch writes → IsRoomier lane mid →
+batch_asks : {E : Type 0} (lane mid later : Lane E) (call : Call E) (writes : List WordWrite) (promised : ℕ) → call ≡ Call.Batch writes → IsRoomier lane mid →
     later ≡ asked_lane call (Doing.Batch (length writes)) promised (with_more writes mid) → AsksFor lane call (Doing.Batch (length writes)) writes [] promised later
 batch_asks lane mid later call writes promised batch roomier is =
     subst (λ (x : Lane _). AsksFor lane call (Doing.Batch (length writes)) writes [] promised x) (sym is)
@@ -242,3 +300,16 @@ batch_asks lane mid later call writes promised batch roomier is =
   where
     more : mid.writes.items ++ writes ≡ lane.writes.items ++ writes
     more = ap (λ (ws : List WordWrite). ws ++ writes) roomier.writes
+
+pub batch_asked : {E : Type 0} (lane mid later : Lane E) (call : Call E) (writes : List WordWrite) (promised : ℕ) → call ≡ Call.Batch writes → IsRoomier lane mid →
+    HasRoom (length writes) 0 0 0 mid → later ≡ asked_lane call (Doing.Batch (length writes)) promised (with_more writes mid) →
+    IsAskedOf lane call (Doing.Batch (length writes)) writes [] promised later
+batch_asked lane mid later call writes promised batch roomier room is =
+    subst (λ (x : Lane _). IsAskedOf lane call (Doing.Batch (length writes)) writes [] promised x) (sym is) record {
+      asks = batch_asks lane mid (asked_lane call (Doing.Batch (length writes)) promised (with_more writes mid)) call writes promised batch roomier refl;
+      entry_stays = same_entry lane mid roomier;
+      gates_stay = roomier.gates;
+      updates_fit = room.updates_fit;
+      gates_fit = room.gates_fit;
+      points_fit = room.points_fit;
+    }

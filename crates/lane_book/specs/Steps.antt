@@ -14,7 +14,7 @@ use Rattle.lane_book.specs.declared.lane.Lane.{Lane}
 use Rattle.lane_book.specs.declared.lane.Doing.{Doing}
 use Rattle.lane_book.specs.declared.lane.Point.{Point}
 use Rattle.lane_book.specs.declared.book.Book.{Book}
-use Rattle.lane_book.specs.Lanes.{asked_lane, point_at}
+use Rattle.lane_book.specs.Lanes.{asked_lane, point_at, with_lane, IsRoomier, has_room}
 use Rattle.lane_book.specs.FacesOf.{lane_at, faces_of, is_of, front, begun_heap, words_of, waiting_writes, waiting_gives, call_of}
 
 -- The lane's face changes by the row of the answer, and no other does.
@@ -132,6 +132,31 @@ pub record AsksFor {E : Type 0} (lane : Lane E) (call : Call E) (doing : Doing) 
   pub waiting : waiting_writes doing ≡ length writes
   pub waiting_given : waiting_gives doing ≡ length gives
   pub told : (mine : List (Entry E)) → call_of mine later.entry later.writes.items doing ≡ Some call
+
+-- a savepoint wants a place for its point
+abbrev pub points_of : Doing → ℕ
+points_of Doing.Savepoint = 1
+points_of _ = 0
+
+-- Beside that its entry and gates are as they were, and there is room for what the call puts into the lists: an update for each
+-- new write, a gate for each new give, and a savepoint.
+pub record IsAskedOf {E : Type 0} (lane : Lane E) (call : Call E) (doing : Doing) (writes : List WordWrite) (gives : List ℕ) (promised : ℕ) (later : Lane E) : Type 0 where
+  pub asks : AsksFor lane call doing writes gives promised later
+  pub entry_stays : later.entry ≡ lane.entry
+  pub gates_stay : later.gates.items ≡ lane.gates.items
+  pub updates_fit : has_room (length writes) later.updates
+  pub gates_fit : has_room (length gives) later.gates
+  pub points_fit : has_room (points_of doing) later.points
+
+-- In the book the lane alone is another.
+pub record IsAskedIn {E : Type 0} (call : Call E) (doing : Doing) (writes : List WordWrite) (gives : List ℕ) (promised : ℕ) (book later : Book E) (l : ℕ) : Type 0 where
+  pub is : later ≡ with_lane book l (lane_at later l) book.touched
+  pub lane : IsAskedOf (lane_at book l) call doing writes gives promised (lane_at later l)
+
+-- In the book the lane alone is another, whose lists may have more room.
+pub record IsRoomierIn {E : Type 0} (book later : Book E) (l : ℕ) : Type 0 where
+  pub is : later ≡ with_lane book l (lane_at later l) book.touched
+  pub lane : IsRoomier (lane_at book l) (lane_at later l)
 
 -- the call, and what the lane is about in it, where it adds no write and no give
 pub data IsPlain {E : Type 0} : Call E → Doing → Type 0 where

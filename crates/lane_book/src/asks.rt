@@ -4,7 +4,7 @@ ghost use Rattle.lane_types.specs.Asks as Asks;
 ghost use Rattle.lane_book.specs.Lanes.{asked_lane, refused_lane, IsRoomier, HasRoom, has_room, with_more, with_lane};
 ghost use Rattle.lane_book.specs.Entries.{entry_of, committing, disowned, writes_of_entry, AreBlocks};
 ghost use Rattle.lane_book.specs.FacesOf.{lane_at};
-ghost use Rattle.lane_book.specs.Steps.{Asks, AsksFor, IsPlain};
+ghost use Rattle.lane_book.specs.Steps.{Asks, IsAskedOf, IsAskedIn, IsRoomierIn, IsPlain};
 ghost use Rattle.lane_book.specs.Books.{IsBook};
 ghost use Rattle.lane_book.specs.Appends.{ReservesNeed};
 ghost use Rattle.lane_book.specs.declared.lane.Doing.TheVariants as Doing;
@@ -166,7 +166,7 @@ impl<E: Deed> Lane<E> {
     /// A call that adds no write and no give.
     fn ask_plain(&mut self, call: &Call<E>, doing: Doing) -> Result<(), NoMemory>
         requires { IsPlain call.now doing }
-        ensures ok { OnOk result (AsksFor self.old call.now doing [] [] 0 self.new) }
+        ensures ok { OnOk result (IsAskedOf self.old call.now doing [] [] 0 self.new) }
         ensures err { OnErr result (IsRoomier self.old self.new) }
     {
         self.reserve(0, 0, 0, 1)?;
@@ -175,7 +175,7 @@ impl<E: Deed> Lane<E> {
     }
 
     fn ask_write(&mut self, a: u32, v: u64) -> Result<(), NoMemory>
-        ensures ok { OnOk result (AsksFor self.old (Call.Write a v) (Doing.Write a v) (record { address = a; value = v } ∷ []) [] 2 self.new) }
+        ensures ok { OnOk result (IsAskedOf self.old (Call.Write a v) (Doing.Write a v) (record { address = a; value = v } ∷ []) [] 2 self.new) }
         ensures err { OnErr result (IsRoomier self.old self.new) }
     {
         self.reserve(1, 0, 0, 0)?;
@@ -190,7 +190,7 @@ impl<E: Deed> Lane<E> {
     /// The block that was picked, whose owner word stands at this address.
     fn ask_take(&mut self, structure: u32, block: u32, a: u32) -> Result<(), NoMemory>
         requires { structure < 8 }
-        ensures ok { OnOk result (AsksFor self.old (Call.Take structure) (Doing.Take structure block) (record { address = a; value = structure + 1 } ∷ []) [] 2 self.new) }
+        ensures ok { OnOk result (IsAskedOf self.old (Call.Take structure) (Doing.Take structure block) (record { address = a; value = structure + 1 } ∷ []) [] 2 self.new) }
         ensures err { OnErr result (IsRoomier self.old self.new) }
     {
         self.reserve(1, 0, 1, 0)?;
@@ -204,7 +204,7 @@ impl<E: Deed> Lane<E> {
     }
 
     fn ask_give(&mut self, block: u32) -> Result<(), NoMemory>
-        ensures ok { OnOk result (AsksFor self.old (Call.Give block) (Doing.Give block) [] (block ∷ []) 1 self.new) }
+        ensures ok { OnOk result (IsAskedOf self.old (Call.Give block) (Doing.Give block) [] (block ∷ []) 1 self.new) }
         ensures err { OnErr result (IsRoomier self.old self.new) }
     {
         self.reserve(0, 1, 0, 0)?;
@@ -228,7 +228,7 @@ impl<E: Deed> Lane<E> {
         requires call { call.now ≡ Call.Batch writes.now }
         requires few { k ≤ 16 }
         requires short { length writes.now < 2 ^ 32 }
-        ensures ok { OnOk result (AsksFor self.old call.now (Doing.Batch (length writes.now)) writes.now [] (2 * length writes.now + k) self.new) }
+        ensures ok { OnOk result (IsAskedOf self.old call.now (Doing.Batch (length writes.now)) writes.now [] (2 * length writes.now + k) self.new) }
         ensures err { OnErr result (IsRoomier self.old self.new) }
     {
         let count = writes.len();
@@ -275,7 +275,9 @@ impl<E: Deed> Book<E> {
         requires phase { (lane_at self.old lane).phase ≡ Asks.wanted call.now }
         ensures ok { OnOk result (Asks (Asks.asked call.now) self.old self.new lane) }
         ensures reserved { OnOk result ((k : ℕ) → ReservesNeed k call.now self.old self.new lane) }
+        ensures asked { OnOk result (IsAskedIn call.now doing [] [] 0 self.old self.new lane) }
         ensures err { OnErr result (Asks (λ face. face) self.old self.new lane) }
+        ensures roomier { OnErr result (IsRoomierIn self.old self.new lane) }
         ensures book { IsBook self.new }
     {
         self.lanes[lane as usize].ask_plain(call, doing)
@@ -288,7 +290,9 @@ impl<E: Deed> Book<E> {
         requires book { IsBook self.old }
         ensures ok { OnOk result (Asks (Asks.asked (Call.Write a v)) self.old self.new lane) }
         ensures reserved { OnOk result ((k : ℕ) → ReservesNeed k (Call.Write a v) self.old self.new lane) }
+        ensures asked { OnOk result (IsAskedIn (Call.Write a v) (Doing.Write a v) (record { address = a; value = v } ∷ []) [] 2 self.old self.new lane) }
         ensures err { OnErr result (Asks (λ face. face) self.old self.new lane) }
+        ensures roomier { OnErr result (IsRoomierIn self.old self.new lane) }
         ensures book { IsBook self.new }
     {
         self.lanes[lane as usize].ask_write(a, v)
@@ -301,7 +305,9 @@ impl<E: Deed> Book<E> {
         requires book { IsBook self.old }
         ensures ok { OnOk result (Asks (Asks.asked (Call.Give block)) self.old self.new lane) }
         ensures reserved { OnOk result ((k : ℕ) → ReservesNeed k (Call.Give block) self.old self.new lane) }
+        ensures asked { OnOk result (IsAskedIn (Call.Give block) (Doing.Give block) [] (block ∷ []) 1 self.old self.new lane) }
         ensures err { OnErr result (Asks (λ face. face) self.old self.new lane) }
+        ensures roomier { OnErr result (IsRoomierIn self.old self.new lane) }
         ensures book { IsBook self.new }
     {
         self.lanes[lane as usize].ask_give(block)
@@ -322,7 +328,10 @@ impl<E: Deed> Book<E> {
         requires block { block < length self.old.blocks }
         ensures ok { OnOk result (Asks (Asks.asked (Call.Take structure)) self.old self.new lane) }
         ensures reserved { OnOk result ((k : ℕ) → ReservesNeed k (Call.Take structure) self.old self.new lane) }
+        ensures asked { OnOk result (IsAskedIn (Call.Take structure) (Doing.Take structure block) (record { address = a; value = structure + 1 } ∷ []) [] 2
+            (record self.old { blocks = slice_set self.old.blocks block (Standing.Owned structure) }) self.new lane) }
         ensures err { OnErr result (Asks (λ face. face) self.old self.new lane) }
+        ensures roomier { OnErr result (IsRoomierIn self.old self.new lane) }
         ensures blocks { OnOk result (self.new.blocks ≡ slice_set self.old.blocks block (Standing.Owned structure)) }
         ensures stay { OnErr result (self.new.blocks ≡ self.old.blocks) }
         ensures book { IsBook self.new }
@@ -352,7 +361,9 @@ impl<E: Deed> Book<E> {
         requires short { length writes.now < 2 ^ 32 }
         ensures ok { OnOk result (Asks (Asks.asked call.now) self.old self.new lane) }
         ensures reserved { OnOk result (1 ≤ k → ReservesNeed k call.now self.old self.new lane) }
+        ensures asked { OnOk result (IsAskedIn call.now (Doing.Batch (length writes.now)) writes.now [] (2 * length writes.now + k) self.old self.new lane) }
         ensures err { OnErr result (Asks (λ face. face) self.old self.new lane) }
+        ensures roomier { OnErr result (IsRoomierIn self.old self.new lane) }
         ensures book { IsBook self.new }
     {
         self.lanes[lane as usize].ask_batch(call, writes, k)

@@ -1,7 +1,7 @@
 use Rattle.lane_book.specs.FacesOf.{lane_at}
 use Rattle.std.proofs.Common.{[]}
 use Rattle.lane_book.proofs.Faces.{lane_read}
-use Rattle.lane_book.proofs.Asking.{on_ok, on_err, asked_book, roomier_book}
+use Rattle.lane_book.proofs.Asking.{on_ok, on_err, asked_book, roomier_book, asked_in, roomier_in}
 use Rattle.lane_book.proofs.Keeps.{ready_of, by_result, keeps_asked, keeps_roomier, plain_about}
 use Rattle.lane_book.proofs.Promising.{free_need, plain_free}
 use Rattle.lane_book.proofs.book.Book.ask_plain.Goals as goal
@@ -9,8 +9,8 @@ use Rattle.lane_book.proofs.book.Book.ask_plain.Goals as goal
 pub returns-clause-ok : goal.returns-clause-ok
 returns-clause-ok g c =
     let book = c.args.self.now in
-    on_ok c.ask_plain.result (λ asks. asked_book book c.args.lane c.index_mut.result.now _ book.touched c.args.call.now c.args.doing [] [] 0 c.requires.lane
-    (lane_read book c.args.lane c.index_mut.result.now c.requires.lane c.index_mut.ensures.value) (ready_of _ _ c.requires.nothing (c.requires.book c.args.lane)) asks) c.ask_plain.ensures.ok
+    on_ok c.ask_plain.result (λ asked. asked_book book c.args.lane c.index_mut.result.now _ book.touched c.args.call.now c.args.doing [] [] 0 c.requires.lane
+    (lane_read book c.args.lane c.index_mut.result.now c.requires.lane c.index_mut.ensures.value) (ready_of _ _ c.requires.nothing (c.requires.book c.args.lane)) asked.asks) c.ask_plain.ensures.ok
 
 pub returns-clause-err : goal.returns-clause-err
 returns-clause-err g c =
@@ -23,14 +23,26 @@ returns-clause-book g c =
     let book = c.args.self.now in
     let read = (lane_read book c.args.lane c.index_mut.result.now c.requires.lane c.index_mut.ensures.value) in
     by_result c.ask_plain.result
-    (λ asks. keeps_asked book c.args.lane c.index_mut.result.now _ book.touched c.args.call.now c.args.doing [] [] 0 c.requires.lane read c.requires.nothing c.requires.book
-    (λ ready here. plain_about _ (lane_at book c.args.lane) _ c.args.call.now c.args.doing 0 c.requires.plain c.requires.phase (c.requires.book c.args.lane) ready here) asks)
+    (λ asked. keeps_asked book c.args.lane c.index_mut.result.now _ book.touched c.args.call.now c.args.doing [] [] 0 c.requires.lane read c.requires.nothing c.requires.book
+    (λ ready here. plain_about _ (lane_at book c.args.lane) _ c.args.call.now c.args.doing 0 c.requires.plain c.requires.phase (c.requires.book c.args.lane) ready here) asked.asks)
     (λ roomier. keeps_roomier book c.args.lane c.index_mut.result.now _ book.touched c.requires.lane read c.requires.book roomier)
     c.ask_plain.ensures.ok c.ask_plain.ensures.err
 
 pub returns-clause-reserved : goal.returns-clause-reserved
 returns-clause-reserved g c =
     let book = c.args.self.now in
-    on_ok c.ask_plain.result (λ asks k. free_need k book c.args.lane c.index_mut.result.now _ book.touched c.args.call.now c.args.doing [] [] c.requires.lane
+    on_ok c.ask_plain.result (λ asked k. free_need k book c.args.lane c.index_mut.result.now _ book.touched c.args.call.now c.args.doing [] [] c.requires.lane
     (lane_read book c.args.lane c.index_mut.result.now c.requires.lane c.index_mut.ensures.value) c.requires.nothing c.requires.book
-    (plain_free c.args.call.now c.args.doing c.requires.plain) asks) c.ask_plain.ensures.ok
+    (plain_free c.args.call.now c.args.doing c.requires.plain) asked.asks) c.ask_plain.ensures.ok
+
+pub returns-clause-asked : goal.returns-clause-asked
+returns-clause-asked g c =
+    let book = c.args.self.now in
+    on_ok c.ask_plain.result (λ asked. asked_in book c.args.lane c.index_mut.result.now _ c.args.call.now c.args.doing [] [] 0 c.requires.lane
+    (lane_read book c.args.lane c.index_mut.result.now c.requires.lane c.index_mut.ensures.value) asked) c.ask_plain.ensures.ok
+
+pub returns-clause-roomier : goal.returns-clause-roomier
+returns-clause-roomier g c =
+    let book = c.args.self.now in
+    on_err c.ask_plain.result (λ roomier. roomier_in book c.args.lane c.index_mut.result.now _ c.requires.lane
+    (lane_read book c.args.lane c.index_mut.result.now c.requires.lane c.index_mut.ensures.value) roomier) c.ask_plain.ensures.err
