@@ -100,6 +100,24 @@ fn check_words<W: Look>(rt: &impl Abort, words: &W, expected: &[(u32, u64)]) {
     }
 }
 
+// What both lists are behind their repairs.
+const REPAIRED: &[(u32, u64)] = &[
+    (8, 32),
+    (9, 48),
+    (10, 0),
+    (32, 48),
+    (33, 0),
+    (48, 0),
+    (49, 32),
+    (21, 96),
+    (22, 144),
+    (25, 0),
+    (96, 128),
+    (128, 144),
+    (129, 96),
+    (145, 128),
+];
+
 #[test]
 fn two_lists_are_repaired_and_emptied(rt: HostRuntime) -> Result<(), Fail> {
     let alloc = rt.alloc();
@@ -109,32 +127,7 @@ fn two_lists_are_repaired_and_emptied(rt: HostRuntime) -> Result<(), Fail> {
         Done::Stopped => return Err("stopped".into()),
         Done::Made => {}
     }
-    check_words(
-        &rt,
-        &region,
-        &[
-            (8, 32),
-            (9, 48),
-            (10, 0),
-            (32, 48),
-            (33, 0),
-            (48, 0),
-            (49, 32),
-        ],
-    );
-    check_words(
-        &rt,
-        &region,
-        &[
-            (21, 96),
-            (22, 144),
-            (25, 0),
-            (96, 128),
-            (128, 144),
-            (129, 96),
-            (145, 128),
-        ],
-    );
+    check_words(&rt, &region, REPAIRED);
     assert_eq!(rt; drop_closed(&mut region, layout, 1), Done::Made);
     check_words(
         &rt,
@@ -160,32 +153,7 @@ fn stop_and_repair(rt: &impl Abort, alloc: Global, stop: u64, pick: Pick) -> Res
     let mut region = cut.into_inner();
     region.restart(pick);
     assert_eq!(rt; repair_both(&mut region, layout), Done::Made);
-    check_words(
-        rt,
-        &region,
-        &[
-            (8, 32),
-            (9, 48),
-            (10, 0),
-            (32, 48),
-            (33, 0),
-            (48, 0),
-            (49, 32),
-        ],
-    );
-    check_words(
-        rt,
-        &region,
-        &[
-            (21, 96),
-            (22, 144),
-            (25, 0),
-            (96, 128),
-            (128, 144),
-            (129, 96),
-            (145, 128),
-        ],
-    );
+    check_words(rt, &region, REPAIRED);
     Ok(())
 }
 
