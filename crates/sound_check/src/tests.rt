@@ -47,23 +47,9 @@ const TWO_PARTS: [(u32, u64); 15] = [
     (109, 7),
 ];
 
-// The value that is named last for an address, or 0.
-fn value_at(a: u32, words: Words, other: u64) -> u64 {
-    let mut value = other;
-    for (at, new) in words {
-        if *at == a {
-            value = *new;
-        }
-    }
-    value
-}
-
 // What is answered for these words: the number of the rule and its address, or twice 0.
-fn verdict_of(alloc: Global, words: Vec<u64>) -> Result<(u32, u32), Fail> {
-    if words.len() >= 4_294_967_296 {
-        return Err("large".into());
-    }
-    match check(alloc, &Row::new(words)) {
+fn verdict_of(alloc: Global, words: &Row) -> Result<(u32, u32), Fail> {
+    match check(alloc, words) {
         Ok(_) => Ok((0, 0)),
         Err(CheckFault::Unsound(found)) => Ok((found.rule.number(), found.address)),
         Err(CheckFault::NoMemory) => Err("memory".into()),
@@ -72,11 +58,7 @@ fn verdict_of(alloc: Global, words: Vec<u64>) -> Result<(u32, u32), Fail> {
 
 // What is answered for this many words, with some of them changed.
 fn verdict(alloc: Global, size: u32, words: Words, changes: Words) -> Result<(u32, u32), Fail> {
-    let mut all = Vec::new(alloc);
-    for a in 0..size {
-        all.push(value_at(a, changes, value_at(a, words, 0)))?;
-    }
-    verdict_of(alloc, all)
+    verdict_of(alloc, &Row::changed(alloc, words, changes, size)?)
 }
 
 /// Changes of an image's words, and what is answered then.
@@ -130,9 +112,27 @@ const SOUND: Cases = &[
     (&[(10, 48), (11, 32), (49, 32)], (0, 0)),
     // A bucket that is being taken out has left the chain.
     (&[(12, 48), (49, 32), (32, 48)], (0, 0)),
+    // So is the only one, which HEAD and TAIL name still.
+    (&[(12, 32), (40, 0)], (0, 0)),
 ];
 
-const SOUND_OF_TWO: Cases = &[(&[], (0, 0))];
+const SOUND_OF_TWO: Cases = &[
+    (&[], (0, 0)),
+    // A checkpoint record in each partition.
+    (
+        &[
+            (8, 32),
+            (9, 32),
+            (40, 2),
+            (42, 5),
+            (105, 0),
+            (106, 5),
+            (107, 0),
+            (109, 0),
+        ],
+        (0, 0),
+    ),
+];
 
 #[test]
 fn sound_images_are_accepted(rt: HostRuntime) -> Result<(), Fail> {
@@ -145,9 +145,20 @@ const HEADERS: Cases = &[
     (&[(1, 3), (8, 33)], (2, 1)),
     (&[(2, 4), (8, 33)], (3, 2)),
     (&[(4, 15), (5, 0)], (4, 4)),
+    // A size above its limit, and none.
+    (&[(3, 1025)], (4, 3)),
+    (&[(4, 65537)], (4, 4)),
+    (&[(5, 0)], (4, 5)),
 ];
 
-const HEADERS_OF_TWO: Cases = &[(&[(6, 3)], (4, 6)), (&[(13, 4)], (4, 13))];
+const HEADERS_OF_TWO: Cases = &[
+    (&[(6, 3)], (4, 6)),
+    (&[(6, 0)], (4, 6)),
+    (&[(13, 4)], (4, 13)),
+    (&[(13, 0)], (4, 13)),
+    // A wrong kind behind a right one.
+    (&[(5, 2), (14, 4)], (4, 14)),
+];
 
 #[test]
 fn headers_are_tried_first(rt: HostRuntime) -> Result<(), Fail> {
@@ -203,7 +214,11 @@ fn lists_are_tried_point_by_point(rt: HostRuntime) -> Result<(), Fail> {
 }
 
 const RECORDS: Cases = &[
+    (&[(42, 0)], (7, 40)),
     (&[(42, 9)], (7, 40)),
+    // A word behind the heap, and one below it.
+    (&[(43, 352)], (7, 40)),
+    (&[(43, 95)], (7, 40)),
     // The owner of a root.
     (&[(43, 96)], (7, 40)),
     // Two open gates have the number 1.
@@ -317,7 +332,10 @@ fn logged(alloc: Global, policy: u64, lines: &[Line]) -> Result<(u32, u32), Fail
     for _ in 0..256 {
         all.push(0)?;
     }
-    verdict_of(alloc, all)
+    if all.len() >= 4_294_967_296 {
+        return Err("large".into());
+    }
+    verdict_of(alloc, &Row::new(all))
 }
 
 /// A policy, records, and what is answered for them.
@@ -352,6 +370,13 @@ const UPDATES: Logs = &[
         &[ONE, Line::End(2, 1, 1), Line::Update(3, 1, 162, 0, 6, 1)],
         (8, 72),
     ),
+    // Of an ended transaction no undo point is asked, but its outcome is one of two.
+    (
+        1,
+        &[Line::Update(1, 1, 161, 0, 5, 9), Line::End(2, 1, 1)],
+        (0, 0),
+    ),
+    (1, &[ONE, Line::End(2, 1, 3)], (7, 56)),
 ];
 
 #[test]
@@ -400,6 +425,32 @@ fn compensations_name_the_undo_point(rt: HostRuntime) -> Result<(), Fail> {
     all_logged(&rt, rt.alloc(), COMPENSATIONS)
 }
 
+const TAKEN_BACK: Logs = &[
+    (1, &[ONE, Line::Undo(2, 1, 161, 5, 0, 0)], (0, 0)),
+    // One wrong field of a compensation.
+    (1, &[ONE, Line::Undo(2, 1, 161, 0, 0, 0)], (8, 56)),
+    (1, &[ONE, Line::Undo(2, 1, 161, 5, 4, 0)], (8, 56)),
+    (1, &[ONE, Line::Undo(2, 1, 162, 5, 0, 0)], (8, 56)),
+    (1, &[ONE, Line::Undo(2, 1, 161, 5, 0, 1)], (8, 56)),
+    (1, &[ONE, Line::Undo(2, 1, 416, 5, 0, 0)], (7, 56)),
+    // A second rollback record, and a deletion behind the first.
+    (
+        1,
+        &[ONE, Line::Rollback(2, 1), Line::Rollback(3, 1)],
+        (8, 72),
+    ),
+    (
+        1,
+        &[ONE, Line::Rollback(2, 1), Line::Deletion(3, 1, 176)],
+        (8, 72),
+    ),
+];
+
+#[test]
+fn a_compensation_has_its_updates_fields(rt: HostRuntime) -> Result<(), Fail> {
+    all_logged(&rt, rt.alloc(), TAKEN_BACK)
+}
+
 const OTHER: Line = Line::Update(3, 2, 161, 5, 6, 0);
 
 const GONE: Line = Line::Deletion(1, 1, 176);
@@ -412,6 +463,13 @@ const BARRED: Logs = &[
     // What a committed transaction gives back stays barred.
     (1, &[GONE, Line::End(2, 1, 1), NEW], (8, 72)),
     (1, &[GONE, Line::End(2, 1, 2), NEW], (0, 0)),
+    // A running deletion bars its word from others, and so does an update the deletion.
+    (1, &[GONE, Line::Update(2, 2, 176, 1, 2, 0)], (8, 56)),
+    (
+        1,
+        &[Line::Update(1, 1, 176, 0, 1, 0), Line::Deletion(2, 2, 176)],
+        (8, 56),
+    ),
 ];
 
 #[test]
