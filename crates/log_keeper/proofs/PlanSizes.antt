@@ -19,7 +19,7 @@ use Rattle.bucket_log.specs.PartWords.{IsOnPart}
 use Rattle.bucket_log.proofs.AppendPlans.{appends_have_events}
 use Rattle.bucket_log.proofs.AppendImages.{Each-among}
 use Rattle.bucket_log.proofs.Partitions.{bucket_word_below, part_word_below}
-use Rattle.bucket_log.proofs.Scans.{among_right}
+use Rattle.persist_model.proofs.Among.{among_right}
 use Rattle.log_partition.proofs.Marking.{allowed}
 use Rattle.log_clearing.specs.Plans.{group, closing_plan}
 use Rattle.log_clearing.proofs.PlanEvents.{length-group}
