@@ -136,7 +136,7 @@ module _ (shape : Shape) (base : Words) (s : State) (chains : ℕ → List ℕ) 
   settled_is : (r : Record) → IsAmong (settled_log w.keeping.ledger) r → IsAmong s.log r
   settled_is r m = subst (λ log. IsAmong log r) (sym world.log.logged.records) m
 
-  newest_part : (l : ℕ) (r : Record) → IsAmong (newest_log w.keeping.ledger) r → IsOf (txn_at w.lanes l).number r → part_of shape r.at ≡ (txn_at w.lanes l).part
+  pub newest_part : (l : ℕ) (r : Record) → IsAmong (newest_log w.keeping.ledger) r → IsOf (txn_at w.lanes l).number r → part_of shape r.at ≡ (txn_at w.lanes l).part
   newest_part l r m of = elim (newest_cases w.keeping.ledger r m) [
     | inl k ↦ (world.transactions.each l).in_part r (settled_is r k) of
     | inr k ↦ (
@@ -146,7 +146,7 @@ module _ (shape : Shape) (base : Words) (s : State) (chains : ℕ → List ℕ) 
         lane.stands ∙ sym lane.here ∙ ap (λ j. (txn_at w.lanes j).part) same)
   ]
 
-  newest_known : (r : Record) → IsAmong (newest_log w.keeping.ledger) r → (l : ℕ) × (1 ≤ (txn_at w.lanes l).number) × IsOf (txn_at w.lanes l).number r
+  pub newest_known : (r : Record) → IsAmong (newest_log w.keeping.ledger) r → (l : ℕ) × (1 ≤ (txn_at w.lanes l).number) × IsOf (txn_at w.lanes l).number r
   newest_known r m = elim (newest_cases w.keeping.ledger r m) [
     | inl k ↦ world.transactions.known r (settled_is r k)
     | inr k ↦ (let at = subst IsElsewhereAt k.2 (unsettled_of k.0 k.1 k.3) in let lane = lane_of r at in (w.keeping.holder at.place_of, lane.number, lane.of))
