@@ -113,7 +113,7 @@ impl LogKeeper {
         requires slot { p < length self.old.slots.items }
         requires partition { p < 3 }
         requires fits { FitsLayout layout ((keeping_of self.old).runs p).part }
-        requires few { ((keeping_of self.old).runs p).made < 2 ^ 62 }
+        requires few { ((keeping_of self.old).runs p).made ≤ 2 ^ 63 }
         ensures kept { keeping_of self.new ≡ made_part (layout_shape layout) p (keeping_of self.old) }
         ensures number { self.new.next_lsn ≡ self.old.next_lsn }
         ensures places { free_places self.old ≤ free_places self.new }

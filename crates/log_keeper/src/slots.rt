@@ -154,7 +154,7 @@ impl Slot {
 
     /// The next event was made.
     pub fn advance(&mut self)
-        requires { self.now.made < 2 ^ 62 }
+        requires { self.now.made ≤ 2 ^ 63 }
         ensures { self.new ≡ with_part self.old.part (self.old.made + 1) self.old }
     {
         self.made += 1;

@@ -10,4 +10,4 @@ pub made-requires-clause-fits : goal.made-requires-clause-fits
 made-requires-clause-fits g c = part_of_slot (FitsLayout c.args.self.now.layout) c.args.self.now.keeper.slots.items c.args.p c.index-slot.result.now (omega arith) c.index-slot.ensures (c.fits.ensures c.if-not-fits.false)
 
 pub made-requires-clause-few : goal.made-requires-clause-few
-made-requires-clause-few g c = made_of_slot (2 ^ 62) c.args.self.now.keeper.slots.items c.args.p c.index-slot.result.now (omega arith) c.index-slot.ensures (let few = c.if-slot-gt1000.false in omega (arith, few))
+made-requires-clause-few g c = (let small = made_of_slot (2 ^ 62) c.args.self.now.keeper.slots.items c.args.p c.index-slot.result.now (omega arith) c.index-slot.ensures (let few = c.if-slot-gt1000.false in omega (arith, few)) in omega (arith, small))
