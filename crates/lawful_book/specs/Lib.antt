@@ -1,0 +1,2 @@
+pub mod LawfulBooks
+pub mod Laws
