@@ -1,5 +1,5 @@
 -- A lawful book in which one lane is another, and one whose history has an entry more.
-use Rattle.std.proofs.Common.{◌≡◌, ◌≢◌, ⊎_elim, ℕ, ◌<◌, Bool, true, false, [], ◌∷◌, ◌++◌, length, refl, sym, ◌∙◌, subst, Option, Some, None}
+use Rattle.std.proofs.Common.{◌≡◌, ◌≢◌, ⊎_elim, ℕ, ◌+◌, ◌<◌, ◌≤◌, Bool, true, false, [], ◌∷◌, ◌++◌, length, refl, sym, ◌∙◌, ap, subst, arith, Option, Some, None}
 use Rattle.std.proofs.lemmas.Bool.{false_from_ne_true}
 use Rattle.std.proofs.lemmas.Bool.Decides.{eqb_tells}
 use Rattle.lane_types.specs.declared.face.Entry.{Entry}
@@ -12,6 +12,8 @@ use Rattle.lane_book.specs.declared.book.Book.{Book}
 use Rattle.lane_book.specs.Lanes.{with_lane, with_history}
 use Rattle.lane_book.specs.FacesOf.{lane_at, begun_heap}
 use Rattle.lane_book.specs.Books.{IsBook}
+use Rattle.lane_book.specs.Owed.{sum_of}
+use Rattle.lane_book.proofs.Owing.{sum_with}
 use Rattle.lane_book.proofs.Faces.{lane_at-same, lane_at-other}
 use Rattle.lawful_book.specs.LawfulBooks.{IsPast, IsComing, IsLawfulLane, AreApart, AreOfOne, IsLawfulBook}
 use Rattle.lawful_book.proofs.WordsOf.{data_of}
@@ -30,10 +32,11 @@ by_lane P book l lane touched lt here there k = ⊎_elim (λ same. at_same same.
     at_other : k ≢ l → P k (lane_at (with_lane book l lane touched) k)
     at_other ne = subst (P k) (sym (lane_at-other book l k lane touched ne)) (there k ne)
 
--- the lane holds no structure that it didn't hold, and has no other transaction
+-- the lane holds no structure that it didn't hold, has no other transaction, and has begun as many
 pub record HasNoMore {E : Type 0} (lane later : Lane E) : Type 0 where
   pub sets : (s : ℕ) → has_bit later.held s ≡ true → has_bit lane.held s ≡ true
   pub same : later.transaction ≢ 0 → later.transaction ≡ lane.transaction
+  pub begun : later.begun ≡ lane.begun
 
 both : (t : Bool) → t ≡ true → t ≡ false → ⊥
 both t e f = cc
@@ -57,6 +60,16 @@ module _ {E : Type 0} (book : Book E) (l : ℕ) (lane : Lane E) (touched : Optio
       (λ nl is. mine n n_ne (λ none. some (is ∙ none)) (sym is))
       (λ m m_ne nm. one n m nm some) k nk) i ne
 
+  -- as many transactions have begun in all
+  pub sum_same : lane.begun ≡ (lane_at book l).begun → sum_of (λ (x : Lane E). x.begun) (with_lane book l lane touched) ≡ sum_of (λ (x : Lane E). x.begun) book
+  sum_same same = left_out _ _ _ _ (sum_with (λ (x : Lane E). x.begun) book l lane touched lt) same
+    where
+      left_out : (s t m n : ℕ) → s + m ≡ t + n → n ≡ m → s ≡ t
+      left_out s t m n e f = omega (arith, e, f)
+
+pub some_of : (n m : ℕ) → n ≡ m + 1 → 1 ≤ n
+some_of n m is = omega (arith, is)
+
 -- ---- one lane is another
 
 pub replaces : {E : Type 0} (deeds : Deeds E) (layout : Layout) (base : Base) (book real : Book E) (l : ℕ) (lane : Lane E) (touched : Option ℕ) → l < length book.lanes.items →
@@ -65,11 +78,12 @@ pub replaces : {E : Type 0} (deeds : Deeds E) (layout : Layout) (base : Base) (b
     IsLawfulBook deeds layout base book → IsLawfulBook deeds layout base real
 replaces deeds layout base book real l lane touched lt is no_more keeps lawful = subst (λ (b : Book _). IsLawfulBook deeds layout base b) (sym is) record {
   place = lawful.place;
+  many = lawful.many;
   owners = lawful.owners;
   lawful = lawful.lawful;
   sorts = lawful.sorts;
   past = lawful.past;
-  some = lawful.some;
+  numbers = lawful.numbers ∙ ap (λ (n : ℕ). n + 1) (sym (sum_same book l lane touched lt no_more.begun));
   lanes = by_lane (λ k x. IsLawfulLane deeds base book.history.items book.next_transaction k x) book l lane touched lt (keeps (lawful.lanes l)) (λ k ne. lawful.lanes k);
   apart = apart_with book l lane touched lt lawful.apart (λ k s ne on. lawful.apart l k s (λ e. ne (sym e)) (no_more.sets s on));
   of_one = of_one_with book l lane touched lt lawful.of_one
@@ -91,6 +105,7 @@ pub joins : {E : Type 0} (deeds : Deeds E) → Depends deeds → (layout : Layou
     IsLawfulBook deeds layout base book → IsLawfulBook deeds layout base real
 joins deeds depends layout base book real l lane e lt has is no_more whole keeps lawful = subst (λ (b : Book _). IsLawfulBook deeds layout base b) (sym is) record {
   place = lawful.place;
+  many = lawful.many;
   owners = lawful.owners;
   lawful = good.lawful;
   sorts = good.sorts;
@@ -98,7 +113,7 @@ joins deeds depends layout base book real l lane e lt has is no_more whole keeps
     begun = subst (λ (n : ℕ). n < book.next_transaction) (sym comes.transaction) (lawful.lanes l).begun;
     data_writes = data_of base.heap (deeds.names e.deed) e.writes can.own;
   });
-  some = lawful.some;
+  numbers = lawful.numbers ∙ ap (λ (n : ℕ). n + 1) (sym (sum_same book l lane None lt no_more.begun));
   lanes = by_lane (λ k x. IsLawfulLane deeds base (book.history.items ++ e ∷ []) book.next_transaction k x) book l lane None lt (keeps (lawful.lanes l))
       (λ k ne. others_join deeds base book.history.items book.next_transaction k (lane_at book k) e (whole k).behind before.owners (record {
         lane_is = λ own. ne (sym own ∙ comes.lane_is);

@@ -1,6 +1,7 @@
 -- A history with one entry more, and with several.
 use Rattle.std.proofs.Common.{◌≡◌, ◌≢◌, ℕ, zero, suc, Bool, true, false, not, List, [], ◌∷◌, ◌++◌, take, get_or, if◌then◌else◌, refl, sym, ◌∙◌, ap, subst, arith, append_assoc, append-nil, Option, Some, None, option_to_list}
 use Rattle.std.proofs.Math.Logic.{∥∥₁_map₂}
+use Rattle.std.specs.List.{filter}
 use Rattle.persist_model.specs.Region.{Words}
 use Rattle.lane_traits.specs.Draft.{after_writes}
 use Rattle.lane_types.specs.declared.face.Entry.{Entry}
@@ -28,6 +29,14 @@ each_last P (y ∷ xs) x each p = (each.0, each_last P xs x each.1 p)
 pub each_map : {X : Type 0} (P Q : X → Type 0) (xs : List X) → ((x : X) → P x → Q x) → Each P xs → Each Q xs
 each_map P Q [] f each = tt
 each_map P Q (x ∷ xs) f each = (f x each.0, each_map P Q xs f each.1)
+
+pub each_filter : {X : Type 0} (P : X → Type 0) (p : X → Bool) (xs : List X) → Each P xs → Each P (filter p xs)
+each_filter P p [] each = tt
+each_filter P p (x ∷ xs) each = by_test (p x) each.0 (each_filter P p xs each.1)
+  where
+    by_test : (t : Bool) → P x → Each P (filter p xs) → Each P (if t then x ∷ filter p xs else filter p xs)
+    by_test true here rest = (here, rest)
+    by_test false here rest = rest
 
 -- ---- words
 
@@ -145,6 +154,15 @@ all_joined deeds depends base (e ∷ entries) history good can apart =
     subst (IsGood deeds base) (append_assoc history (e ∷ []) entries)
     (all_joined deeds depends base entries (history ++ e ∷ []) (joined deeds depends base history e good can.0)
     (all_behind deeds base history e entries good can.0 apart.0 can.1) apart.1)
+
+pub apart_filter : {E : Type 0} (deeds : Deeds E) (p : Entry E → Bool) (entries : List (Entry E)) → AreAllApart deeds entries → AreAllApart deeds (filter p entries)
+apart_filter deeds p [] apart = tt
+apart_filter deeds p (e ∷ entries) apart = by_test (p e) (each_filter (IsApartFrom deeds e) p entries apart.0) (apart_filter deeds p entries apart.1)
+  where
+    by_test : (t : Bool) → Each (IsApartFrom deeds e) (filter p entries) → AreAllApart deeds (filter p entries) →
+        AreAllApart deeds (if t then e ∷ filter p entries else filter p entries)
+    by_test true here rest = (here, rest)
+    by_test false here rest = rest
 
 -- ---- the commits in flight
 

@@ -1,8 +1,10 @@
 -- A lane of a lawful book after a step, an ask or a commit of its own or of another.
-use Rattle.std.proofs.Common.{◌≡◌, ◌≢◌, ℕ, ◌+◌, ◌^◌, ◌<◌, ◌≤◌, Bool, true, false, List, [], ◌∷◌, ◌++◌, length, take, refl, sym, ◌∙◌, ap, subst, arith, Some, None}
+use Rattle.std.proofs.Common.{◌≡◌, ◌≢◌, ℕ, ◌+◌, ◌^◌, ◌<◌, ◌≤◌, Bool, true, false, List, [], ◌∷◌, ◌++◌, length, take, if◌then◌else◌, refl, sym, ◌∙◌, ap, subst, arith, Some, None}
 use Rattle.std.proofs.lemmas.Nat.{pow_pos}
 use Rattle.std.proofs.Math.Nat.{zero-div}
+use Rattle.std.specs.List.{filter}
 use Rattle.persist_model.specs.Region.{Words}
+use Rattle.lane_traits.specs.Draft.{after_writes}
 use Rattle.lane_traits.specs.declared.draft.WordWrite.{WordWrite}
 use Rattle.lane_types.specs.declared.call.Phase.{Phase}
 use Rattle.lane_types.specs.declared.face.Entry.{Entry}
@@ -12,9 +14,9 @@ use Rattle.lane_types.specs.Histories.{IsEarlier, after_entries, fold}
 use Rattle.lane_types.specs.Faces.{Base}
 use Rattle.lane_book.specs.declared.lane.Lane.{Lane}
 use Rattle.lane_book.specs.declared.lane.Doing.{Doing}
-use Rattle.lane_book.specs.FacesOf.{begun_heap}
-use Rattle.lane_book.proofs.Faces.{take_before}
-use Rattle.lawful_book.specs.LawfulBooks.{is_word_of, AreWordsOf, Each, IsBefore, IsComing, is_inside, IsLawfulLane}
+use Rattle.lane_book.specs.FacesOf.{is_of, begun_heap}
+use Rattle.lane_book.proofs.Faces.{take_before, filter_last}
+use Rattle.lawful_book.specs.LawfulBooks.{AreCounted, MayTake, is_word_of, AreWordsOf, Each, IsBefore, IsComing, is_inside, IsLawfulLane}
 use Rattle.lawful_book.proofs.WordsOf.{heap_with, HasOwners}
 use Rattle.lawful_book.proofs.Histories.{CanJoin, alike_behind, each_last, each_map}
 
@@ -24,6 +26,7 @@ use Rattle.lawful_book.proofs.Histories.{CanJoin, alike_behind, each_last, each_
 pub record KeepsTransaction {E : Type 0} (lane later : Lane E) : Type 0 where
   pub held : later.held ≡ lane.held
   pub begun : later.begun ≡ lane.begun
+  pub commits : later.commits ≡ lane.commits
   pub transaction : later.transaction ≡ lane.transaction
   pub joined : later.joined ≡ lane.joined
   pub entered : later.entered ≡ lane.entered
@@ -32,13 +35,24 @@ pub record KeepsTransaction {E : Type 0} (lane later : Lane E) : Type 0 where
 module _ {E : Type 0} (deeds : Deeds E) (base : Base) (history : List (Entry E)) (next l : ℕ) (lane later : Lane E) (same : KeepsTransaction lane later)
     (was : IsLawfulLane deeds base history next l lane) where
   pub lane_stays : AreWordsOf later.held base.heap later.writes.items → ((a : ℕ) → later.doing ≡ Doing.Read a → is_word_of later.held base.heap a ≡ true) →
+      ((set : ℕ) → later.doing ≡ Doing.Begin set → MayTake base.structures later.begun set) →
+      (later.entered ≡ true → AreAlike later.held (with_writes later.writes.items (begun_heap base history later)) (fold base.heap history)) →
+      (later.doing ≡ Doing.Commit → later.entered ≡ false → later.entry ≢ None) →
       (is_inside later.phase later.doing ≡ true → later.transaction ≢ 0) → (later.entered ≡ true → later.doing ≡ Doing.Commit) →
       ((e : Entry E) → later.entry ≡ Some e → IsComing deeds base (begun_heap base history later) l later e) → IsLawfulLane deeds base history next l later
-  lane_stays own read running entering coming = record {
+  lane_stays own read set_is joined_alike entry_is running entering coming = record {
     inside = subst (λ (n : ℕ). n < 2 ^ base.structures) (sym same.held) was.inside;
     no_gives = same.gives ∙ was.no_gives;
     own_writes = own;
     own_read = read;
+    own_set = set_is;
+    alike_joined = joined_alike;
+    has_entry = entry_is;
+    has_joined = λ on. was.has_joined (sym same.entered ∙ on);
+    counts = subst (λ (b : Bool). AreCounted later.begun later.commits later.transaction b) (sym same.entered)
+        (subst (λ (t : ℕ). AreCounted later.begun later.commits t lane.entered) (sym same.transaction)
+        (subst (λ (n : ℕ). AreCounted later.begun n lane.transaction lane.entered) (sym same.commits)
+        (subst (λ (n : ℕ). AreCounted n lane.commits lane.transaction lane.entered) (sym same.begun) was.counts)));
     alike = λ new. (λ (f : AreAlike later.held (begun_heap base history lane) (fold base.heap history)).
         subst (λ (n : ℕ). AreAlike later.held (fold base.heap (take n history)) (fold base.heap history)) (sym same.joined) f)
         (subst (λ (n : ℕ). AreAlike n (begun_heap base history lane) (fold base.heap history)) (sym same.held) (was.alike (sym same.entered ∙ new)));
@@ -50,6 +64,14 @@ module _ {E : Type 0} (deeds : Deeds E) (base : Base) (history : List (Entry E))
         (subst (λ (n : ℕ). Each (IsBefore l n lane.transaction lane.entered) history) (sym same.begun) was.before));
     coming = coming;
   }
+
+  pub alike_stays : later.writes.items ≡ lane.writes.items → later.entered ≡ true →
+      AreAlike later.held (with_writes later.writes.items (begun_heap base history later)) (fold base.heap history)
+  alike_stays writes on =
+      subst (λ (n : ℕ). AreAlike later.held (with_writes later.writes.items (fold base.heap (take n history))) (fold base.heap history)) (sym same.joined)
+      (subst (λ (ws : List WordWrite). AreAlike later.held (with_writes ws (begun_heap base history lane)) (fold base.heap history)) (sym writes)
+      (subst (λ (n : ℕ). AreAlike n (with_writes lane.writes.items (begun_heap base history lane)) (fold base.heap history)) (sym same.held)
+      (was.alike_joined (sym same.entered ∙ on))))
 
   -- a coming entry stays so where the writes do
   pub coming_stays : later.writes.items ≡ lane.writes.items → later.doing ≡ lane.doing → (e : Entry E) → IsComing deeds base (begun_heap base history lane) l lane e →
@@ -105,6 +127,22 @@ coming_can_join deeds base history next l lane e was has =
 
 -- ---- the entry of another lane joins
 
+last_there : {X : Type 0} (xs : List X) (x : X) → xs ++ x ∷ [] ≢ []
+last_there [] x e = cc
+last_there (y ∷ xs) x e = cc
+
+-- a list that isn't empty isn't with one more, nor one whose last is picked
+filter_more : {X : Type 0} (p : X → Bool) (xs : List X) (x : X) → filter p xs ≢ [] → filter p (xs ++ x ∷ []) ≢ []
+filter_more p xs x some none = by_test (p x) (sym (filter_last p xs x) ∙ none)
+  where
+    by_test : (t : Bool) → (if t then filter p xs ++ x ∷ [] else filter p xs) ≡ [] → ⊥
+    by_test true e = last_there (filter p xs) x e
+    by_test false e = some e
+
+pub filter_there : {X : Type 0} (p : X → Bool) (xs : List X) (x : X) → p x ≡ true → filter p (xs ++ x ∷ []) ≢ []
+filter_there p xs x on none = last_there (filter p xs) x
+    (sym (filter_last p xs x ∙ ap (λ (t : Bool). if t then filter p xs ++ x ∷ [] else filter p xs) on) ∙ none)
+
 -- Lane l's entry is another's: it is of another lane and transaction, and of structures that the lane doesn't hold.
 pub record IsOthers {E : Type 0} (deeds : Deeds E) (base : Base) (l : ℕ) (lane : Lane E) (e : Entry E) : Type 0 where
   pub lane_is : e.lane ≢ l
@@ -121,6 +159,13 @@ others_join deeds base history next l lane e behind owners other was =
       no_gives = was.no_gives;
       own_writes = was.own_writes;
       own_read = was.own_read;
+      own_set = was.own_set;
+      alike_joined = λ on. subst (λ (es : List (Entry _)). AreAlike lane.held (with_writes lane.writes.items (fold base.heap es)) (fold base.heap (history ++ e ∷ []))) (sym begun)
+          (alike_behind base.heap (deeds.names e.deed) lane.held (after_writes lane.writes.items (after_entries (take lane.joined history) base.heap.at)) history e owners other.own other.sets
+          (was.alike_joined on));
+      has_entry = was.has_entry;
+      has_joined = λ on. filter_more (is_of l) history e (was.has_joined on);
+      counts = was.counts;
       alike = λ new. subst (λ (es : List (Entry _)). AreAlike lane.held (fold base.heap es) (fold base.heap (history ++ e ∷ []))) (sym begun)
           (alike_behind base.heap (deeds.names e.deed) lane.held (after_entries (take lane.joined history) base.heap.at) history e owners other.own other.sets (was.alike new));
       begun = was.begun;
@@ -176,6 +221,8 @@ pub record IsFree {E : Type 0} (lane : Lane E) : Type 0 where
   pub phase : lane.phase ≡ Phase.Out
   pub entry : lane.entry ≡ None
   pub entered : lane.entered ≡ false
+  pub few : lane.begun ≤ 2 ^ 59
+  pub most : lane.commits ≤ lane.begun
 
 pub free_is_lawful : {E : Type 0} (deeds : Deeds E) (base : Base) (history : List (Entry E)) (next l : ℕ) (lane : Lane E) → IsFree lane → 1 ≤ next →
     Each (λ (x : Entry E). x.lane ≡ l → x.number < lane.begun) history → IsLawfulLane deeds base history next l lane
@@ -184,6 +231,11 @@ free_is_lawful deeds base history next l lane free some counted = record {
   no_gives = free.gives;
   own_writes = subst (λ (ws : List WordWrite). AreWordsOf lane.held base.heap ws) (sym free.writes) tt;
   own_read = λ a reads. let e = sym free.doing ∙ reads in cc;
+  own_set = λ set begins. let e = sym free.doing ∙ begins in cc;
+  alike_joined = λ on. absurd (both lane.entered on free.entered);
+  has_entry = λ commit. let e = sym free.doing ∙ commit in cc;
+  has_joined = λ on. absurd (both lane.entered on free.entered);
+  counts = record { few = free.few; most = free.most; less = λ some. absurd (some free.transaction) };
   alike = λ new. subst (λ (n : ℕ). AreAlike n (begun_heap base history lane) (fold base.heap history)) (sym free.held)
       (no_bit_of_none base.heap (after_entries (take lane.joined history) base.heap.at) (after_entries history base.heap.at));
   begun = let t = free.transaction in omega (arith, t, some);

@@ -6,3 +6,5 @@ pub mod Showing
 pub mod HeldHeaps
 pub mod Keeping
 pub mod Kept
+pub mod Valued
+pub mod Fitting

@@ -79,7 +79,7 @@ pub leaves_alike : (h : Heap) (set other : ℕ) (u : Words) (writes : List WordW
     ((s : ℕ) → has_bit other s ≡ true → has_bit set s ≡ false) → AreAlike other (heap_with h u) (heap_with h (after_writes writes u))
 leaves_alike h set other u writes has words others = record { start = refl; blocks = refl; inside = leaves h set u writes (has_bit other) has words others }
 
-after_at : (writes : List WordWrite) (u v : Words) (a : ℕ) → u a ≡ v a → after_writes writes u a ≡ after_writes writes v a
+pub after_at : (writes : List WordWrite) (u v : Words) (a : ℕ) → u a ≡ v a → after_writes writes u a ≡ after_writes writes v a
 after_at [] u v a same = same
 after_at (w ∷ writes) u v a same = after_at writes (put_word w.address w.value u) (put_word w.address w.value v) a (step (a == w.address))
   where

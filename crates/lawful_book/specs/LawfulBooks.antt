@@ -1,5 +1,6 @@
 -- What a book keeps so that its history stays lawful, over the heap that stood at the start.
-use Rattle.std.specs.Prelude.{◌≡◌, ◌≢◌, ℕ, ◌+◌, ◌^◌, ◌<◌, ◌≤◌, Bool, true, false, ◌&&◌, List, [], ◌∷◌, Some}
+use Rattle.std.specs.Prelude.{◌≡◌, ◌≢◌, ℕ, ◌+◌, ◌^◌, ◌<◌, ◌≤◌, Bool, true, false, ◌&&◌, List, [], ◌∷◌, length, Some, None}
+use Rattle.std.specs.List.{filter}
 use Rattle.persist_model.specs.Shape.{heap}
 use Rattle.lane_traits.specs.declared.draft.WordWrite.{WordWrite}
 use Rattle.region_layout.specs.declared.layout.Layout.{Layout}
@@ -15,7 +16,8 @@ use Rattle.lane_types.specs.May.{AreData}
 use Rattle.lane_book.specs.declared.lane.Lane.{Lane}
 use Rattle.lane_book.specs.declared.lane.Doing.{Doing}
 use Rattle.lane_book.specs.declared.book.Book.{Book}
-use Rattle.lane_book.specs.FacesOf.{lane_at, begun_heap}
+use Rattle.lane_book.specs.FacesOf.{lane_at, is_of, begun_heap}
+use Rattle.lane_book.specs.Owed.{sum_of}
 
 -- ---- words
 
@@ -78,18 +80,34 @@ is_inside Phase.Calling (Doing.Batch n) = true
 is_inside Phase.Calling Doing.Savepoint = true
 is_inside Phase.Calling (Doing.RollbackTo n) = true
 
--- What a lane holds is as at its begin until its entry joins, since no other lane writes it. For now it gives no block and writes data words
--- of its own alone, so that the owner words are those of the start.
+-- A lane has begun no more transactions than it may, and has a commit for none that it runs.
+pub record AreCounted (begun commits transaction : ℕ) (entered : Bool) : Type 0 where
+  pub few : begun ≤ 2 ^ 59
+  pub most : commits ≤ begun
+  pub less : transaction ≢ 0 → entered ≡ false → commits < begun
+
+-- what a begin asks for it may
+pub record MayTake (structures begun set : ℕ) : Type 0 where
+  pub inside : set < 2 ^ structures
+  pub few : begun < 2 ^ 59
+
+-- What a lane holds is as at its begin until its entry joins, and then as its own writes left it, since no other lane writes it. For
+-- now it gives no block and writes data words of its own alone, so that the owner words are those of the start.
 pub record IsLawfulLane {E : Type 0} (deeds : Deeds E) (base : Base) (history : List (Entry E)) (next l : ℕ) (lane : Lane E) : Type 0 where
   pub inside : lane.held < 2 ^ base.structures
   pub no_gives : lane.gives.items ≡ []
   pub own_writes : AreWordsOf lane.held base.heap lane.writes.items
   pub own_read : (a : ℕ) → lane.doing ≡ Doing.Read a → is_word_of lane.held base.heap a ≡ true
+  pub own_set : (set : ℕ) → lane.doing ≡ Doing.Begin set → MayTake base.structures lane.begun set
   pub alike : lane.entered ≡ false → AreAlike lane.held (begun_heap base history lane) (fold base.heap history)
+  pub alike_joined : lane.entered ≡ true → AreAlike lane.held (with_writes lane.writes.items (begun_heap base history lane)) (fold base.heap history)
   pub begun : lane.transaction < next
+  pub counts : AreCounted lane.begun lane.commits lane.transaction lane.entered
   pub running : is_inside lane.phase lane.doing ≡ true → lane.transaction ≢ 0
   pub entering : lane.entered ≡ true → lane.doing ≡ Doing.Commit
   pub before : Each (IsBefore l lane.begun lane.transaction lane.entered) history
+  pub has_entry : lane.doing ≡ Doing.Commit → lane.entered ≡ false → lane.entry ≢ None
+  pub has_joined : lane.entered ≡ true → filter (is_of l) history ≢ []
   pub coming : (e : Entry E) → lane.entry ≡ Some e → IsComing deeds base (begun_heap base history lane) l lane e
 
 -- ---- the book
@@ -111,11 +129,12 @@ AreOfOne book = (l k : ℕ) → l ≢ k → (lane_at book l).transaction ≢ 0 �
 
 pub record IsLawfulBook {E : Type 0} (deeds : Deeds E) (layout : Layout) (base : Base) (book : Book E) : Type 0 where
   pub place : IsHeapOf layout base
+  pub many : length book.blocks ≡ layout.blocks
   pub owners : AreAsOwned (layout_shape layout) base.heap.at book.blocks
   pub lawful : ∥ Lawful deeds base.heap book.history.items ∥₁
   pub sorts : HaveSorts deeds base.sorts book.history.items
   pub past : Each (IsPast base.heap book.next_transaction) book.history.items
-  pub some : 1 ≤ book.next_transaction
+  pub numbers : book.next_transaction ≡ sum_of (λ lane. lane.begun) book + 1
   pub lanes : (l : ℕ) → IsLawfulLane deeds base book.history.items book.next_transaction l (lane_at book l)
   pub apart : AreApart book
   pub of_one : AreOfOne book

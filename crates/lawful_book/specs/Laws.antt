@@ -1,5 +1,6 @@
 -- What follows from what a lawful book keeps, and what keeps it.
-use Rattle.std.specs.Prelude.{◌≡◌, ◌≢◌, ℕ, ◌^◌, ◌<◌, ◌≤◌, true, false, List, [], ◌∷◌, ◌++◌, length, take, get_or, Option, Some, None}
+use Rattle.std.specs.Prelude.{◌≡◌, ◌≢◌, ℕ, ◌-◌, ◌^◌, ◌<◌, ◌≤◌, if◌then◌else◌, Bool, true, false, List, [], ◌∷◌, ◌++◌, length, take, get_or, Option, Some, None}
+use Rattle.std.specs.List.{filter}
 use Rattle.lane_traits.specs.declared.draft.WordWrite.{WordWrite}
 use Rattle.region_layout.specs.declared.layout.Layout.{Layout}
 use Rattle.region_layout.specs.Layout.{layout_shape}
@@ -12,30 +13,32 @@ use Rattle.lane_types.specs.declared.call.Reply.TheVariants.{Committed}
 use Rattle.lane_types.specs.declared.call.Stepped.{Stepped}
 use Rattle.lane_types.specs.declared.face.Entry.{Entry}
 use Rattle.lane_types.specs.Deeds.{Deeds}
+use Rattle.lane_types.specs.Heaps.{with_writes}
+use Rattle.lane_types.specs.Histories.{fold}
 use Rattle.lane_types.specs.Faces.{Base, phase_after}
 use Rattle.lane_types.specs.Asks.{has_word, has_all, Fits}
-use Rattle.lane_types.specs.May.{MayCommit}
+use Rattle.lane_types.specs.May.{MayCommit, May}
 use Rattle.lane_book.specs.declared.lane.Lane.{Lane}
 use Rattle.lane_book.specs.declared.lane.Doing.{Doing}
 use Rattle.lane_book.specs.declared.book.Book.{Book}
 use Rattle.lane_book.specs.Lanes.{moved, left, entered_lane, with_lane, with_history}
 use Rattle.lane_book.specs.FacesOf.{lane_at, faces_of, batch_of}
 use Rattle.lane_book.specs.Flights.{flights_of}
-use Rattle.lane_book.specs.Steps.{IsPlain, IsLawfulFrom, held_by}
+use Rattle.lane_book.specs.Steps.{IsPlain, IsLawfulFrom, HasEntry, HasEntered, held_by}
 use Rattle.lane_book.specs.Asked.{HasAsked, HasMoreRoom}
 use Rattle.lane_book.specs.Books.{IsBook, IsFresh}
-use Rattle.lane_book.specs.Entries.{committing, writes_of_entry}
+use Rattle.lane_book.specs.Entries.{AreBlocks, committing, writes_of_entry}
 use Rattle.lane_book.specs.Locks.{BeginEnds}
-use Rattle.lane_book.specs.Refusals.{ShowsBlocks}
+use Rattle.lane_book.specs.Refusals.{AreStructures, ShowsBlocks}
 use Rattle.lane_book.specs.Stores.{no_write}
-use Rattle.lawful_book.specs.LawfulBooks.{is_inside, IsHeapOf, IsLawfulBook}
+use Rattle.lawful_book.specs.LawfulBooks.{is_inside, MayTake, IsHeapOf, IsLawfulBook}
 
 -- ---- what follows
 
 -- a book that begins is lawful
 abbrev pub FreshBooksAreLawful : {E : Type 0} → Deeds E → Type 0
 FreshBooksAreLawful deeds = (layout : Layout) (base : Base) (lanes : ℕ) (blocks : List Standing) (sorts : List ℕ) (book : Book _) → IsFresh lanes blocks sorts book →
-    IsHeapOf layout base → AreAsOwned (layout_shape layout) base.heap.at blocks → IsLawfulBook deeds layout base book
+    IsHeapOf layout base → length blocks ≡ layout.blocks → AreAsOwned (layout_shape layout) base.heap.at blocks → IsLawfulBook deeds layout base book
 
 -- its history is lawful from what stood at the start
 abbrev pub HistoriesAreLawful : {E : Type 0} → Deeds E → Type 0
@@ -45,6 +48,11 @@ HistoriesAreLawful deeds = (layout : Layout) (base : Base) (book : Book _) → I
 abbrev pub FlightsAreLawful : {E : Type 0} → Deeds E → Type 0
 FlightsAreLawful deeds = (layout : Layout) (base : Base) (book : Book _) → IsLawfulBook deeds layout base book →
     IsLawfulFrom deeds (book.history.items ++ flights_of book) base
+
+-- or with those of them alone that a stop has kept
+abbrev pub SomeFlightsAreLawful : {E : Type 0} → Deeds E → Type 0
+SomeFlightsAreLawful deeds = (layout : Layout) (base : Base) (book : Book _) → IsLawfulBook deeds layout base book → (picks : Entry _ → Bool) →
+    IsLawfulFrom deeds (book.history.items ++ filter picks (flights_of book)) base
 
 -- each lane sees the blocks that it holds
 abbrev pub BlocksAreShown : {E : Type 0} → Deeds E → Type 0
@@ -70,12 +78,66 @@ abbrev pub ReadsAreHeld : {E : Type 0} → Deeds E → Type 0
 ReadsAreHeld deeds = (layout : Layout) (base : Base) (book : Book _) → IsLawfulBook deeds layout base book → (l a : ℕ) →
     (lane_at book l).doing ≡ Doing.Read a → has_word (held_by base book l) a ≡ true
 
+-- what it holds is as the history and its own stored writes have it
+abbrev pub words_now : {E : Type 0} → Base → Book E → ℕ → ℕ → ℕ
+words_now base book l = (if (lane_at book l).entered then fold base.heap book.history.items
+    else with_writes (take (lane_at book l).stored (lane_at book l).writes.items) (fold base.heap book.history.items)).at
+
+abbrev pub ValuesAreHeld : {E : Type 0} → Deeds E → Type 0
+ValuesAreHeld deeds = (layout : Layout) (base : Base) (book : Book _) → IsLawfulBook deeds layout base book → IsBook book → (l a : ℕ) →
+    has_word (held_by base book l) a ≡ true → (held_by base book l).word a ≡ Some (words_now base book l a)
+
+-- no two lanes hold a word in common
+abbrev pub WordsAreApart : {E : Type 0} → Deeds E → Type 0
+WordsAreApart deeds = (layout : Layout) (base : Base) (book : Book _) → IsLawfulBook deeds layout base book → (l k a v : ℕ) → l ≢ k →
+    (held_by base book l).word a ≡ Some v → (held_by base book k).word a ≡ None
+
+-- ---- what the calls of a book ask
+
+-- numbers are left for more transactions
+abbrev pub NumbersAreLeft : {E : Type 0} → Deeds E → Type 0
+NumbersAreLeft deeds = (layout : Layout) (base : Base) (book : Book _) → IsLawfulBook deeds layout base book → length book.lanes.items ≤ 16 →
+    book.next_transaction < 2 ^ 64 - 1
+
+-- the lanes have few commits
+abbrev pub CommitsAreFew : {E : Type 0} → Deeds E → Type 0
+CommitsAreFew deeds = (layout : Layout) (base : Base) (book : Book _) → IsLawfulBook deeds layout base book → (l : ℕ) → (lane_at book l).commits < 2 ^ 60
+
+-- a begin asks for what it may
+abbrev pub BeginsMayTake : {E : Type 0} → Deeds E → Type 0
+BeginsMayTake deeds = (layout : Layout) (base : Base) (book : Book _) → IsLawfulBook deeds layout base book → (l set : ℕ) → (lane_at book l).doing ≡ Doing.Begin set →
+    MayTake base.structures (lane_at book l).begun set
+
+-- a lane in a transaction has begun one
+abbrev pub TransactionsHaveBegun : {E : Type 0} → Deeds E → Type 0
+TransactionsHaveBegun deeds = (layout : Layout) (base : Base) (book : Book _) → IsLawfulBook deeds layout base book → (l : ℕ) → (lane_at book l).phase ≡ Phase.In →
+    (lane_at book l).doing ≡ Doing.Nothing → 1 ≤ (lane_at book l).begun
+
+-- a commit has its entry until it joins,
+abbrev pub EntriesAreThere : {E : Type 0} → Deeds E → Type 0
+EntriesAreThere deeds = (layout : Layout) (base : Base) (book : Book _) → IsLawfulBook deeds layout base book → (l : ℕ) → (lane_at book l).doing ≡ Doing.Commit →
+    (lane_at book l).entered ≡ false → HasEntry l (lane_at book l)
+
+-- and then the history has it
+abbrev pub EntriesHaveJoined : {E : Type 0} → Deeds E → Type 0
+EntriesHaveJoined deeds = (layout : Layout) (base : Base) (book : Book _) → IsLawfulBook deeds layout base book → (l : ℕ) → (lane_at book l).entered ≡ true →
+    HasEntered book l
+
+-- what a lane gave is of the heap
+abbrev pub GivesAreBlocks : {E : Type 0} → Deeds E → Type 0
+GivesAreBlocks deeds = (layout : Layout) (base : Base) (book : Book _) → IsLawfulBook deeds layout base book → (l : ℕ) → AreBlocks layout (lane_at book l).gives.items
+
+-- the owners of blocks are structures
+abbrev pub OwnersAreStructures : {E : Type 0} → Deeds E → Type 0
+OwnersAreStructures deeds = (layout : Layout) (base : Base) (book : Book _) → IsLawfulBook deeds layout base book → AreStructures book.blocks
+
 -- ---- what keeps it: a step
 
 -- the lane's transaction is the same, with its structures and its heap at the begin
 pub record IsSameTransaction {E : Type 0} (lane later : Lane E) : Type 0 where
   pub held : later.held ≡ lane.held
   pub begun : later.begun ≡ lane.begun
+  pub commits : later.commits ≡ lane.commits
   pub transaction : later.transaction ≡ lane.transaction
   pub joined : later.joined ≡ lane.joined
   pub gives : later.gives.items ≡ lane.gives.items
@@ -122,7 +184,7 @@ SameBooksKeep deeds = (layout : Layout) (base : Base) (book later : Book _) → 
 
 abbrev pub BeginsKeep : {E : Type 0} → Deeds E → Type 0
 BeginsKeep deeds = (layout : Layout) (base : Base) (book later : Book _) (l set : ℕ) (answer : Stepped) → IsLawfulBook deeds layout base book → l < length book.lanes.items →
-    (lane_at book l).doing ≡ Doing.Begin set → IsBook book → set < 2 ^ base.structures → BeginEnds book later l set answer → IsLawfulBook deeds layout base later
+    (lane_at book l).doing ≡ Doing.Begin set → IsBook book → BeginEnds book later l set answer → IsLawfulBook deeds layout base later
 
 -- a transaction is over, whose entry joined or which is undone
 abbrev pub LeavesKeep : {E : Type 0} → Deeds E → Type 0
@@ -152,7 +214,7 @@ pub data IsWordCall {E : Type 0} : Call E → Doing → List WordWrite → Type 
 abbrev pub AsksKeep : {E : Type 0} → Deeds E → Type 0
 AsksKeep deeds = (layout : Layout) (base : Base) (book later : Book _) (l promised : ℕ) (call : Call _) (doing : Doing) (writes : List WordWrite) →
     IsLawfulBook deeds layout base book → l < length book.lanes.items → (lane_at book l).doing ≡ Doing.Nothing → IsWordCall call doing writes →
-    Fits (faces_of base book l) call → HasAsked book later l call doing writes [] promised → IsLawfulBook deeds layout base later
+    Fits (faces_of base book l) call → May deeds (faces_of base book l) call → HasAsked book later l call doing writes [] promised → IsLawfulBook deeds layout base later
 
 -- no memory was there for it
 abbrev pub RefusalsKeep : {E : Type 0} → Deeds E → Type 0
@@ -162,6 +224,6 @@ RefusalsKeep deeds = (layout : Layout) (base : Base) (book later : Book _) (l : 
 -- a commit, whose deed means what the transaction did
 abbrev pub CommitAsksKeep : {E : Type 0} → Deeds E → Type 0
 CommitAsksKeep deeds = (layout : Layout) (base : Base) (book later : Book _) (l : ℕ) (deed : _) (writes : List WordWrite) (touched : Option ℕ) →
-    IsLawfulBook deeds layout base book → IsBook book → l < length book.lanes.items → (lane_at book l).doing ≡ Doing.Nothing → 1 ≤ (lane_at book l).begun →
+    IsLawfulBook deeds layout base book → IsBook book → l < length book.lanes.items → (lane_at book l).doing ≡ Doing.Nothing →
     Fits (faces_of base book l) (Call.Commit deed) → MayCommit deeds (faces_of base book l) deed → writes ≡ writes_of_entry layout (lane_at book l) →
     later ≡ with_lane book l (committing l deed writes (lane_at book l)) touched → IsLawfulBook deeds layout base later
