@@ -92,7 +92,7 @@ module _ {E : Type 0} (deeds : Deeds E) where
       (λ was. leaving_is deeds base book.history.items book.next_transaction l (lane_at book l) was reply out (some_of _ _ lawful.numbers)) lawful
 
   pub refusals_keep : Laws.RefusalsKeep deeds
-  refusals_keep layout base book later l lawful lt room = steps_keep layout base book later l room.lane book.touched lawful lt room.is (roomier (lane_at book l) room.lane room.roomier)
+  refusals_keep layout base book later l lawful lt room = steps_keep layout base book later l (lane_at later l) book.touched lawful lt room.is (roomier (lane_at book l) (lane_at later l) room.lane)
     where
       roomier : (lane later : Lane E) → IsRoomier lane later → Laws.GoesOn lane later
       roomier lane later is = record {
@@ -187,9 +187,9 @@ module _ {E : Type 0} (deeds : Deeds E) where
     no_commit _ _ _ (Laws.IsWordCall.batch {n} {writes}) e = cc
 
   pub asks_keep : Laws.AsksKeep deeds
-  asks_keep layout base book later l promised call doing writes lawful lt nothing word fits may has = replaces deeds layout base book later l has.lane book.touched lt has.is
-      (same_lane (lane_at book l) has.lane (ap (λ (x : Lane _). x.held) has.asks.is) (ap (λ (x : Lane _). x.transaction) has.asks.is) (ap (λ (x : Lane _). x.begun) has.asks.is))
-      (λ was. asked deeds base book.history.items book.next_transaction l (lane_at book l) was has.lane call doing writes promised nothing has.entry has.asks
+  asks_keep layout base book later l promised call doing writes lawful lt nothing word fits may has = replaces deeds layout base book later l (lane_at later l) book.touched lt has.is
+      (same_lane (lane_at book l) (lane_at later l) (ap (λ (x : Lane _). x.held) has.lane.asks.is) (ap (λ (x : Lane _). x.transaction) has.lane.asks.is) (ap (λ (x : Lane _). x.begun) has.lane.asks.is))
+      (λ was. asked deeds base book.history.items book.next_transaction l (lane_at book l) was (lane_at later l) call doing writes promised nothing has.lane.entry_stays has.lane.asks
       (words_are layout base book l lawful writes call doing word fits) (read_is layout base book l lawful writes call doing word fits)
       (set_is layout base book l lawful writes call doing word may) (no_commit layout base book l lawful writes call doing word)
       (inside_is layout base book l lawful writes call doing word fits)) lawful

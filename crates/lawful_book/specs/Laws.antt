@@ -24,8 +24,7 @@ use Rattle.lane_book.specs.declared.book.Book.{Book}
 use Rattle.lane_book.specs.Lanes.{moved, left, entered_lane, with_lane, with_history}
 use Rattle.lane_book.specs.FacesOf.{lane_at, faces_of, batch_of}
 use Rattle.lane_book.specs.Flights.{flights_of}
-use Rattle.lane_book.specs.Steps.{IsPlain, IsLawfulFrom, HasEntry, HasEntered, held_by}
-use Rattle.lane_book.specs.Asked.{HasAsked, HasMoreRoom}
+use Rattle.lane_book.specs.Steps.{IsPlain, IsLawfulFrom, HasEntry, HasEntered, held_by, IsAskedIn, IsRoomierIn}
 use Rattle.lane_book.specs.Books.{IsBook, IsFresh}
 use Rattle.lane_book.specs.Entries.{AreBlocks, committing, writes_of_entry}
 use Rattle.lane_book.specs.Locks.{BeginEnds}
@@ -214,12 +213,12 @@ pub data IsWordCall {E : Type 0} : Call E → Doing → List WordWrite → Type 
 abbrev pub AsksKeep : {E : Type 0} → Deeds E → Type 0
 AsksKeep deeds = (layout : Layout) (base : Base) (book later : Book _) (l promised : ℕ) (call : Call _) (doing : Doing) (writes : List WordWrite) →
     IsLawfulBook deeds layout base book → l < length book.lanes.items → (lane_at book l).doing ≡ Doing.Nothing → IsWordCall call doing writes →
-    Fits (faces_of base book l) call → May deeds (faces_of base book l) call → HasAsked book later l call doing writes [] promised → IsLawfulBook deeds layout base later
+    Fits (faces_of base book l) call → May deeds (faces_of base book l) call → IsAskedIn call doing writes [] promised book later l → IsLawfulBook deeds layout base later
 
 -- no memory was there for it
 abbrev pub RefusalsKeep : {E : Type 0} → Deeds E → Type 0
 RefusalsKeep deeds = (layout : Layout) (base : Base) (book later : Book _) (l : ℕ) → IsLawfulBook deeds layout base book → l < length book.lanes.items →
-    HasMoreRoom book later l → IsLawfulBook deeds layout base later
+    IsRoomierIn book later l → IsLawfulBook deeds layout base later
 
 -- a commit, whose deed means what the transaction did
 abbrev pub CommitAsksKeep : {E : Type 0} → Deeds E → Type 0
