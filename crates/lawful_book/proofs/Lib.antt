@@ -8,3 +8,4 @@ pub mod Keeping
 pub mod Kept
 pub mod Valued
 pub mod Fitting
+pub mod GoingOn
