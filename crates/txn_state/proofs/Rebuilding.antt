@@ -1,0 +1,163 @@
+-- A state from its parts, behind a step of one lane.
+use Rattle.std.proofs.Common.{◌≡◌, ◌≢◌, inl, inr, ℕ, ◌+◌, ◌*◌, ◌%◌, ◌^◌, ◌<◌, ◌≤◌, List, length, map, sym, ap, ◌∙◌, subst, arith}
+use Rattle.std.proofs.lemmas.Bool.Decides.{eqb_tells}
+use Rattle.persist_model.specs.Region.{Words, Region}
+use Rattle.persist_model.specs.Shape.{Shape}
+use Rattle.persist_model.specs.State.{State}
+use Rattle.region_layout.specs.declared.layout.Layout.{Layout}
+use Rattle.region_layout.specs.Layout.{layout_shape}
+use Rattle.lane_book.specs.declared.book.Book.{Book}
+use Rattle.lane_book.specs.declared.lane.Lane.{Lane}
+use Rattle.lane_book.specs.FacesOf.{lane_at}
+use Rattle.log_keeper.specs.declared.keeper.LogKeeper.{LogKeeper}
+use Rattle.log_keeper.specs.Keeper.{keeping_of, free_places, KeepsSlots, HasRoomIn}
+use Rattle.log_keeper.specs.Ledger.{newest_log}
+use Rattle.history_laws.specs.UnderWay.{UnderWay}
+use Rattle.txn_laws.specs.Txns.{Txn, txn_at}
+use Rattle.txn_laws.specs.Rooms.{IsRoomy, sum_below}
+use Rattle.txn_laws.specs.Worlds.{World, IsWorldAt}
+use Rattle.txn_state.specs.Stages.{stage_of}
+use Rattle.txn_state.specs.Ties.{under_of, plain_entry, AreHeld, IsLaneOf, IsTied}
+use Rattle.txn_state.specs.Owing.{needs_at, records_noted, OwesEnough, IsOwing}
+use Rattle.txn_state.specs.Numbers.{unpaid, pending, IsNumbered}
+use Rattle.txn_state.specs.States.{IsWorldBook, IsStateOf, reserved_for}
+use Rattle.txn_state.specs.Changes.{HasLane}
+use Rattle.txn_state.specs.Beside.{IsBeside, IsApart}
+use Rattle.txn_state.proofs.Sums.{sums_differ}
+use Rattle.txn_state.proofs.Lanes.{by_lane, lane_sum}
+use Rattle.txn_state.proofs.Staying.{lanes_stay}
+
+-- ---- what is owed
+
+-- the lane owes what its call may want
+pub record Owes {E : Type 0} (shape : Shape) (p n c : ℕ) (u : UnderWay) (x : Txn) (keeper : LogKeeper) (lane : Lane E) : Type 0 where
+  pub events : (needs_at shape p n c u x (stage_of lane)).events ≤ lane.owed_events
+  pub records : (needs_at shape p n c u x (stage_of lane)).records ≤ lane.owed_records
+  pub lists : HasRoomIn keeper.slots.items p (needs_at shape p n c u x (stage_of lane)).gates
+
+pub owes_of : (E : Type 0) (shape : Shape) (chains : ℕ → List ℕ) (book : Book E) (keeper : LogKeeper) (w : World) (l : ℕ) (lane : Lane E) → lane_at book l ≡ lane →
+    Owes shape (l % shape.partitions) (records_noted w (txn_at w.lanes l).number) (length (chains (l % shape.partitions))) (under_of shape w l) (txn_at w.lanes l) keeper lane →
+    OwesEnough shape chains book keeper w l
+owes_of E shape chains book keeper w l lane is owes = record { events = there.events; records = there.records; lists = there.lists }
+  where
+    there : Owes shape (l % shape.partitions) (records_noted w (txn_at w.lanes l).number) (length (chains (l % shape.partitions))) (under_of shape w l) (txn_at w.lanes l) keeper (lane_at book l)
+    there = subst (λ (z : Lane E). Owes shape (l % shape.partitions) (records_noted w (txn_at w.lanes l).number) (length (chains (l % shape.partitions))) (under_of shape w l) (txn_at w.lanes l) keeper z)
+        (sym is) owes
+
+pub owes_here : (E : Type 0) (shape : Shape) (chains : ℕ → List ℕ) (book : Book E) (keeper : LogKeeper) (w : World) (l : ℕ) → OwesEnough shape chains book keeper w l →
+    Owes shape (l % shape.partitions) (records_noted w (txn_at w.lanes l).number) (length (chains (l % shape.partitions))) (under_of shape w l) (txn_at w.lanes l) keeper (lane_at book l)
+owes_here E shape chains book keeper w l owes = record { events = owes.events; records = owes.records; lists = owes.lists }
+
+-- an event is paid
+pub events_paid : (E : Type 0) (book later : Book E) (l spare left : ℕ) (lane : Lane E) → HasLane book later l lane → lane.owed_events + 1 ≡ (lane_at book l).owed_events →
+    spare ≤ left + 1 → sum_below (λ k. (lane_at book k).owed_events) (length book.lanes.items) ≤ spare →
+    sum_below (λ k. (lane_at later k).owed_events) (length later.lanes.items) ≤ left
+events_paid E book later l spare left lane has paid places stores = let sum = lane_sum (λ (z : Lane E). z.owed_events) book later l lane has in omega (arith, sum, paid, places, stores)
+
+-- as many records are owed
+pub records_owed : (E : Type 0) (book later : Book E) (l places left : ℕ) (lane : Lane E) → HasLane book later l lane → lane.owed_records ≡ (lane_at book l).owed_records →
+    places ≤ left → sum_below (λ k. (lane_at book k).owed_records) (length book.lanes.items) ≤ places →
+    sum_below (λ k. (lane_at later k).owed_records) (length later.lanes.items) ≤ left
+records_owed E book later l places left lane has same le old = let sum = lane_sum (λ (z : Lane E). z.owed_records) book later l lane has in omega (arith, sum, same, le, old)
+
+-- ---- numbers
+
+-- what is not made yet of the appends under way changes in one partition
+pub unpaid_sum : (partitions p : ℕ) (w v : World) → p < partitions → ((q : ℕ) → q ≢ p → v.under q ≡ w.under q) →
+    sum_below (λ q. unpaid (v.under q)) partitions + unpaid (w.under p) ≡ sum_below (λ q. unpaid (w.under q)) partitions + unpaid (v.under p)
+unpaid_sum partitions p w v inside same = sums_differ (λ q. unpaid (v.under q)) (λ q. unpaid (w.under q)) p partitions inside (λ q ne. ap unpaid (same q ne))
+
+pub numbered_there : (E : Type 0) (partitions : ℕ) (book later : Book E) (w v : World) (events made l : ℕ) (lane : Lane E) → HasLane book later l lane →
+    later.next_transaction ≡ book.next_transaction → lane.begun ≡ (lane_at book l).begun → lane.commits + pending lane ≤ (lane_at book l).commits + pending (lane_at book l) →
+    10 * v.next ≤ made + (10 + sum_below (λ q. unpaid (v.under q)) partitions) → IsNumbered partitions book w events → IsNumbered partitions later v made
+numbered_there E partitions book later w v events made l lane has next begun commits records was = record {
+  records = records;
+  transactions = (let sum = lane_sum (λ (z : Lane E). z.begun) book later l lane has in let old = was.transactions in omega (arith, sum, old, next, begun));
+  some = (let old = was.some in omega (arith, old, next));
+  begun = by_lane (λ k z. z.begun ≤ 2 ^ 59) book later l lane has (subst (λ n. n ≤ 2 ^ 59) (sym begun) (was.begun l)) (λ k ne. was.begun k);
+  commits = by_lane (λ k z. z.commits + pending z ≤ z.begun) book later l lane has (let old = was.commits l in omega (arith, old, commits, begun)) (λ k ne. was.commits k);
+}
+
+-- ---- the state
+
+-- What is rebuilt behind a step of lane l, whose book becomes this lane.
+pub record IsRebuilt (E : Type 0) (layout : Layout) (start : Words) (book later : Book E) (keeper kept : LogKeeper) (behind : Region) (left made l t : ℕ) (lane : Lane E)
+    (base : Words) (s after : State) (chains chains_behind : ℕ → List ℕ) (w v : World) : Type 0 where
+  pub world : IsWorldAt (layout_shape layout) base after chains_behind start v behind
+  pub roomy : IsRoomy (layout_shape layout) behind (reserved_for layout later)
+  pub beside : IsBeside (layout_shape layout) l t s.log after.log chains chains_behind w v
+  pub apart : IsApart w l t
+  pub lanes : HasLane book later l lane
+  pub keeping : v.keeping ≡ keeping_of kept
+  pub next : v.next ≡ kept.next_lsn
+  pub slots : KeepsSlots keeper.slots.items kept.slots.items
+  pub history : v.history ≡ map plain_entry later.history.items
+  pub held : AreHeld (layout_shape layout) v
+  pub own : IsLaneOf layout book.blocks after.log (newest_log v.keeping.ledger) (under_of (layout_shape layout) v l) (l % layout.partitions) lane (txn_at v.lanes l)
+  pub fresh : (txn_at v.lanes l).number < later.next_transaction
+  pub no_less : book.next_transaction ≤ later.next_transaction
+  pub owes : Owes (layout_shape layout) (l % layout.partitions) (records_noted v (txn_at v.lanes l).number) (length (chains_behind (l % layout.partitions))) (under_of (layout_shape layout) v l)
+      (txn_at v.lanes l) kept lane
+  pub stores : sum_below (λ k. (lane_at later k).owed_events) (length later.lanes.items) ≤ left
+  pub places : sum_below (λ k. (lane_at later k).owed_records) (length later.lanes.items) ≤ free_places kept
+  pub numbered : IsNumbered layout.partitions later v made
+  pub opens : 1 ≤ kept.next_lsn
+  pub is_book : IsWorldBook layout later
+
+pub rebuilt : (E : Type 0) (layout : Layout) (start : Words) (book later : Book E) (keeper kept : LogKeeper) (behind : Region) (spare left made l t : ℕ) (lane : Lane E)
+    (base : Words) (s after : State) (chains chains_behind : ℕ → List ℕ) (w v : World) → IsTied layout book keeper s w → IsOwing (layout_shape layout) chains book keeper w spare →
+    IsRebuilt E layout start book later keeper kept behind left made l t lane base s after chains chains_behind w v → IsStateOf layout start later kept behind left made
+rebuilt E layout start book later keeper kept behind spare left made l t lane base s after chains chains_behind w v tied owing r = record {
+  base = base;
+  s = after;
+  chains = chains_behind;
+  w = v;
+  world = r.world;
+  roomy = r.roomy;
+  tied = record {
+    keeping = r.keeping;
+    next = r.next;
+    slots = r.slots.count ∙ tied.slots;
+    lanes = r.beside.count ∙ tied.lanes ∙ sym r.lanes.count;
+    history = r.history;
+    held = r.held;
+    each = λ k lt. each k (subst (λ n. k < n) r.beside.count lt);
+    fresh = fresh;
+  };
+  owing = record {
+    each = λ k lt. owes k (subst (λ n. k < n) (r.lanes.count ∙ sym tied.lanes) lt);
+    stores = r.stores;
+    places = r.places;
+  };
+  numbered = r.numbered;
+  opens = r.opens;
+  is_book = r.is_book;
+}
+  where
+    own_there : IsLaneOf layout later.blocks after.log (newest_log v.keeping.ledger) (under_of (layout_shape layout) v l) (l % layout.partitions) (lane_at later l) (txn_at v.lanes l)
+    own_there = subst (λ blocks. IsLaneOf layout blocks after.log (newest_log v.keeping.ledger) (under_of (layout_shape layout) v l) (l % layout.partitions) (lane_at later l) (txn_at v.lanes l))
+        (sym r.lanes.blocks)
+        (subst (λ (z : Lane E). IsLaneOf layout book.blocks after.log (newest_log v.keeping.ledger) (under_of (layout_shape layout) v l) (l % layout.partitions) z (txn_at v.lanes l))
+        (sym r.lanes.here) r.own)
+
+    each : (k : ℕ) → k < length w.lanes →
+        IsLaneOf layout later.blocks after.log (newest_log v.keeping.ledger) (under_of (layout_shape layout) v k) (k % layout.partitions) (lane_at later k) (txn_at v.lanes k)
+    each k lt = elim (eqb_tells k l) [
+      | inl e ↦ subst (λ j. IsLaneOf layout later.blocks after.log (newest_log v.keeping.ledger) (under_of (layout_shape layout) v j) (j % layout.partitions) (lane_at later j) (txn_at v.lanes j))
+          (sym e.1) own_there
+      | inr ne ↦ (lanes_stay {E = E}).tied layout book later l t s.log after.log chains chains_behind w v lane r.beside r.apart r.lanes k ne.1 lt (tied.each k lt)
+    ]
+
+    fresh : (k : ℕ) → (txn_at v.lanes k).number < later.next_transaction
+    fresh k = elim (eqb_tells k l) [
+      | inl e ↦ subst (λ j. (txn_at v.lanes j).number < later.next_transaction) (sym e.1) r.fresh
+      | inr ne ↦ (let same : (txn_at v.lanes k).number ≡ (txn_at w.lanes k).number = ap (λ (x : Txn). x.number) (r.beside.others k ne.1) in
+          let old = tied.fresh k in let le = r.no_less in omega (arith, same, old, le))
+    ]
+
+    owes : (k : ℕ) → k < length w.lanes → OwesEnough (layout_shape layout) chains_behind later kept v k
+    owes k lt = elim (eqb_tells k l) [
+      | inl e ↦ subst (OwesEnough (layout_shape layout) chains_behind later kept v) (sym e.1) (owes_of E (layout_shape layout) chains_behind later kept v l lane r.lanes.here r.owes)
+      | inr ne ↦ (lanes_stay {E = E}).owing layout book later keeper kept l t s.log after.log chains chains_behind w v lane r.beside r.apart r.lanes r.slots tied.slots k ne.1 lt (tied.each k lt)
+          (owing.each k (subst (λ n. k < n) tied.lanes lt))
+    ]

@@ -1,0 +1,14 @@
+pub mod Stages
+pub mod Seen
+pub mod Ties
+pub mod Owing
+pub mod Numbers
+pub mod States
+pub mod Changes
+pub mod QuietLaws
+pub mod AppendLaws
+pub mod HeapLaws
+pub mod ClosingLaws
+pub mod Beside
+pub mod StartLaw
+pub mod ReadLaws

@@ -1,0 +1,32 @@
+//! The events of the log's parts: the state stays one.
+ghost use Rattle.txn_state.specs.AppendLaws.{AppendsBegin, PartsGoOn, GatesAreStored, RecordsSettle, UndoneEndsSettle, CommitEndsSettle};
+
+/// A lane takes the latch of its partition and begins an append,
+pub fn appends_begin<E>()
+    ensures { AppendsBegin E }
+{}
+
+/// an event of a part is made that neither stores a gate nor is the last,
+pub fn parts_go_on<E>()
+    ensures { PartsGoOn E }
+{}
+
+/// a record's gate is stored,
+pub fn gates_are_stored<E>()
+    ensures { GatesAreStored E }
+{}
+
+/// and with the last event of the append the latch is let go,
+pub fn records_settle<E>()
+    ensures { RecordsSettle E }
+{}
+
+/// or, behind an abort's end,
+pub fn undone_ends_settle<E>()
+    ensures { UndoneEndsSettle E }
+{}
+
+/// or a commit's, its records are closed.
+pub fn commit_ends_settle<E>()
+    ensures { CommitEndsSettle E }
+{}
