@@ -44,9 +44,8 @@ use Rattle.txn_laws.specs.Asks.{drawn, MayDraw}
 use Rattle.txn_laws.specs.Rooms.{Share, sum_below, reserved_in, AreBound, HasReserved}
 use Rattle.txn_laws.specs.Worlds.{World, IsWorldAt}
 use Rattle.txn_laws.proofs.Asking.{latches_keep, appends_begin as begins_append}
-use Rattle.txn_laws.proofs.Beginning.{found_here}
+use Rattle.txn_laws.proofs.Reading.{own_reads}
 use Rattle.txn_laws.proofs.Moments.{append_part}
-use Rattle.txn_laws.proofs.Records.{not_deleted}
 use Rattle.txn_laws.proofs.Reserved.{newest_are_bound, cells_are_reserved}
 use Rattle.txn_state.specs.Stages.{Stage, Naming, Opening, Undoing, Ending, stage_of, is_commit}
 use Rattle.txn_state.specs.Seen.{booked, noticed}
@@ -174,8 +173,7 @@ module _ (E : Type 0) (layout : Layout) (start : Words) (region : Region) (base 
     mine = (going_of come_naming.going.runs).writes_own (write wr.address wr.value) (slice_among (txn_at w.lanes l).writes (length (txn_at w.lanes l).updates) (write wr.address wr.value) write_is)
 
     before_is : newest (region.at wr.address) ≡ latest (take (length (txn_at w.lanes l).updates) (txn_at w.lanes l).writes) wr.address (fold start w.history wr.address)
-    before_is = (found_here (layout_shape layout) base s chains start w region world).own l wr.address mine
-        (not_deleted (layout_shape layout) s.log (fold start w.history) w.lanes world.owners world.transactions l wr.address mine (going_of come_naming.going.runs).running)
+    before_is = own_reads (layout_shape layout) base s chains start w region l wr.address come_naming.going.runs mine world
         ∙ ap (λ (b : Bool). latest (if b then [] else take (txn_at w.lanes l).stored (txn_at w.lanes l).writes) wr.address (fold start w.history wr.address)) come_naming.going.runs
         ∙ ap (λ (n : ℕ). latest (take n (txn_at w.lanes l).writes) wr.address (fold start w.history wr.address)) (sym come_naming.updates_are)
 
@@ -625,50 +623,49 @@ module _ (E : Type 0) (layout : Layout) (start : Words) (book later : Book E) (k
       (sym under_is) (subst (λ (n : ℕ). Owes (layout_shape layout) part n (length (st.chains part)) (appends adding 0) (txn_at st.w.lanes l) taken (with_record_paid (lane_at book l))) (sym noted_is) owes_drawn)
 
   pub state_begun : IsStateOf layout start later taken region spare events
-  state_begun = rebuilt E layout start book later keeper taken region spare spare events l (txn_at st.w.lanes l).number (with_record_paid (lane_at book l)) st.base st.s st.s st.chains st.chains st.w v
-      st.tied st.owing (record {
-        world = world_drawn;
-        roomy = roomy_less layout book later region (λ q. reserved_less layout book later l (with_record_paid (lane_at book l)) goes.lanes (omega arith) q) st.roomy;
-        beside = beside_changed (layout_shape layout) l (txn_at st.w.lanes l).number st.s.log st.s.log st.chains st.chains st.w v changed
-            (adds_same (txn_at st.w.lanes l).number st.s.log st.s.log refl)
-            (adds_same (txn_at st.w.lanes l).number (newest_log st.w.keeping.ledger) (newest_log v.keeping.ledger) refl)
-            (takes_same (txn_at st.w.lanes l).number (newest_log st.w.keeping.ledger) (newest_log v.keeping.ledger) refl)
-            (λ t ne. ap (λ (gates : List ℕ). gates_in t false st.w.keeping.ledger ++ gates)
-            (none_noted t (record { lane = held.keeping.holder part; entry = record_of_adding adding; stage = Drawn }) (λ same. ne (sym same ∙ found.coming.of)))
-            ∙ append-nil (gates_in t false st.w.keeping.ledger)) (λ q ne. refl);
-        apart = λ k ne one same. ne (st.world.transactions.apart k l one same);
-        lanes = goes.lanes;
-        keeping = (λ i. appending part place (record_of (place_address place) (with_number (st.tied.next i) (found.cell_is i))) (latched part l (st.tied.keeping i))) ∙ sym draws.kept;
-        next = (let same = st.tied.next in let one = draws.number in omega (arith, same, one));
-        slots = draws.slots;
-        history = st.tied.history ∙ ap (λ h. map plain_entry h.items) (sym goes.history);
-        held = held_changed (layout_shape layout) l st.w v changed st.tied.held (held_by_lane (layout_shape layout) v l (let most = few in let lt = in_lanes in omega (arith, most, lt)) in_lanes holder_is
-            (λ none. (let e : appends adding 0 ≡ nothing = sym under_here ∙ none in cc))
-            (subst (λ (run : Running). run.made < length (plan_of (layout_shape layout) part run.part))
-            (sym (ap (λ (b : Bool). if b then begun (adds place (record_of_adding adding)) else st.w.keeping.runs part) (test_same part part refl))) (let many = long in omega (arith, many))));
-        own = own;
-        fresh = subst (λ (k : ℕ). (txn_at st.w.lanes l).number < k) (sym goes.next) (st.tied.fresh l);
-        no_less = (let same = goes.next in omega (arith, same));
-        owes = owes_there;
-        stores = (let sum = lane_sum (λ (z : Lane E). z.owed_events) book later l (with_record_paid (lane_at book l)) goes.lanes in let was = st.owing.stores in omega (arith, sum, was));
-        places = (
-            let sum = lane_sum (λ (z : Lane E). z.owed_records) book later l (with_record_paid (lane_at book l)) goes.lanes in
-            let was = st.owing.places in
-            let one = draws.places in
-            let a = less.records in
-            let b = owed.records in
-            omega (arith, sum, was, one, a, b));
-        numbered = numbered_there E layout.partitions book later st.w v events events l (with_record_paid (lane_at book l)) goes.lanes goes.next refl (omega arith) (
-            let old = st.numbered.records in
-            let sum = unpaid_sum layout.partitions part st.w v inside (λ q ne. changed.unders q ne) in
-            let before : unpaid (st.w.under part) ≡ 0 = ap unpaid rests_there in
-            let after : unpaid (v.under part) ≡ 10 - 0 = ap unpaid under_here in
-            omega (arith, old, sum, before, after)) st.numbered;
-        opens = (let one = draws.number in omega (arith, one));
-        is_book = world_book layout book later l (with_record_paid (lane_at book l)) goes.lanes is_book
-            (entries_stay book later l (with_record_paid (lane_at book l)) goes
-            (same_entry book.history.items l (lane_at book l) (with_record_paid (lane_at book l)) refl refl refl refl (its_entry book l st.is_book.entries)) (omega arith) st.is_book.entries) st.is_book;
-      })
+  state_begun = rebuilt E layout start book later keeper taken region region spare spare events events l (txn_at st.w.lanes l).number (with_record_paid (lane_at book l)) st.base st.s st.chains v st (record {
+    world = world_drawn;
+    roomy = roomy_less layout book later region (λ q. reserved_less layout book later l (with_record_paid (lane_at book l)) goes.lanes (omega arith) q) st.roomy;
+    beside = beside_changed (layout_shape layout) l (txn_at st.w.lanes l).number st.s.log st.s.log st.chains st.chains st.w v changed
+        (adds_same (txn_at st.w.lanes l).number st.s.log st.s.log refl)
+        (adds_same (txn_at st.w.lanes l).number (newest_log st.w.keeping.ledger) (newest_log v.keeping.ledger) refl)
+        (takes_same (txn_at st.w.lanes l).number (newest_log st.w.keeping.ledger) (newest_log v.keeping.ledger) refl)
+        (λ t ne. ap (λ (gates : List ℕ). gates_in t false st.w.keeping.ledger ++ gates)
+        (none_noted t (record { lane = held.keeping.holder part; entry = record_of_adding adding; stage = Drawn }) (λ same. ne (sym same ∙ found.coming.of)))
+        ∙ append-nil (gates_in t false st.w.keeping.ledger)) (λ q ne. refl);
+    apart = λ k ne one same. ne (st.world.transactions.apart k l one same);
+    lanes = goes.lanes;
+    keeping = (λ i. appending part place (record_of (place_address place) (with_number (st.tied.next i) (found.cell_is i))) (latched part l (st.tied.keeping i))) ∙ sym draws.kept;
+    next = (let same = st.tied.next in let one = draws.number in omega (arith, same, one));
+    slots = draws.slots;
+    history = st.tied.history ∙ ap (λ h. map plain_entry h.items) (sym goes.history);
+    held = held_changed (layout_shape layout) l st.w v changed st.tied.held (held_by_lane (layout_shape layout) v l (let most = few in let lt = in_lanes in omega (arith, most, lt)) in_lanes holder_is
+        (λ none. (let e : appends adding 0 ≡ nothing = sym under_here ∙ none in cc))
+        (subst (λ (run : Running). run.made < length (plan_of (layout_shape layout) part run.part))
+        (sym (ap (λ (b : Bool). if b then begun (adds place (record_of_adding adding)) else st.w.keeping.runs part) (test_same part part refl))) (let many = long in omega (arith, many))));
+    own = own;
+    fresh = subst (λ (k : ℕ). (txn_at st.w.lanes l).number < k) (sym goes.next) (st.tied.fresh l);
+    no_less = (let same = goes.next in omega (arith, same));
+    owes = owes_there;
+    stores = (let sum = lane_sum (λ (z : Lane E). z.owed_events) book later l (with_record_paid (lane_at book l)) goes.lanes in let was = st.owing.stores in omega (arith, sum, was));
+    places = (
+        let sum = lane_sum (λ (z : Lane E). z.owed_records) book later l (with_record_paid (lane_at book l)) goes.lanes in
+        let was = st.owing.places in
+        let one = draws.places in
+        let a = less.records in
+        let b = owed.records in
+        omega (arith, sum, was, one, a, b));
+    numbered = numbered_there E layout.partitions book later st.w v events events l (with_record_paid (lane_at book l)) goes.lanes goes.next refl (omega arith) (
+        let old = st.numbered.records in
+        let sum = unpaid_sum layout.partitions part st.w v inside (λ q ne. changed.unders q ne) in
+        let before : unpaid (st.w.under part) ≡ 0 = ap unpaid rests_there in
+        let after : unpaid (v.under part) ≡ 10 - 0 = ap unpaid under_here in
+        omega (arith, old, sum, before, after)) st.numbered;
+    opens = (let one = draws.number in omega (arith, one));
+    is_book = world_book layout book later l (with_record_paid (lane_at book l)) goes.lanes is_book
+        (entries_stay book later l (with_record_paid (lane_at book l)) goes
+        (same_entry book.history.items l (lane_at book l) (with_record_paid (lane_at book l)) refl refl refl refl (its_entry book l st.is_book.entries)) (omega arith) st.is_book.entries) st.is_book;
+  })
 
 pub appends_begin : (E : Type 0) → AppendsBegin E
 appends_begin E layout start book later keeper taken region spare events l place cell free read next_cell filled low goes is_book draws st =

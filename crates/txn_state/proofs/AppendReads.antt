@@ -1,25 +1,22 @@
 -- What is reserved where an append begins, and the place that is read for it.
-use Rattle.std.proofs.Common.{◌≡◌, ◌≢◌, ◌⊎◌, inl, inr, ℕ, zero, suc, ◌+◌, ◌-◌, ◌*◌, ◌%◌, ◌<◌, ◌≤◌, ◌==◌, ◌&&◌, ◌||◌, not, Bool, true, false, if◌then◌else◌, List, [], ◌∷◌, length, refl, sym, ap, ◌∙◌, subst, arith}
+use Rattle.std.proofs.Common.{◌≡◌, ◌≢◌, ◌⊎◌, inl, inr, ℕ, zero, suc, ◌+◌, ◌%◌, ◌<◌, ◌≤◌, ◌==◌, ◌&&◌, ◌||◌, not, Bool, true, false, if◌then◌else◌, List, [], ◌∷◌, length, refl, sym, ap, ◌∙◌, subst, arith}
 use Rattle.std.proofs.lemmas.Bool.Decides.{eqb_tells}
 use Rattle.std.proofs.lemmas.Bool.{cases_lt}
 use Rattle.persist_model.specs.Region.{Words, Region}
 use Rattle.persist_model.specs.Records.{Log, Record, IsAmong}
 use Rattle.persist_model.specs.Need.{has_of}
 use Rattle.persist_model.specs.Shape.{Shape, log_words}
-use Rattle.persist_model.specs.Chain.{view, out_address}
+use Rattle.persist_model.specs.Chain.{view}
 use Rattle.persist_model.specs.State.{State}
-use Rattle.atomic_list.specs.Rules.{IsAtRest, at_rest}
+use Rattle.atomic_list.specs.Rules.{at_rest}
 use Rattle.atomic_list.specs.Walk.{chain_of}
-use Rattle.atomic_list.proofs.Walks.{chain_of_list}
 use Rattle.region_layout.specs.declared.layout.Layout.{Layout}
 use Rattle.region_layout.specs.Layout.{layout_shape}
 use Rattle.bucket_log.specs.declared.append.Place.{Place}
 use Rattle.bucket_log.specs.Plans.{place_address}
 use Rattle.bucket_log.specs.Places.{IsNextPlace}
 use Rattle.bucket_log.specs.Appends.{CanAppend}
-use Rattle.bucket_log.specs.Words.{IsLogWord}
-use Rattle.bucket_log.proofs.Appended.{inside_log, next_places_take}
-use Rattle.bucket_log.proofs.Partitions.{log_word_out, part_word_below}
+use Rattle.bucket_log.proofs.Appended.{next_places_take}
 use Rattle.bucket_log.proofs.PartWords.{own_words_take}
 use Rattle.log_laws.proofs.MoveRooms.{some_of}
 use Rattle.lane_book.specs.declared.book.Book.{Book}
@@ -28,20 +25,15 @@ use Rattle.lane_book.specs.FacesOf.{lane_at}
 use Rattle.lane_book.specs.Reserved.{is_bound, reserved_by as lane_reserves, share_of, undo_cells as lane_undoes}
 use Rattle.log_keeper.specs.declared.keeper.LogKeeper.{LogKeeper}
 use Rattle.log_keeper.specs.Ledger.{newest_log}
-use Rattle.log_keeper.specs.Parts.{rests, appends as adds, Running}
-use Rattle.log_keeper.specs.Laws.{IsAtRestIn}
+use Rattle.log_keeper.specs.Parts.{rests}
 use Rattle.log_keeper.specs.Logged.{Keeping as Kept, IsLoggedAt}
-use Rattle.log_keeper.proofs.EventsPass.{resting_parts_are_settled}
-use Rattle.log_keeper.proofs.Newest.{in_newest}
-use Rattle.history_laws.specs.Histories.{fold}
-use Rattle.history_laws.specs.UnderWay.{UnderWay, nothing, record_of_adding}
+use Rattle.history_laws.specs.UnderWay.{UnderWay, nothing}
 use Rattle.txn_laws.specs.Txns.{Txn, idle, txn_at}
 use Rattle.txn_laws.specs.Needs.{undo_cells}
-use Rattle.txn_laws.specs.NextRecords.{IsAppendOf}
-use Rattle.txn_laws.specs.PartsOf.{Fits}
 use Rattle.txn_laws.specs.Rooms.{Share, reserved_by, reserved_in, sum_below, AreBound}
 use Rattle.txn_laws.specs.Worlds.{World, IsWorldAt}
-use Rattle.txn_laws.proofs.Rooms.{AreFilled, newest_stand}
+use Rattle.txn_laws.proofs.NeedsRest.{newest_known}
+use Rattle.txn_laws.proofs.Rooms.{AreFilled}
 use Rattle.txn_laws.proofs.Reserved.{shares_are_summed}
 use Rattle.txn_state.specs.Stages.{Stage, Free, Between, Leaving, Naming, Storing, Securing, Opening, Undoing, TakingBack, Keeping, Ending, Closing, ClosingEnd, Dropping, Unbuilt, stage_of}
 use Rattle.txn_state.specs.Ties.{IsCome, IsTxnOf, under_of, IsLaneOf, IsTied}
@@ -50,44 +42,21 @@ use Rattle.txn_state.specs.AppendLaws.{newest_image}
 use Rattle.txn_state.proofs.Sums.{sums_less}
 use Rattle.txn_state.proofs.Lanes.{reserved_is_sum}
 use Rattle.txn_state.proofs.Making.{test_same, under_free}
-use Rattle.txn_state.proofs.Named.{adding_of, updates_counted}
-use Rattle.txn_state.proofs.EndsSettling.{settled_told, settled_among}
+use Rattle.txn_state.proofs.Named.{updates_counted}
+use Rattle.txn_state.proofs.NextParts.{read_words, read_list, read_chain}
 
 -- ---- the place
 
-view_out : (p : ℕ) (w : Words) (a : ℕ) → view p w a ≡ w (out_address p a)
-view_out p w a = by ((a == 8) || (a == 9) || (a == 10) || (a == 11) || (a == 12)) (p == 0)
-  where
-    by : (t u : Bool) → (if t then w ((if u then 8 else 16 + 5 * p) + (a - 8)) else w a) ≡ w (if t then (if u then 8 else 16 + 5 * p) + (a - 8) else a)
-    by true u = refl
-    by false u = refl
-
-module _ (shape : Shape) (base : Words) (s : State) (chains : ℕ → List ℕ) (k : Kept) (region : Region) (p : ℕ) (inside : p < shape.partitions) (free : (k.runs p).part ≡ rests)
-    (h : IsLoggedAt shape base s chains k region) (filled : AreFilled region) where
-  abbrev image : Words
-  image = newest_image region
-
-  there : IsAtRestIn shape base chains p image
-  there = resting_parts_are_settled shape base s chains k region image p inside free h (newest_stand region image filled (λ a lt. refl))
-
-  read_words : (a : ℕ) → IsLogWord shape p a → view p (log_words shape base) a ≡ view p image a
-  read_words a word =
-      let out = log_word_out shape p a word in
-      let low = part_word_below shape p (out_address p a) h.allowed inside out in
-      view_out p (log_words shape base) a ∙ inside_log shape base (out_address p a) low ∙ sym (there.words (out_address p a) out) ∙ sym (view_out p image a)
-
-  read_list : IsAtRest shape p (view p image) (chains p)
-  read_list = own_words_take.at_rest shape p (view p (log_words shape base)) (view p image) (chains p) (λ a word. sym (read_words a word)) (h.rest p inside)
-
-  read_chain : chain_of shape (view p image) ≡ chains p
-  read_chain = (chain_of_list shape p (view p image) (chains p) inside (at_rest read_list)).0
-
-  -- the place that is read takes a record
-  pub read_place : (place : Place) (r : Record) → IsNextPlace shape p (view p image) (chain_of shape (view p image)) place → r.at ≡ place_address place → r.lsn ≢ 0 →
-      CanAppend shape p (view p (log_words shape base)) (chains p) place r
-  read_place place r read at open_gate = next_places_take shape p (view p (log_words shape base)) (chains p) place r (h.rest p inside)
-      (own_words_take.next shape p (view p image) (view p (log_words shape base)) (chains p) place read_words (at_rest read_list)
-      (subst (λ (chain : List ℕ). IsNextPlace shape p (view p image) chain place) read_chain read)) at open_gate
+-- the place that is read takes a record
+pub read_place : (shape : Shape) (base : Words) (s : State) (chains : ℕ → List ℕ) (k : Kept) (region : Region) (p : ℕ) → p < shape.partitions → (k.runs p).part ≡ rests →
+    IsLoggedAt shape base s chains k region → AreFilled region → (place : Place) (r : Record) →
+    IsNextPlace shape p (view p (newest_image region)) (chain_of shape (view p (newest_image region))) place → r.at ≡ place_address place → r.lsn ≢ 0 →
+    CanAppend shape p (view p (log_words shape base)) (chains p) place r
+read_place shape base s chains k region p inside free h filled place r read at opens =
+    next_places_take shape p (view p (log_words shape base)) (chains p) place r (h.rest p inside)
+    (own_words_take.next shape p (view p (newest_image region)) (view p (log_words shape base)) (chains p) place (read_words shape base s chains k region p inside free h filled)
+    (at_rest (read_list shape base s chains k region p inside free h filled))
+    (subst (λ (chain : List ℕ). IsNextPlace shape p (view p (newest_image region)) chain place) (read_chain shape base s chains k region p inside free h filled) read)) at opens
 
 -- ---- the shares of the lanes
 
@@ -159,24 +128,7 @@ module _ (E : Type 0) (layout : Layout) (start : Words) (book : Book E) (keeper 
   -- each record of the newest log is of a transaction
   has_number : (r : Record) → IsAmong (newest_log w.keeping.ledger) r → 1 ≤ r.transaction
   has_number r among =
-      let q = in_newest w.keeping.ledger r among in
-      subst (λ (y : Record). 1 ≤ y.transaction) q.2 (elim (settled_told q.0.stage) [
-        | inl on ↦ of_settled q.0.entry (subst (λ (log : Log). IsAmong log q.0.entry) (sym world.log.logged.records) (settled_among w.keeping.ledger q.0 q.1 on))
-        | inr off ↦ of_run q.0.entry (world.log.fits.others q.0 q.1 off)
-      ])
-    where
-      of_settled : (y : Record) → IsAmong s.log y → 1 ≤ y.transaction
-      of_settled y among = let known = world.transactions.known y among in let one = known.1 in let of = known.2.0 in omega (arith, one, of)
-
-      of_run : (y : Record) → (i : ℕ) × (i < layout.partitions) × (place : Place) × ((w.keeping.runs i).part ≡ adds place y) → 1 ≤ y.transaction
-      of_run y run =
-          let found = adding_of (w.under run.0) run.2 y (sym (ap (λ (r : Running). r.part) (world.parts run.0 run.1).run) ∙ run.3) in
-          let fit : IsAppendOf (layout_shape layout) s (fold start w.history) run.0 (txn_at w.lanes (w.keeping.holder run.0)) found.0 found.1 =
-          subst (λ (u : UnderWay). Fits (layout_shape layout) s (fold start w.history) run.0 (txn_at w.lanes (w.keeping.holder run.0)) u) found.2 (world.parts run.0 run.1).fits in
-          let one = fit.number in
-          let of = fit.of in
-          let same : (record_of_adding found.0).transaction ≡ y.transaction = ap (λ (r : Record). r.transaction) found.3 in
-          omega (arith, one, of, same)
+      let known = newest_known (layout_shape layout) base s chains start w region world r among in let one = known.1 in let of = known.2.0 in omega (arith, one, of)
 
   numbered : (j : ℕ) → has_of (txn_at w.lanes j).number (newest_log w.keeping.ledger) ≡ true → 1 ≤ (txn_at w.lanes j).number
   numbered j has = let some = some_of (txn_at w.lanes j).number (newest_log w.keeping.ledger) has in let one = has_number some.0 some.1 in let of = some.2.0 in omega (arith, one, of)

@@ -162,7 +162,7 @@ module _ {E : Type 0} (layout : Layout) (start : Words) (book later : Book E) (k
   goes_there : IsRoomy (layout_shape layout) region (reserved_for layout later) → AreEntries later → ((v : Write) → IsAmong (map plain_write more) v → IsMine x v.address) →
       IsLaneOf layout book.blocks state.s.log (newest_log state.w.keeping.ledger) nothing (l % layout.partitions) lane y →
       OwesEnough (layout_shape layout) state.chains later keeper (with_lane l y state.w) l → IsStateOf layout start later keeper region spare events
-  goes_there roomy entries mine own owes = goes_on layout start book later keeper keeper region region spare spare events events l x.number lane state refl (record {
+  goes_there roomy entries mine own owes = goes_on layout start book later keeper keeper region region spare spare events events l x.number lane state state.opens (record {
     base = state.base;
     s = state.s;
     others = state.chains;

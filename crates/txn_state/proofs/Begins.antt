@@ -229,7 +229,7 @@ module _ {E : Type 0} (layout : Layout) (start : Words) (book later : Book E) (k
   }
 
   begins : IsStateOf layout start later keeper region spare events
-  begins = goes_on layout start book later keeper keeper region region spare spare events events l book.next_transaction lane state refl (record {
+  begins = goes_on layout start book later keeper keeper region region spare spare events events l book.next_transaction lane state state.opens (record {
     base = state.base;
     s = state.s;
     others = state.chains;

@@ -411,7 +411,7 @@ module _ (E : Type 0) (layout : Layout) (start : Words) (book : Book E) (keeper 
     one_owed = let a = (less 0).events in let b = owed_here.events in omega (arith, a, b)
 
     pub closing_state : IsStateOf layout start later kept behind left made
-    closing_state = rebuilt E layout start book later keeper kept behind spare left made l (txn_at st.w.lanes l).number here base_there st.s state_there st.chains chains_there st.w v st.tied st.owing (record {
+    closing_state = rebuilt E layout start book later keeper kept region behind spare left events made l (txn_at st.w.lanes l).number here base_there state_there chains_there v st (record {
       world = world;
       roomy = settling.roomy_there E layout start book keeper region behind spare left events made l e m st are adding n is (reserved_for layout later) reserved;
       beside = settling.beside E layout start book keeper region behind spare left events made l e m st are adding n is v refl elsewhere runs_stay unders_stay (λ j ne lt. nobody j ne) refl;

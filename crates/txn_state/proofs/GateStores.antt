@@ -46,12 +46,13 @@ use Rattle.txn_state.specs.States.{is_joining, IsStateOf, reserved_for}
 use Rattle.txn_state.specs.Changes.{GoesTo, IsKept, with_event_paid}
 use Rattle.txn_state.specs.AppendLaws.{IsMade, AreLeft, made_in, Notices, update, rollback, compensation, end, LetsGoOne, GatesAreStored}
 use Rattle.txn_state.proofs.Making.{adds_same, beside_changed, region_is, left_there, keeping_there}
+use Rattle.txn_state.proofs.Staying.{numbered_or_free}
 use Rattle.txn_state.proofs.Lanes.{its_entry, same_entry, joining_same, entries_stay, world_book}
-use Rattle.txn_state.proofs.Likeness.{words_alike, IsOneLess, come_further, needs_further}
+use Rattle.txn_state.proofs.Likeness.{IsOneLess, come_further, needs_further}
 use Rattle.txn_state.proofs.StageSteps.{EndsCall, commit, abort, call_at}
 use Rattle.txn_state.proofs.Named.{naming_recorded, adding_of, kind_under, no_checkpoint, AddsUpdate, adds_update, AddsRollback, adds_rollback, AddsCompensation, adds_compensation, AddsEnd, adds_end, updates_counted, cells_more, cells_less}
 use Rattle.txn_state.proofs.Rebuilding.{Owes, events_paid, records_owed, numbered_there, rebuilt}
-use Rattle.txn_state.proofs.PartsGoing.{pending_same}
+use Rattle.txn_state.proofs.SameTransaction.{is_lanes_same, pending_same}
 use Rattle.txn_state.proofs.Going as going
 
 -- ---- the lane
@@ -143,13 +144,16 @@ module _ (E : Type 0) (layout : Layout) (blocks : List Standing) (log newest : L
   come_on : IsCome log (appends adding (suc made)) x (stage_of lane)
   come_on = come_further log (appends adding made) x (stage_of lane) some_way is.come
 
+  one_number : 1 ≤ x.number
+  one_number = elim (numbered_or_free log (appends adding made) x (stage_of lane) is.come) [ inl one ↦ one | inr free ↦ absurd (some_way free.2) ]
+
   -- what no kind changes
   lane_for : (later : Lane E) → IsBooked lane later → AreCellsOf (reverse later.updates.items) (booked adding.added (record_of_adding adding) y).updates →
       (booked adding.added (record_of_adding adding) y).rolled ≡ later.rolled → y.ended ≡ later.ended → IsCome log (appends adding (suc made)) y (stage_of lane) →
       (stage_of later ≡ Naming → length later.updates.items ≡ later.stored → WaitsToAppend later) → later.has_records ≡ true →
-      (lane.has_records ≡ later.has_records) ⊎ Has (λ q. IsOf x.number q × (IsEnd q → ⊥)) (inserted (record_of_adding adding) newest) → 1 ≤ x.number →
+      (lane.has_records ≡ later.has_records) ⊎ Has (λ q. IsOf x.number q × (IsEnd q → ⊥)) (inserted (record_of_adding adding) newest) →
       IsLaneOf layout blocks log (inserted (record_of_adding adding) newest) (appends adding (suc made)) p later y
-  lane_for later b updates rolled ended come naming recorded some numbered = let t = is.txn in record {
+  lane_for later b updates rolled ended come naming recorded some = let t = is.txn in record {
     txn = record {
       number = t.number ∙ sym b.transaction;
       here = t.here;
@@ -167,15 +171,15 @@ module _ (E : Type 0) (layout : Layout) (blocks : List Standing) (log newest : L
       entry = λ e has. t.entry e (sym b.entry ∙ has);
     };
     come = subst (IsCome log (appends adding (suc made)) y) (sym b.stage) come;
-    words = λ a. is.words a ∙ sym (words_alike E layout blocks lane later b.held b.gives a);
+    words = λ a. is.words a ∙ sym (is_lanes_same layout blocks lane later a b.held b.gives);
     data_words = λ w among. is.data_words w (subst (λ ws. IsAmong ws w) b.writes among);
     naming = naming;
     recorded = λ one has. recorded;
+    begun = λ on. one_number;
     has_some = λ one on over. elim some [
       | inl same ↦ (let h = is.has_some one (same ∙ on) over in (h.0, inserted_in (record_of_adding adding) newest h.0 (inr h.1), h.2))
       | inr has ↦ has
     ];
-    begun = λ on. numbered;
   }
 
   own_update : stage_of lane ≡ Naming → (later : Lane E) → later ≡ moved lane.part (with_update c (with_event_paid lane)) → IsBooked lane later →
@@ -190,7 +194,6 @@ module _ (E : Type 0) (layout : Layout) (blocks : List Standing) (log newest : L
       (λ stage long. absurd (no_more (ap (λ (z : Lane E). length z.updates.items) (sym same) ∙ long ∙ ap (λ (z : Lane E). z.stored) same)))
       (ap (λ (z : Lane E). z.has_records) same)
       (inr (inserted_has (λ q. IsOf x.number q × (IsEnd q → ⊥)) (record_of_adding adding) newest ((of, no_checkpoint adding.added), no_end)))
-      come.going.some
     where
       come : IsNaming (appends adding made) x
       come = subst (IsCome log (appends adding made) x) at is.come
@@ -220,7 +223,6 @@ module _ (E : Type 0) (layout : Layout) (blocks : List Standing) (log newest : L
       (λ stage long. absurd (let no : Opening ≡ Naming = sym at ∙ sym b.stage ∙ stage in cc))
       (ap (λ (z : Lane E). z.has_records) same ∙ has_record lane.has_records lane.doing Opening (call_at lane.phase lane.has_records lane.part lane.doing Opening at refl))
       (inl (sym (ap (λ (z : Lane E). z.has_records) same)))
-      come.going.some
     where
       come : IsOpening (appends adding made) x
       come = subst (IsCome log (appends adding made) x) at is.come
@@ -240,7 +242,6 @@ module _ (E : Type 0) (layout : Layout) (blocks : List Standing) (log newest : L
       (λ stage long. absurd (let no : Undoing ≡ Naming = sym at ∙ sym b.stage ∙ stage in cc))
       (ap (λ (z : Lane E). z.has_records) same ∙ has_record lane.has_records lane.doing Undoing (call_at lane.phase lane.has_records lane.part lane.doing Undoing at refl))
       (inl (sym (ap (λ (z : Lane E). z.has_records) same)))
-      come.going.some
     where
       come : IsUndoing (appends adding made) x
       come = subst (IsCome log (appends adding made) x) at is.come
@@ -267,7 +268,6 @@ module _ (E : Type 0) (layout : Layout) (blocks : List Standing) (log newest : L
       (λ stage long. absurd (let no : Ending ≡ Naming = sym at ∙ sym b.stage ∙ stage in cc))
       (ap (λ (z : Lane E). z.has_records) same ∙ has_record lane.has_records lane.doing Ending (call_at lane.phase lane.has_records lane.part lane.doing Ending at refl))
       (inl (sym (ap (λ (z : Lane E). z.has_records) same)))
-      come.going.some
     where
       come : IsEndingIt (appends adding made) x
       come = subst (IsCome log (appends adding made) x) at is.come
@@ -418,7 +418,7 @@ module _ (E : Type 0) (layout : Layout) (start : Words) (book later : Book E) (k
   is_of = (fits.of, no_checkpoint found.0.added)
 
   pub state_stored : IsStateOf layout start later kept behind left made
-  state_stored = rebuilt E layout start book later keeper kept behind spare left made l (txn_at st.w.lanes l).number (moved lane.part lane) st.base st.s st.s st.chains st.chains st.w v st.tied st.owing (record {
+  state_stored = rebuilt E layout start book later keeper kept region behind spare left events made l (txn_at st.w.lanes l).number (moved lane.part lane) st.base st.s st.chains v st (record {
     world = going.world_on E layout start book keeper region behind spare left events made l e m st more;
     roomy = roomy;
     beside = beside_changed (layout_shape layout) l (txn_at st.w.lanes l).number st.s.log st.s.log st.chains st.chains st.w v
@@ -443,7 +443,7 @@ module _ (E : Type 0) (layout : Layout) (start : Words) (book later : Book E) (k
     stores = events_paid E book later l spare left (moved lane.part lane) goes.lanes (let one = one_owed in let is = b.owed_events in omega (arith, one, is)) m.places st.owing.stores;
     places = records_owed E book later l (free_places keeper) (free_places kept) (moved lane.part lane) goes.lanes b.owed_records keeps.places st.owing.places;
     numbered = numbered_there E layout.partitions book later st.w v events made l (moved lane.part lane) goes.lanes goes.next b.begun
-        (let more = b.commits in let wait = pending_same E (lane_at book l) (moved lane.part lane) b.entered b.transaction in omega (arith, more, wait))
+        (let more = b.commits in let wait = pending_same (lane_at book l) (moved lane.part lane) b.entered b.transaction in omega (arith, more, wait))
         (going.records_on E layout start book keeper region behind spare left events made l e m st more) st.numbered;
     opens = subst (λ (k : ℕ). 1 ≤ k) (sym keeps.number) st.opens;
     is_book = world_book layout book later l (moved lane.part lane) goes.lanes is_book

@@ -31,12 +31,12 @@ use Rattle.txn_state.specs.Owing.{Needs, needs_at, records_noted}
 use Rattle.txn_state.specs.Numbers.{unpaid}
 use Rattle.txn_state.specs.States.{IsStateOf}
 use Rattle.txn_state.specs.AppendLaws.{IsMade, AreLeft}
+use Rattle.txn_state.proofs.Steps.{count_with}
 use Rattle.txn_state.proofs.Making.{
   test_same,
   test_other,
   under_held,
   IsChangedIn,
-  with_count,
   held_changed,
   held_by_lane,
   made_holder,
@@ -179,7 +179,7 @@ module _ (E : Type 0) (layout : Layout) (start : Words) (book : Book E) (keeper 
       unders = λ q ne. ap (λ (t : Bool). if t then further (st.w.under p) else st.w.under q) (test_other q p ne);
       before = λ k ne lt. off k ne;
       behind = λ k ne lt is. off k ne (sym (made_holder (layout_shape layout) p st.w.keeping p) ∙ is);
-      count = ap length lanes_on ∙ with_count l (txn_further (layout_shape layout) p (st.w.under p) (txn_at st.w.lanes l)) st.w.lanes;
+      count = ap length lanes_on ∙ count_with l (txn_further (layout_shape layout) p (st.w.under p) (txn_at st.w.lanes l)) st.w.lanes;
       others = λ k ne. ap (λ (ls : List Txn). txn_at ls k) lanes_on ∙ with_other l k (txn_further (layout_shape layout) p (st.w.under p) (txn_at st.w.lanes l)) st.w.lanes ne;
     }
 

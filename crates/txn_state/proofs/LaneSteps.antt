@@ -97,7 +97,8 @@ pub steps_on : {E : Type 0} (layout : Layout) (start : Words) (book later : Book
     (state : IsStateOf layout start book keeper region spare events) (base : Words) (s : State) (chains : ℕ → List ℕ) (v : World) (lane : Lane E) → GoesTo book later l lane → IsBook later →
     spare ≤ left + 1 → made ≡ events + 1 → IsWorldStep layout start book later keeper kept region behind spare events l state base s chains v lane → IsStateOf layout start later kept behind left made
 steps_on {E} layout start book later keeper kept region behind spare left events made l state base s chains v lane goes is_book spared counted step =
-    goes_on layout start book later keeper kept region behind spare left events made l (txn_at state.w.lanes l).number lane state (sym step.next ∙ step.next_same ∙ state.tied.next) (record {
+    goes_on layout start book later keeper kept region behind spare left events made l (txn_at state.w.lanes l).number lane state
+    (let there = step.next in let same = step.next_same in let is = state.tied.next in let one = state.opens in omega (arith, there, same, is, one)) (record {
       base = base;
       s = s;
       others = chains;

@@ -101,7 +101,7 @@ module _ {E : Type 0} (layout : Layout) (start : Words) (book later : Book E) (k
   -- ---- an abort
 
   leaves_aborted : GoesTo book later l (left Reply.Aborted (lane_at book l)) → IsBook later → IsStateOf layout start later keeper region spare events
-  leaves_aborted goes kept = goes_on layout start book later keeper keeper region region spare spare events events l x.number (left Reply.Aborted (lane_at book l)) state refl (record {
+  leaves_aborted goes kept = goes_on layout start book later keeper keeper region region spare spare events events l x.number (left Reply.Aborted (lane_at book l)) state state.opens (record {
     base = state.base;
     s = state.s;
     others = state.chains;
@@ -179,7 +179,7 @@ module _ {E : Type 0} (layout : Layout) (start : Words) (book later : Book E) (k
         omega (arith, sum, one, places, long, most)) state.is_book.entries
 
     leaves_committed : IsStateOf layout start later keeper region spare events
-    leaves_committed = goes_on layout start book later keeper keeper region region spare spare events events l x.number lane state refl (record {
+    leaves_committed = goes_on layout start book later keeper keeper region region spare spare events events l x.number lane state state.opens (record {
       base = state.base;
       s = state.s;
       others = state.chains;

@@ -19,8 +19,9 @@ use Rattle.txn_laws.specs.NextRecords.{is_end, ended_by}
 use Rattle.txn_laws.specs.Going.{further, txn_further}
 use Rattle.txn_state.specs.Stages.{Stage, Free, Between, Leaving, Naming, Storing, Securing, Opening, Undoing, TakingBack, Keeping, Ending, Closing, ClosingEnd, Dropping, Unbuilt, stage_of, is_commit}
 use Rattle.txn_state.specs.Seen.{booked, noticed}
-use Rattle.txn_state.specs.Ties.{plain_write, is_lanes, AreCellsOf, IsAppending, waits, appends_it, IsGoingOn, IsCome, IsLaneOf}
+use Rattle.txn_state.specs.Ties.{plain_write, AreCellsOf, IsAppending, waits, appends_it, IsGoingOn, IsCome, IsLaneOf}
 use Rattle.txn_state.specs.Owing.{Needs, append_left, needs_at}
+use Rattle.txn_state.proofs.SameTransaction.{is_lanes_same}
 
 -- ---- a lane with the same transaction
 
@@ -40,10 +41,6 @@ pub record IsLike {E : Type 0} (lane later : Lane E) : Type 0 where
   pub entry : later.entry ≡ lane.entry
   pub committing : is_commit later.doing ≡ is_commit lane.doing
   pub promised : later.promised ≡ lane.promised
-
-pub words_alike : (E : Type 0) (layout : Layout) (blocks : List Standing) (lane later : Lane E) → later.held ≡ lane.held → later.gives.items ≡ lane.gives.items → (a : ℕ) →
-    is_lanes layout blocks later a ≡ is_lanes layout blocks lane a
-words_alike E layout blocks lane later held gives a i = is_lanes layout blocks (record later { held = held i; gives = record later.gives { items = gives i } }) a
 
 pub like_lane : (E : Type 0) (layout : Layout) (blocks : List Standing) (log newest : Log) (u : UnderWay) (p : ℕ) (lane later : Lane E) (x : Txn) → IsLike lane later →
     IsLaneOf layout blocks log newest u p lane x → IsLaneOf layout blocks log newest u p later x
@@ -65,7 +62,7 @@ like_lane E layout blocks log newest u p lane later x like is = let t = is.txn i
     entry = λ e some. t.entry e (sym like.entry ∙ some);
   };
   come = subst (IsCome log u x) (sym like.stage) is.come;
-  words = λ a. is.words a ∙ sym (words_alike E layout blocks lane later like.held like.gives a);
+  words = λ a. is.words a ∙ sym (is_lanes_same layout blocks lane later a like.held like.gives);
   data_words = subst (λ (writes : List WordWrite). (w : WordWrite) → IsAmong writes w → IsDataWord (layout_shape layout) w.address) (sym like.writes) is.data_words;
   naming = λ stage long. (
       let at : stage_of lane ≡ Naming = sym like.stage ∙ stage in
@@ -74,8 +71,8 @@ like_lane E layout blocks log newest u p lane later x like is = let t = is.txn i
         place = subst (λ (stock : Stocked Cell). has_room 1 stock) (sym (like.waits at)) old.place;
       });
   recorded = λ one has. like.has_records ∙ is.recorded one has;
-  has_some = λ one some over. is.has_some one (sym like.has_records ∙ some) over;
   begun = λ on. is.begun (sym like.has_records ∙ on);
+  has_some = λ one some over. is.has_some one (sym like.has_records ∙ some) over;
 }
 
 -- ---- one event more

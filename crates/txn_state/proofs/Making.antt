@@ -1,5 +1,5 @@
 -- What an event of a part gives that a lane makes, and what it leaves of the other lanes.
-use Rattle.std.proofs.Common.{◌≡◌, ◌≢◌, ◌⊎◌, inl, inr, ℕ, zero, suc, ◌+◌, ◌%◌, ◌<◌, ◌≤◌, ◌==◌, ◌++◌, Bool, true, false, if◌then◌else◌, List, [], ◌∷◌, length, refl, sym, ap, ◌∙◌, subst, arith}
+use Rattle.std.proofs.Common.{◌≡◌, ◌≢◌, ◌⊎◌, inl, inr, ℕ, ◌+◌, ◌%◌, ◌<◌, ◌≤◌, ◌==◌, ◌++◌, Bool, true, false, if◌then◌else◌, List, [], ◌∷◌, length, refl, sym, ap, ◌∙◌, subst, arith}
 use Rattle.std.specs.Prelude.{Some, slice_get}
 use Rattle.std.proofs.lemmas.Bool.Decides.{eqb_tells}
 use Rattle.persist_model.specs.declared.event.Event.{Event}
@@ -21,7 +21,7 @@ use Rattle.log_keeper.specs.Events.{IsNextEvent, region_made}
 use Rattle.log_keeper.proofs.Made.{goes_on}
 use Rattle.log_keeper.proofs.Steps.{last_events_end}
 use Rattle.history_laws.specs.UnderWay.{UnderWay, nothing}
-use Rattle.txn_laws.specs.Txns.{Txn, txn_at, with_txn}
+use Rattle.txn_laws.specs.Txns.{txn_at}
 use Rattle.txn_laws.specs.Worlds.{World}
 use Rattle.txn_state.specs.Seen.{under_by}
 use Rattle.txn_state.specs.Ties.{under_of, AreHeld, IsTied}
@@ -82,12 +82,6 @@ adds_same t log later e r m = inl (subst (λ (x : Log). IsAmong x r) e m)
 
 pub takes_same : (t : ℕ) (log later : Log) → later ≡ log → TakesOnlyOf t log later
 takes_same t log later e r m = inl (subst (λ (x : Log). IsAmong x r) (sym e) m)
-
--- as many lanes
-pub with_count : (l : ℕ) (y : Txn) (lanes : List Txn) → length (with_txn l y lanes) ≡ length lanes
-with_count l y [] = refl
-with_count zero y (x ∷ lanes) = refl
-with_count (suc l) y (x ∷ lanes) = ap suc (with_count l y lanes)
 
 -- ---- latches
 

@@ -20,7 +20,7 @@ use Rattle.txn_laws.specs.Settled.{txn_behind}
 use Rattle.txn_state.specs.Stages.{Stage, Naming, stage_of, is_commit}
 use Rattle.txn_state.specs.Seen.{booked, noticed}
 use Rattle.txn_state.specs.Ties.{plain_write, AreCellsOf, top_of, AreLinked, IsUpdating, IsCompensating, IsAppending, waits, appends_it, IsCome, IsLaneOf}
-use Rattle.txn_state.proofs.Likeness.{words_alike}
+use Rattle.txn_state.proofs.SameTransaction.{is_lanes_same}
 use Rattle.txn_state.proofs.Settling.{KeepsTxn}
 
 -- what the book keeps of the transaction beside the stage
@@ -63,13 +63,13 @@ lane_as E layout blocks log after newest u v p x z lane later stage is keeps gif
     entry = λ e has. t.entry e (same.entry e has) ∙ sym (entry_same x z keeps gifts);
   };
   come = subst (IsCome after v z) (sym at) come;
-  words = λ a. ap (λ (f : ℕ → Bool). f a) keeps.words ∙ is.words a ∙ sym (words_alike E layout blocks lane later same.held same.gives a);
+  words = λ a. ap (λ (f : ℕ → Bool). f a) keeps.words ∙ is.words a ∙ sym (is_lanes_same layout blocks lane later a same.held same.gives);
   data_words = λ w among. is.data_words w (subst (λ (ws : List WordWrite). IsAmong ws w) same.writes among);
   naming = λ on long. absurd (other (sym at ∙ on));
   recorded = λ one has. same.has_records ∙ is.recorded (subst (λ k. 1 ≤ k) keeps.number one) (subst (λ k. has_of k newest ≡ true) keeps.number has);
+  begun = λ on. subst (λ k. 1 ≤ k) (sym keeps.number) (is.begun (sym same.has_records ∙ on));
   has_some = λ one some runs. subst (λ (k : ℕ). Has (λ r. IsOf k r × (IsEnd r → ⊥)) newest) (sym keeps.number)
       (is.has_some (subst (λ k. 1 ≤ k) keeps.number one) (sym same.has_records ∙ some) (over runs));
-  begun = λ on. subst (λ k. 1 ≤ k) (sym keeps.number) (is.begun (sym same.has_records ∙ on));
 }
 
 -- ---- what is appended

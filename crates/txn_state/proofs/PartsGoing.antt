@@ -34,7 +34,6 @@ use Rattle.txn_laws.proofs.Rooms.{parts_are_roomy}
 use Rattle.txn_state.specs.Stages.{stage_of}
 use Rattle.txn_state.specs.Ties.{plain_entry, AreCellsOf, under_of, IsLaneOf}
 use Rattle.txn_state.specs.Owing.{needs_at, records_noted}
-use Rattle.txn_state.specs.Numbers.{pending}
 use Rattle.txn_state.specs.States.{is_joining, IsStateOf, reserved_for}
 use Rattle.txn_state.specs.Changes.{GoesTo, IsKept, with_event_paid}
 use Rattle.txn_state.specs.QuietLaws.{HasSameTransaction}
@@ -43,6 +42,7 @@ use Rattle.txn_state.proofs.Making.{test_same, adds_same, takes_same, beside_cha
 use Rattle.txn_state.proofs.Lanes.{reserved_less, reserved_by_same, its_entry, same_entry, joining_same, entries_stay, world_book}
 use Rattle.txn_state.proofs.Likeness.{IsLike, like_lane, IsOneLess, WaitsYet, come_further, txn_waits, noticed_waits, needs_further}
 use Rattle.txn_state.proofs.Rebuilding.{Owes, events_paid, records_owed, numbered_there, rebuilt}
+use Rattle.txn_state.proofs.SameTransaction.{pending_same}
 use Rattle.txn_state.proofs.Going as going
 
 -- where the next event doesn't store the gate, it isn't stored behind it
@@ -85,8 +85,8 @@ lane_further E layout blocks log newest u p lane x busy waits is = let t = is.tx
   data_words = is.data_words;
   naming = is.naming;
   recorded = is.recorded;
-  has_some = is.has_some;
   begun = is.begun;
+  has_some = is.has_some;
 }
 
 like_of : (E : Type 0) (lane later : Lane E) → HasSameTransaction (with_event_paid lane) later → IsLike lane later
@@ -106,9 +106,6 @@ like_of E lane later same = record {
   committing = same.committing;
   promised = same.promised;
 }
-
-pub pending_same : (E : Type 0) (lane later : Lane E) → later.entered ≡ lane.entered → later.transaction ≡ lane.transaction → pending later ≡ pending lane
-pending_same E lane later entered transaction i = if entered i then 0 else (if transaction i == 0 then 0 else 1)
 
 none_taken : (b t : Bool) → t ≡ false → ◌≡◌ {A = ℕ} (if b && t then 1 else 0) 0
 none_taken true t off = subst (λ (k : Bool). ◌≡◌ {A = ℕ} (if k then 1 else 0) 0) (sym off) refl
@@ -215,7 +212,7 @@ module _ (E : Type 0) (layout : Layout) (start : Words) (book later : Book E) (k
       let fewer = reserved_less layout book later l lane goes.lanes same_reserved q in omega (arith, none, fewer))) st.roomy)
 
   pub state_on : IsStateOf layout start later kept behind left made
-  state_on = rebuilt E layout start book later keeper kept behind spare left made l (txn_at st.w.lanes l).number lane st.base st.s st.s st.chains st.chains st.w v st.tied st.owing (record {
+  state_on = rebuilt E layout start book later keeper kept region behind spare left events made l (txn_at st.w.lanes l).number lane st.base st.s st.chains v st (record {
     world = going.world_on E layout start book keeper region behind spare left events made l e m st more;
     roomy = roomy;
     beside = beside_changed (layout_shape layout) l (txn_at st.w.lanes l).number st.s.log st.s.log st.chains st.chains st.w v
@@ -238,7 +235,7 @@ module _ (E : Type 0) (layout : Layout) (start : Words) (book later : Book E) (k
     stores = events_paid E book later l spare left lane goes.lanes (let one = one_owed in let is = same.owed_events in omega (arith, one, is)) m.places st.owing.stores;
     places = records_owed E book later l (free_places keeper) (free_places kept) lane goes.lanes same.owed_records keeps.places st.owing.places;
     numbered = numbered_there E layout.partitions book later st.w v events made l lane goes.lanes goes.next same.begun
-        (let a = same.commits in let b = pending_same E (lane_at book l) lane same.entered same.transaction in omega (arith, a, b))
+        (let a = same.commits in let b = pending_same (lane_at book l) lane same.entered same.transaction in omega (arith, a, b))
         (going.records_on E layout start book keeper region behind spare left events made l e m st more) st.numbered;
     opens = subst (λ (k : ℕ). 1 ≤ k) (sym keeps.number) st.opens;
     is_book = world_book layout book later l lane goes.lanes is_book

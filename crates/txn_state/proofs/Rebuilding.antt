@@ -1,6 +1,5 @@
 -- A state from its parts, behind a step of one lane.
-use Rattle.std.proofs.Common.{◌≡◌, ◌≢◌, inl, inr, ℕ, ◌+◌, ◌*◌, ◌%◌, ◌^◌, ◌<◌, ◌≤◌, List, length, map, sym, ap, ◌∙◌, subst, arith}
-use Rattle.std.proofs.lemmas.Bool.Decides.{eqb_tells}
+use Rattle.std.proofs.Common.{◌≡◌, ◌≢◌, ℕ, ◌+◌, ◌*◌, ◌%◌, ◌<◌, ◌≤◌, List, length, map, sym, ap, subst, arith}
 use Rattle.persist_model.specs.Region.{Words, Region}
 use Rattle.persist_model.specs.Shape.{Shape}
 use Rattle.persist_model.specs.State.{State}
@@ -17,15 +16,15 @@ use Rattle.txn_laws.specs.Txns.{Txn, txn_at}
 use Rattle.txn_laws.specs.Rooms.{IsRoomy, sum_below}
 use Rattle.txn_laws.specs.Worlds.{World, IsWorldAt}
 use Rattle.txn_state.specs.Stages.{stage_of}
-use Rattle.txn_state.specs.Ties.{under_of, plain_entry, AreHeld, IsLaneOf, IsTied}
-use Rattle.txn_state.specs.Owing.{needs_at, records_noted, OwesEnough, IsOwing}
+use Rattle.txn_state.specs.Ties.{under_of, plain_entry, AreHeld, IsLaneOf}
+use Rattle.txn_state.specs.Owing.{needs_at, records_noted, OwesEnough}
 use Rattle.txn_state.specs.Numbers.{unpaid, pending, IsNumbered}
 use Rattle.txn_state.specs.States.{IsWorldBook, IsStateOf, reserved_for}
 use Rattle.txn_state.specs.Changes.{HasLane}
 use Rattle.txn_state.specs.Beside.{IsBeside, IsApart}
 use Rattle.txn_state.proofs.Sums.{sums_differ}
-use Rattle.txn_state.proofs.Lanes.{by_lane, lane_sum}
-use Rattle.txn_state.proofs.Staying.{lanes_stay}
+use Rattle.txn_state.proofs.Steps.{numbers_stay, goes_on}
+use Rattle.txn_state.proofs.Lanes.{lane_sum}
 
 -- ---- what is owed
 
@@ -70,13 +69,8 @@ unpaid_sum partitions p w v inside same = sums_differ (λ q. unpaid (v.under q))
 pub numbered_there : (E : Type 0) (partitions : ℕ) (book later : Book E) (w v : World) (events made l : ℕ) (lane : Lane E) → HasLane book later l lane →
     later.next_transaction ≡ book.next_transaction → lane.begun ≡ (lane_at book l).begun → lane.commits + pending lane ≤ (lane_at book l).commits + pending (lane_at book l) →
     10 * v.next ≤ made + (10 + sum_below (λ q. unpaid (v.under q)) partitions) → IsNumbered partitions book w events → IsNumbered partitions later v made
-numbered_there E partitions book later w v events made l lane has next begun commits records was = record {
-  records = records;
-  transactions = (let sum = lane_sum (λ (z : Lane E). z.begun) book later l lane has in let old = was.transactions in omega (arith, sum, old, next, begun));
-  some = (let old = was.some in omega (arith, old, next));
-  begun = by_lane (λ k z. z.begun ≤ 2 ^ 59) book later l lane has (subst (λ n. n ≤ 2 ^ 59) (sym begun) (was.begun l)) (λ k ne. was.begun k);
-  commits = by_lane (λ k z. z.commits + pending z ≤ z.begun) book later l lane has (let old = was.commits l in omega (arith, old, commits, begun)) (λ k ne. was.commits k);
-}
+numbered_there E partitions book later w v events made l lane has next begun commits records was =
+    numbers_stay partitions book later l lane w v events made has next begun (let old = was.commits l in omega (arith, old, commits, begun)) records was
 
 -- ---- the state
 
@@ -104,60 +98,33 @@ pub record IsRebuilt (E : Type 0) (layout : Layout) (start : Words) (book later 
   pub opens : 1 ≤ kept.next_lsn
   pub is_book : IsWorldBook layout later
 
-pub rebuilt : (E : Type 0) (layout : Layout) (start : Words) (book later : Book E) (keeper kept : LogKeeper) (behind : Region) (spare left made l t : ℕ) (lane : Lane E)
-    (base : Words) (s after : State) (chains chains_behind : ℕ → List ℕ) (w v : World) → IsTied layout book keeper s w → IsOwing (layout_shape layout) chains book keeper w spare →
-    IsRebuilt E layout start book later keeper kept behind left made l t lane base s after chains chains_behind w v → IsStateOf layout start later kept behind left made
-rebuilt E layout start book later keeper kept behind spare left made l t lane base s after chains chains_behind w v tied owing r = record {
-  base = base;
-  s = after;
-  chains = chains_behind;
-  w = v;
-  world = r.world;
-  roomy = r.roomy;
-  tied = record {
-    keeping = r.keeping;
-    next = r.next;
-    slots = r.slots.count ∙ tied.slots;
-    lanes = r.beside.count ∙ tied.lanes ∙ sym r.lanes.count;
-    history = r.history;
-    held = r.held;
-    each = λ k lt. each k (subst (λ n. k < n) r.beside.count lt);
-    fresh = fresh;
-  };
-  owing = record {
-    each = λ k lt. owes k (subst (λ n. k < n) (r.lanes.count ∙ sym tied.lanes) lt);
-    stores = r.stores;
-    places = r.places;
-  };
-  numbered = r.numbered;
-  opens = r.opens;
-  is_book = r.is_book;
-}
-  where
-    own_there : IsLaneOf layout later.blocks after.log (newest_log v.keeping.ledger) (under_of (layout_shape layout) v l) (l % layout.partitions) (lane_at later l) (txn_at v.lanes l)
-    own_there = subst (λ blocks. IsLaneOf layout blocks after.log (newest_log v.keeping.ledger) (under_of (layout_shape layout) v l) (l % layout.partitions) (lane_at later l) (txn_at v.lanes l))
-        (sym r.lanes.blocks)
-        (subst (λ (z : Lane E). IsLaneOf layout book.blocks after.log (newest_log v.keeping.ledger) (under_of (layout_shape layout) v l) (l % layout.partitions) z (txn_at v.lanes l))
-        (sym r.lanes.here) r.own)
-
-    each : (k : ℕ) → k < length w.lanes →
-        IsLaneOf layout later.blocks after.log (newest_log v.keeping.ledger) (under_of (layout_shape layout) v k) (k % layout.partitions) (lane_at later k) (txn_at v.lanes k)
-    each k lt = elim (eqb_tells k l) [
-      | inl e ↦ subst (λ j. IsLaneOf layout later.blocks after.log (newest_log v.keeping.ledger) (under_of (layout_shape layout) v j) (j % layout.partitions) (lane_at later j) (txn_at v.lanes j))
-          (sym e.1) own_there
-      | inr ne ↦ (lanes_stay {E = E}).tied layout book later l t s.log after.log chains chains_behind w v lane r.beside r.apart r.lanes k ne.1 lt (tied.each k lt)
-    ]
-
-    fresh : (k : ℕ) → (txn_at v.lanes k).number < later.next_transaction
-    fresh k = elim (eqb_tells k l) [
-      | inl e ↦ subst (λ j. (txn_at v.lanes j).number < later.next_transaction) (sym e.1) r.fresh
-      | inr ne ↦ (let same : (txn_at v.lanes k).number ≡ (txn_at w.lanes k).number = ap (λ (x : Txn). x.number) (r.beside.others k ne.1) in
-          let old = tied.fresh k in let le = r.no_less in omega (arith, same, old, le))
-    ]
-
-    owes : (k : ℕ) → k < length w.lanes → OwesEnough (layout_shape layout) chains_behind later kept v k
-    owes k lt = elim (eqb_tells k l) [
-      | inl e ↦ subst (OwesEnough (layout_shape layout) chains_behind later kept v) (sym e.1) (owes_of E (layout_shape layout) chains_behind later kept v l lane r.lanes.here r.owes)
-      | inr ne ↦ (lanes_stay {E = E}).owing layout book later keeper kept l t s.log after.log chains chains_behind w v lane r.beside r.apart r.lanes r.slots tied.slots k ne.1 lt (tied.each k lt)
-          (owing.each k (subst (λ n. k < n) tied.lanes lt))
-    ]
+pub rebuilt : (E : Type 0) (layout : Layout) (start : Words) (book later : Book E) (keeper kept : LogKeeper) (region behind : Region) (spare left events made l t : ℕ) (lane : Lane E) (base : Words)
+    (after : State) (chains_behind : ℕ → List ℕ) (v : World) (state : IsStateOf layout start book keeper region spare events) →
+    IsRebuilt E layout start book later keeper kept behind left made l t lane base state.s after state.chains chains_behind state.w v → IsStateOf layout start later kept behind left made
+rebuilt E layout start book later keeper kept region behind spare left events made l t lane base after chains_behind v state r =
+    goes_on layout start book later keeper kept region behind spare left events made l t lane state r.opens (record {
+      base = base;
+      s = after;
+      others = chains_behind;
+      v = v;
+      has = r.lanes;
+      is_book = r.is_book.kept;
+      entries = r.is_book.entries;
+      world = r.world;
+      roomy = r.roomy;
+      beside = r.beside;
+      apart = r.apart;
+      keeping = r.keeping;
+      next = r.next;
+      slots = r.slots;
+      history = r.history;
+      held = r.held;
+      own = subst (λ blocks. IsLaneOf layout blocks after.log (newest_log v.keeping.ledger) (under_of (layout_shape layout) v l) (l % layout.partitions) lane (txn_at v.lanes l))
+          (sym r.lanes.blocks) r.own;
+      owes = owes_of E (layout_shape layout) chains_behind later kept v l lane r.lanes.here r.owes;
+      stores = r.stores;
+      places = r.places;
+      fresh = r.fresh;
+      risen = r.no_less;
+      numbered = r.numbered;
+    })

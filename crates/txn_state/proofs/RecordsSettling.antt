@@ -390,34 +390,33 @@ module _ (E : Type 0) (layout : Layout) (start : Words) (book later : Book E) (k
       omega (arith, old, sum, before, after, long, whole, count)
 
   pub state_settled : IsStateOf layout start later kept behind left made
-  state_settled = rebuilt E layout start book later keeper kept behind spare left made l (txn_at st.w.lanes l).number (moved part (with_event_paid (lane_at book l))) base_there st.s state_there
-      st.chains chains_there st.w v st.tied st.owing (record {
-        world = world;
-        roomy = settling.roomy_there E layout start book keeper region behind spare left events made l e m st are adding n is (reserved_for layout later)
-            (λ q. reserved_less layout book later l (moved part (with_event_paid (lane_at book l))) goes.lanes (omega arith) q);
-        beside = settling.beside E layout start book keeper region behind spare left events made l e m st are adding n is v refl elsewhere (λ q ne. refl) (λ q ne. refl) (λ k ne lt. nobody k lt) refl;
-        apart = going.apart E layout start book keeper region behind spare left events made l e m st;
-        lanes = goes.lanes;
-        keeping = ap (latched p 17) (ap (made_part (layout_shape layout) p) st.tied.keeping) ∙ sym keeps.kept;
-        next = st.tied.next ∙ sym keeps.number;
-        slots = keeps.slots;
-        history = settling.history_there E layout start book keeper region behind spare left events made l e m st are adding n is ∙ history_same adding.added (txn_at st.w.lanes l) st.w.history to.no_end
-            ∙ st.tied.history ∙ ap (λ h. map plain_entry h.items) (sym goes.history);
-        held = held_changed (layout_shape layout) l st.w v changed st.tied.held (held_by_none (layout_shape layout) v p free under_rests);
-        own = own;
-        fresh = subst (λ (k : ℕ). k < later.next_transaction) (sym (ap (λ (z : Txn). z.number) txn_is ∙ keeps_x.number))
-            (subst (λ (k : ℕ). (txn_at st.w.lanes l).number < k) (sym goes.next) (st.tied.fresh l));
-        no_less = (let same = goes.next in omega (arith, same));
-        owes = owes_there;
-        stores = events_paid E book later l spare left (moved part (with_event_paid (lane_at book l))) goes.lanes (let one = one_owed in omega (arith, one)) m.places st.owing.stores;
-        places = records_owed E book later l (free_places keeper) (free_places kept) (moved part (with_event_paid (lane_at book l))) goes.lanes refl keeps.places st.owing.places;
-        numbered = numbered_there E layout.partitions book later st.w v events made l (moved part (with_event_paid (lane_at book l))) goes.lanes goes.next refl (omega arith) numbers st.numbered;
-        opens = subst (λ (k : ℕ). 1 ≤ k) (sym keeps.number) st.opens;
-        is_book = world_book layout book later l (moved part (with_event_paid (lane_at book l))) goes.lanes is_book
-            (entries_stay book later l (moved part (with_event_paid (lane_at book l))) goes
-            (same_entry book.history.items l (lane_at book l) (moved part (with_event_paid (lane_at book l))) refl refl refl refl (its_entry book l st.is_book.entries)) (omega arith) st.is_book.entries)
-            st.is_book;
-      })
+  state_settled = rebuilt E layout start book later keeper kept region behind spare left events made l (txn_at st.w.lanes l).number (moved part (with_event_paid (lane_at book l))) base_there state_there chains_there v st (record {
+    world = world;
+    roomy = settling.roomy_there E layout start book keeper region behind spare left events made l e m st are adding n is (reserved_for layout later)
+        (λ q. reserved_less layout book later l (moved part (with_event_paid (lane_at book l))) goes.lanes (omega arith) q);
+    beside = settling.beside E layout start book keeper region behind spare left events made l e m st are adding n is v refl elsewhere (λ q ne. refl) (λ q ne. refl) (λ k ne lt. nobody k lt) refl;
+    apart = going.apart E layout start book keeper region behind spare left events made l e m st;
+    lanes = goes.lanes;
+    keeping = ap (latched p 17) (ap (made_part (layout_shape layout) p) st.tied.keeping) ∙ sym keeps.kept;
+    next = st.tied.next ∙ sym keeps.number;
+    slots = keeps.slots;
+    history = settling.history_there E layout start book keeper region behind spare left events made l e m st are adding n is ∙ history_same adding.added (txn_at st.w.lanes l) st.w.history to.no_end
+        ∙ st.tied.history ∙ ap (λ h. map plain_entry h.items) (sym goes.history);
+    held = held_changed (layout_shape layout) l st.w v changed st.tied.held (held_by_none (layout_shape layout) v p free under_rests);
+    own = own;
+    fresh = subst (λ (k : ℕ). k < later.next_transaction) (sym (ap (λ (z : Txn). z.number) txn_is ∙ keeps_x.number))
+        (subst (λ (k : ℕ). (txn_at st.w.lanes l).number < k) (sym goes.next) (st.tied.fresh l));
+    no_less = (let same = goes.next in omega (arith, same));
+    owes = owes_there;
+    stores = events_paid E book later l spare left (moved part (with_event_paid (lane_at book l))) goes.lanes (let one = one_owed in omega (arith, one)) m.places st.owing.stores;
+    places = records_owed E book later l (free_places keeper) (free_places kept) (moved part (with_event_paid (lane_at book l))) goes.lanes refl keeps.places st.owing.places;
+    numbered = numbered_there E layout.partitions book later st.w v events made l (moved part (with_event_paid (lane_at book l))) goes.lanes goes.next refl (omega arith) numbers st.numbered;
+    opens = subst (λ (k : ℕ). 1 ≤ k) (sym keeps.number) st.opens;
+    is_book = world_book layout book later l (moved part (with_event_paid (lane_at book l))) goes.lanes is_book
+        (entries_stay book later l (moved part (with_event_paid (lane_at book l))) goes
+        (same_entry book.history.items l (lane_at book l) (moved part (with_event_paid (lane_at book l))) refl refl refl refl (its_entry book l st.is_book.entries)) (omega arith) st.is_book.entries)
+        st.is_book;
+  })
 
 pub records_settle : (E : Type 0) → RecordsSettle E
 records_settle E layout start book later keeper kept region behind spare left events made l _ e m are (store_word at) goes is_book keeps st =

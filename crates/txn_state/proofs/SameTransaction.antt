@@ -135,7 +135,7 @@ same_slots slots = record { count = refl; lists = λ p n lt has. has }
 
 pub notes_keep : {E : Type 0} → NotesKeep E
 notes_keep layout start book later keeper region spare events l lane same goes kept state =
-    goes_on layout start book later keeper keeper region region spare spare events events l (txn_at state.w.lanes l).number lane state refl (record {
+    goes_on layout start book later keeper keeper region region spare spare events events l (txn_at state.w.lanes l).number lane state state.opens (record {
       base = state.base;
       s = state.s;
       others = state.chains;
@@ -180,7 +180,7 @@ notes_keep layout start book later keeper region spare events l lane same goes k
 
 pub memory_is_taken : {E : Type 0} → MemoryIsTaken E
 memory_is_taken layout start book later keeper taken region spare more events l m n stage goes kept takes stores places state =
-    goes_on layout start book later keeper taken region region spare more events events l (txn_at state.w.lanes l).number (record (lane_at book l) { owed_events = m; owed_records = n }) state takes.number (record {
+    goes_on layout start book later keeper taken region region spare more events events l (txn_at state.w.lanes l).number (record (lane_at book l) { owed_events = m; owed_records = n }) state (subst (λ n. 1 ≤ n) (sym takes.number) state.opens) (record {
       base = state.base;
       s = state.s;
       others = state.chains;

@@ -40,7 +40,8 @@ use Rattle.txn_state.specs.Owing.{needs_at}
 use Rattle.txn_state.specs.States.{IsStateOf, reserved_for}
 use Rattle.txn_state.specs.Beside.{AddsOnlyOf, IsBeside}
 use Rattle.txn_state.specs.AppendLaws.{IsMade, AreLeft}
-use Rattle.txn_state.proofs.Making.{test_other, IsChangedIn, with_count, made_holder, made_elsewhere, made_ends, gates_settle, adds_same, takes_same, beside_changed, region_is, left_there}
+use Rattle.txn_state.proofs.Steps.{count_with}
+use Rattle.txn_state.proofs.Making.{test_other, IsChangedIn, made_holder, made_elsewhere, made_ends, gates_settle, adds_same, takes_same, beside_changed, region_is, left_there}
 use Rattle.txn_state.proofs.Named.{no_checkpoint}
 use Rattle.txn_state.proofs.Likeness.{IsOneLess}
 use Rattle.txn_state.proofs.Rebuilding.{Owes}
@@ -186,7 +187,7 @@ module _ (E : Type 0) (layout : Layout) (start : Words) (book : Book E) (keeper 
       unders = λ q ne. unders q ne ∙ ap (λ (t : Bool). if t then nothing else st.w.under q) (test_other q p ne);
       before = λ k ne lt. going.off E layout start book keeper region behind spare left events made l e m st k ne;
       behind = held;
-      count = ap length (lanes ∙ lanes_there) ∙ with_count l y st.w.lanes;
+      count = ap length (lanes ∙ lanes_there) ∙ count_with l y st.w.lanes;
       others = λ k ne. ap (λ (ls : List Txn). txn_at ls k) (lanes ∙ lanes_there) ∙ with_other l k y st.w.lanes ne;
     }
 

@@ -74,9 +74,9 @@ pub record GoesOn {E : Type 0} (layout : Layout) (start : Words) (book later : B
 
 -- All else stays, so it is a state again.
 pub goes_on : {E : Type 0} (layout : Layout) (start : Words) (book later : Book E) (keeper kept : LogKeeper) (region behind : Region) (spare left events made l t : ℕ) (lane : Lane E) →
-    (state : IsStateOf layout start book keeper region spare events) → kept.next_lsn ≡ keeper.next_lsn → GoesOn layout start book later keeper kept behind left made l t lane state.w state.s.log state.chains →
+    (state : IsStateOf layout start book keeper region spare events) → 1 ≤ kept.next_lsn → GoesOn layout start book later keeper kept behind left made l t lane state.w state.s.log state.chains →
     IsStateOf layout start later kept behind left made
-goes_on {E} layout start book later keeper kept region behind spare left events made l t lane state number g = record {
+goes_on {E} layout start book later keeper kept region behind spare left events made l t lane state opens g = record {
   base = g.base;
   s = g.s;
   chains = g.others;
@@ -104,7 +104,7 @@ goes_on {E} layout start book later keeper kept region behind spare left events 
     places = g.places;
   };
   numbered = g.numbered;
-  opens = subst (λ n. 1 ≤ n) (sym number) state.opens;
+  opens = opens;
   is_book = world_book layout book later l lane g.has g.is_book g.entries state.is_book;
 }
   where
