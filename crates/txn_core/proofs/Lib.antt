@@ -1,0 +1,5 @@
+pub mod Latches
+pub mod Left
+pub mod Made
+pub mod Places
+pub mod Stores

@@ -1,0 +1,30 @@
+// An event of a lane on its own words.
+ghost use Rattle.std.specs.Prelude.{◌<◌, ◌≤◌, length};
+ghost use Rattle.lane_traits.specs.Device.{IsWithin};
+ghost use Rattle.lane_book.specs.FacesOf.{lane_at};
+ghost use Rattle.lane_book.specs.Books.{IsBook};
+ghost use Rattle.txn_core.specs.Making.{Makes};
+
+use lane_book::Book;
+use lane_traits::{Device, Done};
+use persist_model::Event;
+
+/// The event is made, and the lane's book pays for it. After `Stopped` the book and the words are as they were.
+pub fn make<D: Device, E>(device: &mut D, book: &mut Book<E>, lane: u32, event: Event) -> Done
+    requires lane { lane < length book.old.lanes.items }
+    requires few { length book.old.lanes.items ≤ 16 }
+    requires address { IsWithin (D.cells device.old).size event }
+    requires owed { 1 ≤ (lane_at book.old lane).owed_events }
+    requires spare { 1 ≤ D.spare device.old }
+    requires book { IsBook book.old }
+    ensures makes { Makes event (D.cells device.old) (D.cells device.new) (D.counts device.old) (D.counts device.new) (D.spare device.old) (D.spare device.new) book.old book.new lane result }
+    ensures book { IsBook book.new }
+{
+    match device.event(lane, event) {
+        Done::Stopped => Done::Stopped,
+        Done::Made => {
+            book.pay_event(lane);
+            Done::Made
+        }
+    }
+}
