@@ -53,7 +53,7 @@ use Rattle.txn_state.specs.Ties.{plain_write, plain_entry, AreCellsOf, top_of, I
 use Rattle.txn_state.specs.Owing.{Needs, needs_at, records_noted}
 use Rattle.txn_state.specs.Numbers.{unpaid}
 use Rattle.txn_state.specs.States.{IsStateOf, reserved_for}
-use Rattle.txn_state.specs.Changes.{GoesTo, HasDrawn, with_record_paid}
+use Rattle.txn_state.specs.Changes.{GoesTo, HasDrawn, paid_record}
 use Rattle.txn_state.specs.AppendLaws.{top_cell, write_cell, IsNextCell, of_write, of_rollback, of_update, of_end, IsPlaceRead, latched_append, AppendsBegin}
 use Rattle.txn_state.proofs.Making.{test_same, test_other, under_held, under_free, IsChangedIn, held_changed, held_by_lane, adds_same, takes_same, beside_changed}
 use Rattle.txn_state.proofs.Lanes.{reserved_less, lane_sum, its_entry, same_entry, entries_stay, world_book, roomy_less}
@@ -414,7 +414,7 @@ none_noted t q ne = ap (λ (b : Bool). if b && not (q.entry.kind == END) then q.
 
 module _ (E : Type 0) (layout : Layout) (start : Words) (book later : Book E) (keeper taken : LogKeeper) (region : Region) (spare events l : ℕ) (place : Place) (cell : Cell)
     (free : (keeping_of keeper).holder (l % layout.partitions) ≡ 17) (read : IsPlaceRead layout (l % layout.partitions) region place) (next_cell : IsNextCell region (lane_at book l) cell)
-    (filled : (a : ℕ) → a < region.size → 0 < length (region.at a)) (low : events < 2 ^ 64) (goes : GoesTo book later l (with_record_paid (lane_at book l))) (is_book : IsBook later)
+    (filled : (a : ℕ) → a < region.size → 0 < length (region.at a)) (low : events < 2 ^ 64) (goes : GoesTo book later l (paid_record (lane_at book l))) (is_book : IsBook later)
     (draws : HasDrawn keeper taken (latched_append (l % layout.partitions) l place cell keeper)) (st : IsStateOf layout start book keeper region spare events) where
   abbrev part : ℕ
   part = l % layout.partitions
@@ -561,7 +561,7 @@ module _ (E : Type 0) (layout : Layout) (start : Words) (book later : Book E) (k
   noticed_none = ap (λ (b : Bool). if b then booked found.added (record_of_adding adding) (txn_at st.w.lanes l) else txn_at st.w.lanes l)
       (over_not (region_append (layout_shape layout) part place (record_of_adding adding)) (0 + 1) (let many = long in omega (arith, many)))
 
-  own_drawn : IsLaneOf layout book.blocks st.s.log (newest_log st.w.keeping.ledger) (appends adding 0) part (with_record_paid (lane_at book l)) (txn_at st.w.lanes l)
+  own_drawn : IsLaneOf layout book.blocks st.s.log (newest_log st.w.keeping.ledger) (appends adding 0) part (paid_record (lane_at book l)) (txn_at st.w.lanes l)
   own_drawn = record {
     txn = record {
       number = was.txn.number;
@@ -588,8 +588,8 @@ module _ (E : Type 0) (layout : Layout) (start : Words) (book later : Book E) (k
     has_some = was.has_some;
   }
 
-  own : IsLaneOf layout book.blocks st.s.log (newest_log v.keeping.ledger) (under_of (layout_shape layout) v l) part (with_record_paid (lane_at book l)) (txn_at v.lanes l)
-  own = subst (λ (u : UnderWay). IsLaneOf layout book.blocks st.s.log (newest_log st.w.keeping.ledger) u part (with_record_paid (lane_at book l)) (txn_at st.w.lanes l)) (sym under_is) own_drawn
+  own : IsLaneOf layout book.blocks st.s.log (newest_log v.keeping.ledger) (under_of (layout_shape layout) v l) part (paid_record (lane_at book l)) (txn_at v.lanes l)
+  own = subst (λ (u : UnderWay). IsLaneOf layout book.blocks st.s.log (newest_log st.w.keeping.ledger) u part (paid_record (lane_at book l)) (txn_at st.w.lanes l)) (sym under_is) own_drawn
 
   abbrev noted_was : ℕ
   noted_was = records_noted st.w (txn_at st.w.lanes l).number
@@ -607,7 +607,7 @@ module _ (E : Type 0) (layout : Layout) (start : Words) (book later : Book E) (k
       (needs_at (layout_shape layout) part (noted_was + more_noted found.added) (length (st.chains part)) (appends adding 0) (txn_at st.w.lanes l) (stage_of (lane_at book l)))
   less = found.coming.less adding refl noted_was (length (st.chains part))
 
-  owes_drawn : Owes (layout_shape layout) part (noted_was + more_noted found.added) (length (st.chains part)) (appends adding 0) (txn_at st.w.lanes l) taken (with_record_paid (lane_at book l))
+  owes_drawn : Owes (layout_shape layout) part (noted_was + more_noted found.added) (length (st.chains part)) (appends adding 0) (txn_at st.w.lanes l) taken (paid_record (lane_at book l))
   owes_drawn = record {
     events = (let a = less.events in let b = owed.events in omega (arith, a, b));
     records = (let a = less.records in let b = owed.records in omega (arith, a, b));
@@ -618,14 +618,14 @@ module _ (E : Type 0) (layout : Layout) (start : Words) (book later : Book E) (k
         (subst (λ (n : ℕ). part < n) (sym st.tied.slots) inside) owed.lists);
   }
 
-  owes_there : Owes (layout_shape layout) part (records_noted v (txn_at v.lanes l).number) (length (st.chains part)) (under_of (layout_shape layout) v l) (txn_at v.lanes l) taken (with_record_paid (lane_at book l))
-  owes_there = subst (λ (u : UnderWay). Owes (layout_shape layout) part (records_noted v (txn_at st.w.lanes l).number) (length (st.chains part)) u (txn_at st.w.lanes l) taken (with_record_paid (lane_at book l)))
-      (sym under_is) (subst (λ (n : ℕ). Owes (layout_shape layout) part n (length (st.chains part)) (appends adding 0) (txn_at st.w.lanes l) taken (with_record_paid (lane_at book l))) (sym noted_is) owes_drawn)
+  owes_there : Owes (layout_shape layout) part (records_noted v (txn_at v.lanes l).number) (length (st.chains part)) (under_of (layout_shape layout) v l) (txn_at v.lanes l) taken (paid_record (lane_at book l))
+  owes_there = subst (λ (u : UnderWay). Owes (layout_shape layout) part (records_noted v (txn_at st.w.lanes l).number) (length (st.chains part)) u (txn_at st.w.lanes l) taken (paid_record (lane_at book l)))
+      (sym under_is) (subst (λ (n : ℕ). Owes (layout_shape layout) part n (length (st.chains part)) (appends adding 0) (txn_at st.w.lanes l) taken (paid_record (lane_at book l))) (sym noted_is) owes_drawn)
 
   pub state_begun : IsStateOf layout start later taken region spare events
-  state_begun = rebuilt E layout start book later keeper taken region region spare spare events events l (txn_at st.w.lanes l).number (with_record_paid (lane_at book l)) st.base st.s st.chains v st (record {
+  state_begun = rebuilt E layout start book later keeper taken region region spare spare events events l (txn_at st.w.lanes l).number (paid_record (lane_at book l)) st.base st.s st.chains v st (record {
     world = world_drawn;
-    roomy = roomy_less layout book later region (λ q. reserved_less layout book later l (with_record_paid (lane_at book l)) goes.lanes (omega arith) q) st.roomy;
+    roomy = roomy_less layout book later region (λ q. reserved_less layout book later l (paid_record (lane_at book l)) goes.lanes (omega arith) q) st.roomy;
     beside = beside_changed (layout_shape layout) l (txn_at st.w.lanes l).number st.s.log st.s.log st.chains st.chains st.w v changed
         (adds_same (txn_at st.w.lanes l).number st.s.log st.s.log refl)
         (adds_same (txn_at st.w.lanes l).number (newest_log st.w.keeping.ledger) (newest_log v.keeping.ledger) refl)
@@ -647,24 +647,24 @@ module _ (E : Type 0) (layout : Layout) (start : Words) (book later : Book E) (k
     fresh = subst (λ (k : ℕ). (txn_at st.w.lanes l).number < k) (sym goes.next) (st.tied.fresh l);
     no_less = (let same = goes.next in omega (arith, same));
     owes = owes_there;
-    stores = (let sum = lane_sum (λ (z : Lane E). z.owed_events) book later l (with_record_paid (lane_at book l)) goes.lanes in let was = st.owing.stores in omega (arith, sum, was));
+    stores = (let sum = lane_sum (λ (z : Lane E). z.owed_events) book later l (paid_record (lane_at book l)) goes.lanes in let was = st.owing.stores in omega (arith, sum, was));
     places = (
-        let sum = lane_sum (λ (z : Lane E). z.owed_records) book later l (with_record_paid (lane_at book l)) goes.lanes in
+        let sum = lane_sum (λ (z : Lane E). z.owed_records) book later l (paid_record (lane_at book l)) goes.lanes in
         let was = st.owing.places in
         let one = draws.places in
         let a = less.records in
         let b = owed.records in
         omega (arith, sum, was, one, a, b));
-    numbered = numbered_there E layout.partitions book later st.w v events events l (with_record_paid (lane_at book l)) goes.lanes goes.next refl (omega arith) (
+    numbered = numbered_there E layout.partitions book later st.w v events events l (paid_record (lane_at book l)) goes.lanes goes.next refl (omega arith) (
         let old = st.numbered.records in
         let sum = unpaid_sum layout.partitions part st.w v inside (λ q ne. changed.unders q ne) in
         let before : unpaid (st.w.under part) ≡ 0 = ap unpaid rests_there in
         let after : unpaid (v.under part) ≡ 10 - 0 = ap unpaid under_here in
         omega (arith, old, sum, before, after)) st.numbered;
     opens = (let one = draws.number in omega (arith, one));
-    is_book = world_book layout book later l (with_record_paid (lane_at book l)) goes.lanes is_book
-        (entries_stay book later l (with_record_paid (lane_at book l)) goes
-        (same_entry book.history.items l (lane_at book l) (with_record_paid (lane_at book l)) refl refl refl refl (its_entry book l st.is_book.entries)) (omega arith) st.is_book.entries) st.is_book;
+    is_book = world_book layout book later l (paid_record (lane_at book l)) goes.lanes is_book
+        (entries_stay book later l (paid_record (lane_at book l)) goes
+        (same_entry book.history.items l (lane_at book l) (paid_record (lane_at book l)) refl refl refl refl (its_entry book l st.is_book.entries)) (omega arith) st.is_book.entries) st.is_book;
   })
 
 pub appends_begin : (E : Type 0) → AppendsBegin E

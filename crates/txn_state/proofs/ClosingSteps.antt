@@ -35,7 +35,7 @@ use Rattle.txn_state.specs.Ties.{IsOverNow, under_of, IsLaneOf, AreHeld}
 use Rattle.txn_state.specs.Owing.{OwesEnough}
 use Rattle.txn_state.specs.Numbers.{unpaid}
 use Rattle.txn_state.specs.States.{IsStateOf, reserved_for}
-use Rattle.txn_state.specs.Changes.{GoesTo, IsKept, with_event_paid}
+use Rattle.txn_state.specs.Changes.{GoesTo, IsKept, paid_event}
 use Rattle.txn_state.specs.AppendLaws.{IsMade, AreLeft, made_in}
 use Rattle.txn_state.specs.ClosingLaws.{end_reply}
 use Rattle.txn_state.specs.Beside.{IsBeside}
@@ -116,7 +116,7 @@ module _ {E : Type 0} (layout : Layout) (start : Words) (book later : Book E) (k
 -- ---- the latch is let go
 
 abbrev over_lane : {E : Type 0} → Bool → Lane E → Lane E
-over_lane commits lane = left_lane (end_reply commits) (with_event_paid lane)
+over_lane commits lane = left_lane (end_reply commits) (paid_event lane)
 
 over_is_free : {E : Type 0} (commits : Bool) (lane : Lane E) → stage_of (over_lane commits lane) ≡ Free
 over_is_free true lane = refl

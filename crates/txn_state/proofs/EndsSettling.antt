@@ -56,7 +56,7 @@ use Rattle.txn_state.specs.Ties.{plain_entry, IsEnding, IsEndingIt, IsCome, unde
 use Rattle.txn_state.specs.Owing.{Needs, needs_at, records_noted}
 use Rattle.txn_state.specs.Numbers.{unpaid, pending}
 use Rattle.txn_state.specs.States.{is_joining, IsWorldBook, IsStateOf, reserved_for}
-use Rattle.txn_state.specs.Changes.{HasLane, IsKept, with_event_paid}
+use Rattle.txn_state.specs.Changes.{HasLane, IsKept, paid_event}
 use Rattle.txn_state.specs.AppendLaws.{IsMade, AreLeft, made_in, closing_begun, UndoneEndsSettle, CommitEndsSettle}
 use Rattle.txn_state.proofs.Making.{test_same, test_other, under_held, held_changed, held_by_lane, IsChangedIn}
 use Rattle.txn_state.proofs.Lanes.{reserved_less, lane_sum, HasItsEntry, its_entry, same_entry, entries_go, entries_stay, world_book}
@@ -445,16 +445,16 @@ ending_of E layout start book keeper region spare events l st at come = subst (I
 pub undone_ends_settle : (E : Type 0) → UndoneEndsSettle E
 undone_ends_settle E layout start book later keeper kept region behind spare left events made l e m are at aborts goes is_book keeps st =
     closing_state E layout start book keeper kept region behind spare left events made l e m st are found.0 found.1 found.2 at (subst (λ (u : UnderWay). IsEndingIt u (txn_at st.w.lanes l)) found.2 come) found.3 keeps
-    later (moved CLOSE (with_event_paid (lane_at book l)))
+    later (moved CLOSE (paid_event (lane_at book l)))
     (record { transaction = refl; held = refl; writes = refl; updates = refl; stored = refl; gives = refl; has_records = refl; rolled = refl; ended = refl; committing = refl; entry = λ e has. has })
     stage refl refl goes.lanes
     (settling.history_there E layout start book keeper region behind spare left events made l e m st are found.0 found.1 found.2
     ∙ undone_history found.0.added (txn_at st.w.lanes l) st.w.history (subst (λ (b : Bool). IsEnding b found.0.added) (commits_is ∙ aborts) found.3)
     ∙ st.tied.history ∙ ap (λ h. map plain_entry h.items) (sym goes.history))
-    goes.next (λ q. reserved_less layout book later l (moved CLOSE (with_event_paid (lane_at book l))) goes.lanes (omega arith) q) refl (omega arith)
-    (world_book layout book later l (moved CLOSE (with_event_paid (lane_at book l))) goes.lanes is_book
-    (entries_stay book later l (moved CLOSE (with_event_paid (lane_at book l))) goes
-    (same_entry book.history.items l (lane_at book l) (moved CLOSE (with_event_paid (lane_at book l))) refl refl refl refl (its_entry book l st.is_book.entries)) (omega arith) st.is_book.entries) st.is_book)
+    goes.next (λ q. reserved_less layout book later l (moved CLOSE (paid_event (lane_at book l))) goes.lanes (omega arith) q) refl (omega arith)
+    (world_book layout book later l (moved CLOSE (paid_event (lane_at book l))) goes.lanes is_book
+    (entries_stay book later l (moved CLOSE (paid_event (lane_at book l))) goes
+    (same_entry book.history.items l (lane_at book l) (moved CLOSE (paid_event (lane_at book l))) refl refl refl refl (its_entry book l st.is_book.entries)) (omega arith) st.is_book.entries) st.is_book)
   where
     come : IsEndingIt (st.w.under (l % layout.partitions)) (txn_at st.w.lanes l)
     come = ending_of E layout start book keeper region spare events l st at (going.was_here E layout start book keeper region behind spare left events made l e m st).come
@@ -465,10 +465,10 @@ undone_ends_settle E layout start book later keeper kept region behind spare lef
     commits_is : (txn_at st.w.lanes l).commits ≡ is_commit (lane_at book l).doing
     commits_is = (going.was_here E layout start book keeper region behind spare left events made l e m st).txn.commits
 
-    stage : stage_of (moved CLOSE (with_event_paid (lane_at book l))) ≡ Closing
+    stage : stage_of (moved CLOSE (paid_event (lane_at book l))) ≡ Closing
     stage = by (call_at (lane_at book l).phase (lane_at book l).has_records (lane_at book l).part (lane_at book l).doing Ending at refl)
       where
-        by : EndsCall (lane_at book l).has_records (lane_at book l).doing Ending → stage_of (moved CLOSE (with_event_paid (lane_at book l))) ≡ Closing
+        by : EndsCall (lane_at book l).has_records (lane_at book l).doing Ending → stage_of (moved CLOSE (paid_event (lane_at book l))) ≡ Closing
         by (commit on doing has) = stage_of_call (lane_at book l).phase (lane_at book l).has_records CLOSE (lane_at book l).doing Doing.Commit on doing
         by (abort on doing has) = stage_of_call (lane_at book l).phase (lane_at book l).has_records CLOSE (lane_at book l).doing Doing.Abort on doing
 
@@ -499,7 +499,7 @@ map_more f (x ∷ xs) y = ap (λ ys. f x ∷ ys) (map_more f xs y)
 pub commit_ends_settle : (E : Type 0) → CommitEndsSettle E
 commit_ends_settle E layout start book later keeper kept region behind spare left events made l e entry m are at commits has joins is_book keeps st =
     closing_state E layout start book keeper kept region behind spare left events made l e m st are found.0 found.1 found.2 at (subst (λ (u : UnderWay). IsEndingIt u (txn_at st.w.lanes l)) found.2 come) found.3 keeps
-    later (moved CLOSE (entered_lane (with_event_paid (lane_at book l))))
+    later (moved CLOSE (entered_lane (paid_event (lane_at book l))))
     (record {
       transaction = refl;
       held = refl;
@@ -519,9 +519,9 @@ commit_ends_settle E layout start book later keeper kept region behind spare lef
     ∙ ap (λ (h : List plain.Entry). h ++ entry_of (txn_at st.w.lanes l) ∷ []) st.tied.history
     ∙ ap (λ (y : plain.Entry). map plain_entry book.history.items ++ y ∷ []) (sym (here.txn.entry entry has))
     ∙ sym (map_more plain_entry book.history.items entry) ∙ ap (map plain_entry) (sym joins.items))
-    joins.next (λ q. reserved_less layout book later l (moved CLOSE (entered_lane (with_event_paid (lane_at book l)))) joins.lanes (omega arith) q) refl counted
-    (world_book layout book later l (moved CLOSE (entered_lane (with_event_paid (lane_at book l)))) joins.lanes is_book
-    (entries_go book later l (moved CLOSE (entered_lane (with_event_paid (lane_at book l)))) joins.lanes
+    joins.next (λ q. reserved_less layout book later l (moved CLOSE (entered_lane (paid_event (lane_at book l)))) joins.lanes (omega arith) q) refl counted
+    (world_book layout book later l (moved CLOSE (entered_lane (paid_event (lane_at book l)))) joins.lanes is_book
+    (entries_go book later l (moved CLOSE (entered_lane (paid_event (lane_at book l)))) joins.lanes
     (λ k some. subst (λ (h : List (Entry E)). filter (is_of k) h ≢ []) (sym joins.items) (kept_mine E k book.history.items entry some)) own_entry places st.is_book.entries) st.is_book)
   where
     here : IsLaneOf layout book.blocks st.s.log (newest_log st.w.keeping.ledger) (st.w.under (l % layout.partitions)) (l % layout.partitions) (lane_at book l) (txn_at st.w.lanes l)
@@ -536,10 +536,10 @@ commit_ends_settle E layout start book later keeper kept region behind spare lef
     commits_is : (txn_at st.w.lanes l).commits ≡ is_commit (lane_at book l).doing
     commits_is = here.txn.commits
 
-    stage : stage_of (moved CLOSE (entered_lane (with_event_paid (lane_at book l)))) ≡ Closing
+    stage : stage_of (moved CLOSE (entered_lane (paid_event (lane_at book l)))) ≡ Closing
     stage = by (call_at (lane_at book l).phase (lane_at book l).has_records (lane_at book l).part (lane_at book l).doing Ending at refl)
       where
-        by : EndsCall (lane_at book l).has_records (lane_at book l).doing Ending → stage_of (moved CLOSE (entered_lane (with_event_paid (lane_at book l)))) ≡ Closing
+        by : EndsCall (lane_at book l).has_records (lane_at book l).doing Ending → stage_of (moved CLOSE (entered_lane (paid_event (lane_at book l)))) ≡ Closing
         by (commit on doing has) = stage_of_call (lane_at book l).phase (lane_at book l).has_records CLOSE (lane_at book l).doing Doing.Commit on doing
         by (abort on doing has) = stage_of_call (lane_at book l).phase (lane_at book l).has_records CLOSE (lane_at book l).doing Doing.Abort on doing
 
@@ -554,7 +554,7 @@ commit_ends_settle E layout start book later keeper kept region behind spare lef
     mine : entry.lane ≡ l
     mine = (subst (λ o. IsNextEntry l (lane_at book l).begun o) has (st.is_book.entries.waits l commits waits).next).0
 
-    own_entry : HasItsEntry later.history.items l (moved CLOSE (entered_lane (with_event_paid (lane_at book l))))
+    own_entry : HasItsEntry later.history.items l (moved CLOSE (entered_lane (paid_event (lane_at book l))))
     own_entry = record {
       others = λ off. absurd (let no : true ≡ false = sym commits ∙ off in cc);
       waits = λ on new. absurd (let no : true ≡ false = new in cc);
@@ -564,12 +564,12 @@ commit_ends_settle E layout start book later keeper kept region behind spare lef
     joining_was : is_joining (lane_at book l) ≡ 1
     joining_was = ap (λ (b : Bool). if b && not (lane_at book l).entered then 1 else 0) commits ∙ ap (λ (b : Bool). if not b then 1 else 0) waits
 
-    joining_is : is_joining (moved CLOSE (entered_lane (with_event_paid (lane_at book l)))) ≡ 0
+    joining_is : is_joining (moved CLOSE (entered_lane (paid_event (lane_at book l)))) ≡ 0
     joining_is = ap (λ (b : Bool). if b && false then 1 else 0) commits
 
     places : length later.history.items + sum_below (λ k. is_joining (lane_at later k)) (length later.lanes.items) ≤ later.history.capacity
     places =
-        let sum = lane_sum is_joining book later l (moved CLOSE (entered_lane (with_event_paid (lane_at book l)))) joins.lanes in
+        let sum = lane_sum is_joining book later l (moved CLOSE (entered_lane (paid_event (lane_at book l)))) joins.lanes in
         let old = st.is_book.entries.places in
         let was = joining_was in
         let now = joining_is in
@@ -578,7 +578,7 @@ commit_ends_settle E layout start book later keeper kept region behind spare lef
         let room = joins.capacity in
         omega (arith, sum, old, was, now, count, more, room)
 
-    counted : (moved CLOSE (entered_lane (with_event_paid (lane_at book l)))).commits + pending (moved CLOSE (entered_lane (with_event_paid (lane_at book l)))) ≤
+    counted : (moved CLOSE (entered_lane (paid_event (lane_at book l)))).commits + pending (moved CLOSE (entered_lane (paid_event (lane_at book l)))) ≤
         (lane_at book l).commits + pending (lane_at book l)
     counted = let one : pending (lane_at book l) ≡ 1 = pends in omega (arith, one)
       where

@@ -43,7 +43,7 @@ use Rattle.txn_state.specs.Seen.{is_gate_stored, booked, noticed}
 use Rattle.txn_state.specs.Ties.{plain_write, plain_entry, AreCellsOf, IsUpdating, IsRollingBack, IsCompensating, IsEnding, appends_it, IsNaming, IsOpening, IsUndoing, IsEndingIt, IsCome, WaitsToAppend, under_of, IsLaneOf}
 use Rattle.txn_state.specs.Owing.{needs_at, records_noted}
 use Rattle.txn_state.specs.States.{is_joining, IsStateOf, reserved_for}
-use Rattle.txn_state.specs.Changes.{GoesTo, IsKept, with_event_paid}
+use Rattle.txn_state.specs.Changes.{GoesTo, IsKept, paid_event}
 use Rattle.txn_state.specs.AppendLaws.{IsMade, AreLeft, made_in, Notices, update, rollback, compensation, end, LetsGoOne, GatesAreStored}
 use Rattle.txn_state.proofs.Making.{adds_same, beside_changed, region_is, left_there, keeping_there}
 use Rattle.txn_state.proofs.Staying.{numbered_or_free}
@@ -92,12 +92,12 @@ booked_as E lane later stage is = record {
   owed_records = ap (λ (z : Lane E). z.owed_records) is;
 }
 
-pub booked_lane : (E : Type 0) (c : Cell) (lane later : Lane E) → Notices (with_event_paid lane) c later → IsBooked lane (moved later.part later)
+pub booked_lane : (E : Type 0) (c : Cell) (lane later : Lane E) → Notices (paid_event lane) c later → IsBooked lane (moved later.part later)
 booked_lane E c lane _ (update at) =
-    booked_as E lane (with_update c (with_event_paid lane)) (naming_recorded lane.phase lane.has_records lane.part lane.doing at ∙ sym at) refl
-booked_lane E c lane _ (rollback at) = booked_as E lane (with_rollback (with_event_paid lane)) refl refl
-booked_lane E c lane _ (compensation at) = booked_as E lane (with_compensation (with_event_paid lane)) refl refl
-booked_lane E c lane _ (end at) = booked_as E lane (with_end (with_event_paid lane)) refl refl
+    booked_as E lane (with_update c (paid_event lane)) (naming_recorded lane.phase lane.has_records lane.part lane.doing at ∙ sym at) refl
+booked_lane E c lane _ (rollback at) = booked_as E lane (with_rollback (paid_event lane)) refl refl
+booked_lane E c lane _ (compensation at) = booked_as E lane (with_compensation (paid_event lane)) refl refl
+booked_lane E c lane _ (end at) = booked_as E lane (with_end (paid_event lane)) refl refl
 
 has_record : (rec : Bool) (doing : Doing) (stage : Stage) → EndsCall rec doing stage → rec ≡ true
 has_record rec doing stage (commit on is has) = on
@@ -182,7 +182,7 @@ module _ (E : Type 0) (layout : Layout) (blocks : List Standing) (log newest : L
     ];
   }
 
-  own_update : stage_of lane ≡ Naming → (later : Lane E) → later ≡ moved lane.part (with_update c (with_event_paid lane)) → IsBooked lane later →
+  own_update : stage_of lane ≡ Naming → (later : Lane E) → later ≡ moved lane.part (with_update c (paid_event lane)) → IsBooked lane later →
       IsLaneOf layout blocks log (inserted (record_of_adding adding) newest) (appends adding (suc made)) p later y
   own_update at later same b = lane_for later b
       (subst (λ (z : Lane E). AreCellsOf (reverse z.updates.items) (booked adding.added (record_of_adding adding) y).updates) (sym same)
@@ -212,7 +212,7 @@ module _ (E : Type 0) (layout : Layout) (blocks : List Standing) (log newest : L
           let one = length-append lane.updates.items (c ∷ []) in
           omega (arith, long, count, are, stored, one)
 
-  own_rollback : stage_of lane ≡ Opening → (later : Lane E) → later ≡ moved lane.part (with_rollback (with_event_paid lane)) → IsBooked lane later →
+  own_rollback : stage_of lane ≡ Opening → (later : Lane E) → later ≡ moved lane.part (with_rollback (paid_event lane)) → IsBooked lane later →
       IsLaneOf layout blocks log (inserted (record_of_adding adding) newest) (appends adding (suc made)) p later y
   own_rollback at later same b = lane_for later b
       (subst (λ (z : Lane E). AreCellsOf (reverse z.updates.items) (booked adding.added (record_of_adding adding) y).updates) (sym same)
@@ -230,7 +230,7 @@ module _ (E : Type 0) (layout : Layout) (blocks : List Standing) (log newest : L
       k : AddsRollback adding.added
       k = adds_rollback adding.added (kind_under IsRollingBack adding made come.under_way)
 
-  own_compensation : stage_of lane ≡ Undoing → (later : Lane E) → later ≡ moved lane.part (with_compensation (with_event_paid lane)) → IsBooked lane later →
+  own_compensation : stage_of lane ≡ Undoing → (later : Lane E) → later ≡ moved lane.part (with_compensation (paid_event lane)) → IsBooked lane later →
       IsLaneOf layout blocks log (inserted (record_of_adding adding) newest) (appends adding (suc made)) p later y
   own_compensation at later same b = lane_for later b
       (subst (λ (z : Lane E). AreCellsOf (reverse z.updates.items) (booked adding.added (record_of_adding adding) y).updates) (sym same)
@@ -249,7 +249,7 @@ module _ (E : Type 0) (layout : Layout) (blocks : List Standing) (log newest : L
       k : AddsCompensation adding.added
       k = adds_compensation adding.added (kind_under IsCompensating adding made come.under_way)
 
-  own_end : stage_of lane ≡ Ending → (later : Lane E) → later ≡ moved lane.part (with_end (with_event_paid lane)) → IsBooked lane later →
+  own_end : stage_of lane ≡ Ending → (later : Lane E) → later ≡ moved lane.part (with_end (paid_event lane)) → IsBooked lane later →
       IsLaneOf layout blocks log (inserted (record_of_adding adding) newest) (appends adding (suc made)) p later y
   own_end at later same b = lane_for later b
       (subst (λ (z : Lane E). AreCellsOf (reverse z.updates.items) (booked adding.added (record_of_adding adding) y).updates) (sym same)
@@ -275,12 +275,12 @@ module _ (E : Type 0) (layout : Layout) (blocks : List Standing) (log newest : L
       k : AddsEnd adding.added
       k = adds_end x.commits adding.added (kind_under (IsEnding x.commits) adding made come.under_way)
 
-  pub own_lane : (later : Lane E) → Notices (with_event_paid lane) c later → IsLaneOf layout blocks log (inserted (record_of_adding adding) newest) (appends adding (suc made)) p (moved later.part later) y
-  own_lane _ (update at) = own_update at (moved lane.part (with_update c (with_event_paid lane))) refl (booked_lane E c lane (with_update c (with_event_paid lane)) (update at))
-  own_lane _ (rollback at) = own_rollback at (moved lane.part (with_rollback (with_event_paid lane))) refl (booked_lane E c lane (with_rollback (with_event_paid lane)) (rollback at))
+  pub own_lane : (later : Lane E) → Notices (paid_event lane) c later → IsLaneOf layout blocks log (inserted (record_of_adding adding) newest) (appends adding (suc made)) p (moved later.part later) y
+  own_lane _ (update at) = own_update at (moved lane.part (with_update c (paid_event lane))) refl (booked_lane E c lane (with_update c (paid_event lane)) (update at))
+  own_lane _ (rollback at) = own_rollback at (moved lane.part (with_rollback (paid_event lane))) refl (booked_lane E c lane (with_rollback (paid_event lane)) (rollback at))
   own_lane _ (compensation at) =
-      own_compensation at (moved lane.part (with_compensation (with_event_paid lane))) refl (booked_lane E c lane (with_compensation (with_event_paid lane)) (compensation at))
-  own_lane _ (end at) = own_end at (moved lane.part (with_end (with_event_paid lane))) refl (booked_lane E c lane (with_end (with_event_paid lane)) (end at))
+      own_compensation at (moved lane.part (with_compensation (paid_event lane))) refl (booked_lane E c lane (with_compensation (paid_event lane)) (compensation at))
+  own_lane _ (end at) = own_end at (moved lane.part (with_end (paid_event lane))) refl (booked_lane E c lane (with_end (paid_event lane)) (end at))
 
 -- ---- what it wants
 
@@ -311,7 +311,7 @@ taken_most false stores = omega arith
 
 module _ (E : Type 0) (layout : Layout) (start : Words) (book later : Book E) (keeper kept : LogKeeper) (region behind : Region) (spare left events made l : ℕ) (e : Event) (place : Place) (c : Cell)
     (lane : Lane E) (m : IsMade layout keeper region behind l e spare left events made) (are : AreLeft layout keeper (l % layout.partitions) 2)
-    (part_is : ((keeping_of keeper).runs (l % layout.partitions)).part ≡ adds place (record_of (place_address place) c)) (notices : Notices (with_event_paid (lane_at book l)) c lane)
+    (part_is : ((keeping_of keeper).runs (l % layout.partitions)).part ≡ adds place (record_of (place_address place) c)) (notices : Notices (paid_event (lane_at book l)) c lane)
     (lets : LetsGoOne layout book later (l % layout.partitions)) (goes : GoesTo book later l (moved lane.part lane)) (is_book : IsBook later)
     (keeps : IsKept keeper kept (made_in layout keeper (l % layout.partitions))) (st : IsStateOf layout start book keeper region spare events) where
   abbrev p : ℕ

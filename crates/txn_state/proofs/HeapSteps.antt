@@ -50,7 +50,7 @@ use Rattle.txn_state.specs.Ties.{plain_write, AreCellsOf, IsTxnOf, IsGoingOn, Is
 use Rattle.txn_state.specs.Owing.{append_most, ending_left, undoing_left, needs_at, records_noted, OwesEnough}
 use Rattle.txn_state.specs.Numbers.{pending}
 use Rattle.txn_state.specs.States.{IsStateOf, reserved_for}
-use Rattle.txn_state.specs.Changes.{GoesTo, with_event_paid}
+use Rattle.txn_state.specs.Changes.{GoesTo, paid_event}
 use Rattle.txn_state.specs.AppendLaws.{undo_part}
 use Rattle.txn_state.specs.HeapLaws.{WritesAreStored, WordsAreTakenBack, FencesKeep}
 use Rattle.txn_state.proofs.Steps.{beside_with, held_with}
@@ -179,7 +179,7 @@ write_of shape p n k lane x w t same got = ap (λ (ws : List Write). slice_get w
 
 -- ---- a fence
 
-fenced_txn : {E : Type 0} (shape : Shape) (p part : ℕ) (lane : Lane E) (x : Txn) → IsTxnOf shape p lane nothing x → IsTxnOf shape p (moved part (with_event_paid lane)) nothing (with_fence x)
+fenced_txn : {E : Type 0} (shape : Shape) (p part : ℕ) (lane : Lane E) (x : Txn) → IsTxnOf shape p lane nothing x → IsTxnOf shape p (moved part (paid_event lane)) nothing (with_fence x)
 fenced_txn shape p part lane x t = record {
   number = t.number;
   here = t.here;
@@ -198,7 +198,7 @@ fenced_txn shape p part lane x t = record {
 }
 
 abbrev to_end : {E : Type 0} → Lane E → Lane E
-to_end lane = moved END (with_event_paid lane)
+to_end lane = moved END (paid_event lane)
 
 -- what a fence makes of the lane
 record IsFenced {E : Type 0} (shape : Shape) (p n c : ℕ) (lane : Lane E) (x : Txn) (slots : List Slot) : Type 0 where
@@ -387,7 +387,7 @@ one_apart n k some = omega (arith, some)
 -- ---- the store of a write
 
 abbrev answered : {E : Type 0} → Lane E → Lane E
-answered lane = closed Reply.Written (stored_one (with_event_paid lane))
+answered lane = closed Reply.Written (stored_one (paid_event lane))
 
 stored_txn : {E : Type 0} (shape : Shape) (p : ℕ) (lane : Lane E) (x : Txn) → is_commit lane.doing ≡ false → IsTxnOf shape p lane nothing x →
     IsTxnOf shape p (answered lane) nothing (with_stored (x.stored + 1) x)
@@ -542,7 +542,7 @@ module _ {E : Type 0} (layout : Layout) (start : Words) (book : Book E) (keeper 
     fewer = with_stored (length x_here.updates) x_here
 
     abbrev next_lane : Lane E
-    next_lane = moved (undo_part lane_now) (unstored_one (with_event_paid lane_now))
+    next_lane = moved (undo_part lane_now) (unstored_one (paid_event lane_now))
 
     last_one : lane_now.stored - 1 ≡ length x_here.updates
     last_one = let one = taking.one_more in let same = its_txn.stored in omega (arith, one, same)
@@ -658,11 +658,11 @@ pub words_are_taken_back : {E : Type 0} → WordsAreTakenBack E
 words_are_taken_back layout start book later keeper region behind spare left events made l wr r is at got latest_is goes kept state =
     subst (λ z. IsStateOf layout start later keeper z left made) (sym is.cells) (elim (eqb_tells (length (lane_at book l).updates.items) 0) [
       | inl e ↦ state_behind layout start book later keeper region spare left events made l (PStore wr.address r.after) state
-          (with_stored (length (txn_at state.w.lanes l).updates) (txn_at state.w.lanes l)) (moved (undo_part (lane_at book l)) (unstored_one (with_event_paid (lane_at book l)))) Keeping
+          (with_stored (length (txn_at state.w.lanes l).updates) (txn_at state.w.lanes l)) (moved (undo_part (lane_at book l)) (unstored_one (paid_event (lane_at book l)))) Keeping
           goes kept is.places is.counted
           (back_to_keep layout start book keeper region spare events l is.inside goes.lanes.inside state wr r at got latest_is e.1 (ap (λ b. if b then KEEP else UNDO) e.0))
       | inr ne ↦ state_behind layout start book later keeper region spare left events made l (PStore wr.address r.after) state
-          (with_stored (length (txn_at state.w.lanes l).updates) (txn_at state.w.lanes l)) (moved (undo_part (lane_at book l)) (unstored_one (with_event_paid (lane_at book l)))) Undoing
+          (with_stored (length (txn_at state.w.lanes l).updates) (txn_at state.w.lanes l)) (moved (undo_part (lane_at book l)) (unstored_one (paid_event (lane_at book l)))) Undoing
           goes kept is.places is.counted
           (back_to_undo layout start book keeper region spare events l is.inside goes.lanes.inside state wr r at got latest_is (some_of (length (lane_at book l).updates.items) ne.1)
           (ap (λ b. if b then KEEP else UNDO) ne.0))

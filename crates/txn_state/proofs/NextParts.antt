@@ -54,7 +54,7 @@ use Rattle.txn_state.specs.Ties.{AreCellsOf, IsTxnOf, IsCome, under_of, IsLaneOf
 use Rattle.txn_state.specs.Owing.{REMOVAL_EVENTS, records_noted}
 use Rattle.txn_state.specs.Numbers.{unpaid, pending}
 use Rattle.txn_state.specs.States.{IsStateOf}
-use Rattle.txn_state.specs.Changes.{GoesTo, IsKept, with_event_paid}
+use Rattle.txn_state.specs.Changes.{GoesTo, IsKept, paid_event}
 use Rattle.txn_state.specs.AppendLaws.{newest_image, IsMade, AreLeft, made_in}
 use Rattle.txn_state.specs.ClosingLaws.{IsRemovalRead, RemovalsBegin}
 use Rattle.txn_state.proofs.Sums.{sums_same}
@@ -69,7 +69,7 @@ use Rattle.txn_state.proofs.Cleared.{IsCleared, cleared}
 
 -- the lane is at another part, with another part of the log under way, and has its transaction as it was
 moved_txn : {E : Type 0} (shape : Shape) (p part : ℕ) (lane : Lane E) (u next : UnderWay) (x : Txn) → noticed shape p u x ≡ x → noticed shape p next x ≡ x → IsTxnOf shape p lane u x →
-    IsTxnOf shape p (moved part (with_event_paid lane)) next x
+    IsTxnOf shape p (moved part (paid_event lane)) next x
 moved_txn shape p part lane u next x was is t = record {
   number = t.number;
   here = t.here;
@@ -182,14 +182,14 @@ module _ {E : Type 0} (layout : Layout) (start : Words) (book later : Book E) (k
       | inr ne ↦ ap unpaid (changed.unders q ne.1)
     ])
 
-    pub next_state : (part : ℕ) (stage : Stage) → stage_of (moved part (with_event_paid (lane_at book l))) ≡ stage → stage ≢ Naming → x.over ≡ true → (lane_at book l).has_records ≡ true →
+    pub next_state : (part : ℕ) (stage : Stage) → stage_of (moved part (paid_event (lane_at book l))) ≡ stage → stage ≢ Naming → x.over ≡ true → (lane_at book l).has_records ≡ true →
         noticed its_shape p (under_of its_shape was l) x ≡ x → noticed its_shape p next x ≡ x → IsCome over.state.log next x stage →
-        OwesIt its_shape p (records_noted begun_world x.number) (length (over.chains_behind p)) next x stage (moved part (with_event_paid (lane_at book l))) kept.slots.items → 1 ≤ (lane_at book l).owed_events →
-        GoesTo book later l (moved part (with_event_paid (lane_at book l))) → IsBook later → IsKept keeper kept (begun_in p its_next (made_in layout keeper p).ledger (made_in layout keeper p)) →
+        OwesIt its_shape p (records_noted begun_world x.number) (length (over.chains_behind p)) next x stage (moved part (paid_event (lane_at book l))) kept.slots.items → 1 ≤ (lane_at book l).owed_events →
+        GoesTo book later l (moved part (paid_event (lane_at book l))) → IsBook later → IsKept keeper kept (begun_in p its_next (made_in layout keeper p).ledger (made_in layout keeper p)) →
         IsStateOf layout start later kept behind left made
     next_state part stage stage_is other is_over recorded unnoticed next_unnoticed come owes some goes is_book is =
         part_behind layout start book later keeper kept region behind spare left events made l e (begun_in p its_next (made_in layout keeper p).ledger (made_in layout keeper p)) state m
-        (moved part (with_event_paid (lane_at book l))) goes is_book is over begun_world (record {
+        (moved part (paid_event (lane_at book l))) goes is_book is over begun_world (record {
           changed = changed;
           world = world_there;
           ledger = refl;
@@ -198,7 +198,7 @@ module _ {E : Type 0} (layout : Layout) (start : Words) (book later : Book E) (k
           history = refl;
           held = held_changed its_shape l was begun_world changed state.tied.held (held_by_lane its_shape begun_world l m.inside inside holder_now (λ none. busy (sym next_now ∙ none))
               (subst (λ (run : Running). run.made < length (plan_of its_shape p run.part)) (sym run_next) some_events));
-          mine = subst (λ u. IsLaneOf layout book.blocks over.state.log (newest_log made_keeping.ledger) u p (moved part (with_event_paid (lane_at book l))) x) (sym under_next) (record {
+          mine = subst (λ u. IsLaneOf layout book.blocks over.state.log (newest_log made_keeping.ledger) u p (moved part (paid_event (lane_at book l))) x) (sym under_next) (record {
             txn = moved_txn its_shape p part (lane_at book l) (under_of its_shape was l) next x unnoticed next_unnoticed mine.txn;
             come = subst (IsCome over.state.log next x) (sym stage_is) come;
             words = mine.words;
@@ -209,7 +209,7 @@ module _ {E : Type 0} (layout : Layout) (start : Words) (book later : Book E) (k
             has_some = λ one has off. absurd (let f : true ≡ false = sym is_over ∙ off in cc);
           });
           number = state.tied.fresh l;
-          owes = owes_to its_shape over.chains_behind later kept begun_world l (moved part (with_event_paid (lane_at book l))) x next stage goes.lanes.here refl under_next stage_is owes;
+          owes = owes_to its_shape over.chains_behind later kept begun_world l (moved part (paid_event (lane_at book l))) x next stage goes.lanes.here refl under_next stage_is owes;
           unpaid_same = unpaid_there;
           pays = record {
             events_less = less_one 0 (lane_at book l).owed_events some;

@@ -35,7 +35,7 @@ use Rattle.txn_state.specs.Stages.{stage_of}
 use Rattle.txn_state.specs.Ties.{plain_entry, AreCellsOf, under_of, IsLaneOf}
 use Rattle.txn_state.specs.Owing.{needs_at, records_noted}
 use Rattle.txn_state.specs.States.{is_joining, IsStateOf, reserved_for}
-use Rattle.txn_state.specs.Changes.{GoesTo, IsKept, with_event_paid}
+use Rattle.txn_state.specs.Changes.{GoesTo, IsKept, paid_event}
 use Rattle.txn_state.specs.QuietLaws.{HasSameTransaction}
 use Rattle.txn_state.specs.AppendLaws.{IsMade, AreLeft, made_in, PartsGoOn}
 use Rattle.txn_state.proofs.Making.{test_same, adds_same, takes_same, beside_changed, region_is, left_there, keeping_there}
@@ -89,7 +89,7 @@ lane_further E layout blocks log newest u p lane x busy waits is = let t = is.tx
   has_some = is.has_some;
 }
 
-like_of : (E : Type 0) (lane later : Lane E) → HasSameTransaction (with_event_paid lane) later → IsLike lane later
+like_of : (E : Type 0) (lane later : Lane E) → HasSameTransaction (paid_event lane) later → IsLike lane later
 like_of E lane later same = record {
   stage = same.stage;
   transaction = same.transaction;
@@ -114,7 +114,7 @@ none_taken false t off = refl
 module _ (E : Type 0) (layout : Layout) (start : Words) (book later : Book E) (keeper kept : LogKeeper) (region behind : Region) (spare left events made l n : ℕ) (e : Event) (lane : Lane E)
     (m : IsMade layout keeper region behind l e spare left events made) (are : AreLeft layout keeper (l % layout.partitions) (n + 2))
     (no_gate : stores_gate (layout_shape layout) (keeping_of keeper) (l % layout.partitions) ≡ false)
-    (same : HasSameTransaction (with_event_paid (lane_at book l)) lane) (goes : GoesTo book later l lane) (is_book : IsBook later)
+    (same : HasSameTransaction (paid_event (lane_at book l)) lane) (goes : GoesTo book later l lane) (is_book : IsBook later)
     (keeps : IsKept keeper kept (made_in layout keeper (l % layout.partitions))) (st : IsStateOf layout start book keeper region spare events) where
   abbrev p : ℕ
   p = l % layout.partitions

@@ -1,6 +1,7 @@
 -- What the last event of a group of a closing, or of a removal, leaves of the plain world.
 use Rattle.std.proofs.Common.{◌≡◌, ◌≢◌, ◌⊎◌, inl, inr, ℕ, zero, suc, ◌+◌, ◌<◌, ◌==◌, Bool, true, false, not, ◌&&◌, if◌then◌else◌, List, [], ◌∷◌, ◌++◌, length, refl, sym, ap, ◌∙◌, subst, arith, length-append}
 use Rattle.std.proofs.lemmas.List.{take_all, append-nil}
+use Rattle.persist_model.specs.Kinds.{END}
 use Rattle.persist_model.specs.declared.event.Event.{Event}
 use Rattle.persist_model.specs.Region.{Words, Region}
 use Rattle.persist_model.specs.Progress.{Wrote, Reaches, start, advance_all}
@@ -68,7 +69,7 @@ settled_among (y ∷ ledger) x (inr m) e = by y.stage (settled_among ledger x m 
     by Settled k = inr k
 
 no_gate : (t : ℕ) (ends : Bool) (x : Noted) → x.entry.transaction ≢ t → gate_if t ends x ≡ []
-no_gate t ends x ne = ap (λ (b : Bool). if b then x.entry.at ∷ [] else []) (ap (λ (b : Bool). b && (if ends then x.entry.kind == 4 else not (x.entry.kind == 4))) (test_other x.entry.transaction t ne))
+no_gate t ends x ne = ap (λ (b : Bool). if b then x.entry.at ∷ [] else []) (ap (λ (b : Bool). b && (if ends then x.entry.kind == END else not (x.entry.kind == END))) (test_other x.entry.transaction t ne))
 
 -- the gates of a transaction of which none is closed stay
 pub gates_without : (t : ℕ) (ends : Bool) (gates checks checkpoints : List ℕ) (ledger : List Noted) →

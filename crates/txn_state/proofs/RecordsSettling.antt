@@ -38,7 +38,7 @@ use Rattle.txn_state.specs.Ties.{plain_entry, IsUpdating, IsRollingBack, IsCompe
 use Rattle.txn_state.specs.Owing.{append_left, undoing_left, ending_left, append_most, needs_at, records_noted}
 use Rattle.txn_state.specs.Numbers.{unpaid}
 use Rattle.txn_state.specs.States.{IsStateOf, reserved_for}
-use Rattle.txn_state.specs.Changes.{GoesTo, IsKept, with_event_paid}
+use Rattle.txn_state.specs.Changes.{GoesTo, IsKept, paid_event}
 use Rattle.txn_state.specs.AppendLaws.{IsMade, AreLeft, made_in, undo_part, store_word, undo, take_back, RecordsSettle}
 use Rattle.txn_state.proofs.Making.{test_same, test_other, under_free, held_changed, held_by_none, IsChangedIn}
 use Rattle.txn_state.proofs.Lanes.{reserved_less, its_entry, same_entry, entries_stay, world_book}
@@ -83,13 +83,13 @@ taking_events shape a k u o one more = let less : u - 1 ≡ o = omega (arith, mo
 -- It comes to this stage, with this part of its plan.
 pub record SettlesTo {E : Type 0} (layout : Layout) (blocks : List Standing) (after newest : Log) (p : ℕ) (adding : Adding) (n : ℕ) (x : Txn) (lane : Lane E) (part : ℕ) : Type 0 where
   pub stage : Stage
-  pub stage_is : stage_of (moved part (with_event_paid lane)) ≡ stage
+  pub stage_is : stage_of (moved part (paid_event lane)) ≡ stage
   pub no_end : is_end adding.added ≡ false
-  pub own : IsLaneOf layout blocks after newest nothing p (moved part (with_event_paid lane)) (txn_behind adding.added (record_of_adding adding) x)
+  pub own : IsLaneOf layout blocks after newest nothing p (moved part (paid_event lane)) (txn_behind adding.added (record_of_adding adding) x)
   pub less : (k c d : ℕ) → IsOneLess (needs_at (layout_shape layout) p k c (appends adding n) x (stage_of lane))
       (needs_at (layout_shape layout) p k d nothing (txn_behind adding.added (record_of_adding adding) x) stage)
 
-same_book : (E : Type 0) (part : ℕ) (lane : Lane E) → HasSameBook lane (moved part (with_event_paid lane))
+same_book : (E : Type 0) (part : ℕ) (lane : Lane E) → HasSameBook lane (moved part (paid_event lane))
 same_book E part lane = record {
   transaction = refl;
   held = refl;
@@ -127,8 +127,8 @@ module _ (E : Type 0) (layout : Layout) (blocks : List Standing) (s : State) (h 
     stage = Storing;
     stage_is = stage;
     no_end = k.no_end;
-    own = subst (IsLaneOf layout blocks after newest nothing p (moved STORE (with_event_paid lane))) (sym (behind_booked adding.added (record_of_adding adding) x k.no_end ∙ k.books (record_of_adding adding) x))
-        (lane_as E layout blocks s.log after newest (appends adding n) nothing p x updated lane (moved STORE (with_event_paid lane)) Storing is
+    own = subst (IsLaneOf layout blocks after newest nothing p (moved STORE (paid_event lane))) (sym (behind_booked adding.added (record_of_adding adding) x k.no_end ∙ k.books (record_of_adding adding) x))
+        (lane_as E layout blocks s.log after newest (appends adding n) nothing p x updated lane (moved STORE (paid_event lane)) Storing is
         (record { number = refl; part = refl; words = refl; writes = refl; stored = refl; zeroed = refl; commits = refl; ended = refl; fenced = refl }) refl (λ o. o) (same_book E STORE lane)
         (sym (ap (λ (q : Txn). q.updates) seen)) (sym (ap (λ (q : Txn). q.rolled) seen))
         ((next_update (layout_shape layout) s h x (record_of_adding adding) adding.added kind fits.next).point_is ∙ is.txn.point, is.txn.linked) refl stage (λ e. cc) (record {
@@ -151,7 +151,7 @@ module _ (E : Type 0) (layout : Layout) (blocks : List Standing) (s : State) (h 
       come : IsNaming (appends adding n) x
       come = subst (IsCome s.log (appends adding n) x) at is.come
 
-      stage : stage_of (moved STORE (with_event_paid lane)) ≡ Storing
+      stage : stage_of (moved STORE (paid_event lane)) ≡ Storing
       stage = naming_stores lane.phase lane.has_records lane.part lane.doing at
 
   settles_rollback : stage_of lane ≡ Opening → IsRollingBack adding.added → SettlesTo layout blocks after newest p adding n x lane (undo_part lane)
@@ -172,7 +172,7 @@ module _ (E : Type 0) (layout : Layout) (blocks : List Standing) (s : State) (h 
       come : IsOpening (appends adding n) x
       come = subst (IsCome s.log (appends adding n) x) at is.come
 
-      call : stage_of (moved (undo_part lane) (with_event_paid lane)) ≡ abort_stage (undo_part lane)
+      call : stage_of (moved (undo_part lane) (paid_event lane)) ≡ abort_stage (undo_part lane)
       call = let aborts = aborts_it lane.has_records lane.doing Opening refl (call_at lane.phase lane.has_records lane.part lane.doing Opening at refl) in
           stage_of_call lane.phase lane.has_records (undo_part lane) lane.doing Doing.Abort aborts.0 aborts.1
 
@@ -185,10 +185,10 @@ module _ (E : Type 0) (layout : Layout) (blocks : List Standing) (s : State) (h 
       length_some : length lane.updates.items ≢ 0 → length x.updates ≢ 0
       length_some ne e = ne (counted ∙ e)
 
-      own_as : (stage : Stage) → stage_of (moved (undo_part lane) (with_event_paid lane)) ≡ stage → stage ≢ Naming → IsCome after nothing rolled_on stage →
-          IsLaneOf layout blocks after newest nothing p (moved (undo_part lane) (with_event_paid lane)) (txn_behind adding.added (record_of_adding adding) x)
-      own_as stage at other come = subst (IsLaneOf layout blocks after newest nothing p (moved (undo_part lane) (with_event_paid lane))) (sym behind)
-          (lane_as E layout blocks s.log after newest (appends adding n) nothing p x rolled_on lane (moved (undo_part lane) (with_event_paid lane)) stage is
+      own_as : (stage : Stage) → stage_of (moved (undo_part lane) (paid_event lane)) ≡ stage → stage ≢ Naming → IsCome after nothing rolled_on stage →
+          IsLaneOf layout blocks after newest nothing p (moved (undo_part lane) (paid_event lane)) (txn_behind adding.added (record_of_adding adding) x)
+      own_as stage at other come = subst (IsLaneOf layout blocks after newest nothing p (moved (undo_part lane) (paid_event lane))) (sym behind)
+          (lane_as E layout blocks s.log after newest (appends adding n) nothing p x rolled_on lane (moved (undo_part lane) (paid_event lane)) stage is
           (record { number = refl; part = refl; words = refl; writes = refl; stored = refl; zeroed = refl; commits = refl; ended = refl; fenced = refl }) refl (λ o. o) (same_book E (undo_part lane) lane)
           (sym (ap (λ (q : Txn). q.updates) seen)) (sym (ap (λ (q : Txn). q.rolled) seen)) is.txn.linked is.txn.point at other come)
 
@@ -198,7 +198,7 @@ module _ (E : Type 0) (layout : Layout) (blocks : List Standing) (s : State) (h 
       less_as stage j c d less = subst (λ (q : Txn). IsOneLess (needs_at (layout_shape layout) p j c (appends adding n) x (stage_of lane)) (needs_at (layout_shape layout) p j d nothing q stage)) (sym behind)
           (subst (λ st. IsOneLess (needs_at (layout_shape layout) p j c (appends adding n) x st) (needs_at (layout_shape layout) p j d nothing rolled_on stage)) (sym at) less)
 
-      keeps : length x.updates ≡ 0 → stage_of (moved (undo_part lane) (with_event_paid lane)) ≡ Keeping → SettlesTo layout blocks after newest p adding n x lane (undo_part lane)
+      keeps : length x.updates ≡ 0 → stage_of (moved (undo_part lane) (paid_event lane)) ≡ Keeping → SettlesTo layout blocks after newest p adding n x lane (undo_part lane)
       keeps none stage = record {
         stage = Keeping;
         stage_is = stage;
@@ -217,7 +217,7 @@ module _ (E : Type 0) (layout : Layout) (blocks : List Standing) (s : State) (h 
         });
       }
 
-      undoes : length x.updates ≢ 0 → stage_of (moved (undo_part lane) (with_event_paid lane)) ≡ Undoing → SettlesTo layout blocks after newest p adding n x lane (undo_part lane)
+      undoes : length x.updates ≢ 0 → stage_of (moved (undo_part lane) (paid_event lane)) ≡ Undoing → SettlesTo layout blocks after newest p adding n x lane (undo_part lane)
       undoes some stage = record {
         stage = Undoing;
         stage_is = stage;
@@ -241,8 +241,8 @@ module _ (E : Type 0) (layout : Layout) (blocks : List Standing) (s : State) (h 
     stage = TakingBack;
     stage_is = stage;
     no_end = k.no_end;
-    own = subst (IsLaneOf layout blocks after newest nothing p (moved STORE (with_event_paid lane))) (sym behind)
-        (lane_as E layout blocks s.log after newest (appends adding n) nothing p x compensated lane (moved STORE (with_event_paid lane)) TakingBack is
+    own = subst (IsLaneOf layout blocks after newest nothing p (moved STORE (paid_event lane))) (sym behind)
+        (lane_as E layout blocks s.log after newest (appends adding n) nothing p x compensated lane (moved STORE (paid_event lane)) TakingBack is
         (record { number = refl; part = refl; words = refl; writes = refl; stored = refl; zeroed = refl; commits = refl; ended = refl; fenced = refl }) refl (λ o. o) (same_book E STORE lane)
         (sym (ap (λ (q : Txn). q.updates) seen)) (sym (ap (λ (q : Txn). q.rolled) seen)) (linked_rest x.updates is.txn.linked)
         (next_undo (layout_shape layout) s h x (record_of_adding adding) adding.added kind fits.next is.txn.linked) stage (λ e. cc) (record {
@@ -271,7 +271,7 @@ module _ (E : Type 0) (layout : Layout) (blocks : List Standing) (s : State) (h 
       come : IsUndoing (appends adding n) x
       come = subst (IsCome s.log (appends adding n) x) at is.come
 
-      stage : stage_of (moved STORE (with_event_paid lane)) ≡ TakingBack
+      stage : stage_of (moved STORE (paid_event lane)) ≡ TakingBack
       stage = let aborts = aborts_it lane.has_records lane.doing Undoing refl (call_at lane.phase lane.has_records lane.part lane.doing Undoing at refl) in
           stage_of_call lane.phase lane.has_records STORE lane.doing Doing.Abort aborts.0 aborts.1
 
@@ -279,7 +279,7 @@ module _ (E : Type 0) (layout : Layout) (blocks : List Standing) (s : State) (h 
 
 module _ (E : Type 0) (layout : Layout) (start : Words) (book later : Book E) (keeper kept : LogKeeper) (region behind : Region) (spare left events made l part : ℕ) (e : Event)
     (m : IsMade layout keeper region behind l e spare left events made) (are : AreLeft layout keeper (l % layout.partitions) 1)
-    (goes : GoesTo book later l (moved part (with_event_paid (lane_at book l)))) (is_book : IsBook later)
+    (goes : GoesTo book later l (moved part (paid_event (lane_at book l)))) (is_book : IsBook later)
     (keeps : IsKept keeper kept (latched (l % layout.partitions) 17 (made_in layout keeper (l % layout.partitions)))) (st : IsStateOf layout start book keeper region spare events)
     (adding : Adding) (n : ℕ) (is : st.w.under (l % layout.partitions) ≡ appends adding n)
     (to : SettlesTo layout book.blocks (settling.state_there E layout start book keeper region behind spare left events made l e m st are adding n is).log (newest_log st.w.keeping.ledger)
@@ -291,7 +291,7 @@ module _ (E : Type 0) (layout : Layout) (start : Words) (book later : Book E) (k
   x = txn_at st.w.lanes l
 
   abbrev here : Lane E
-  here = moved part (with_event_paid (lane_at book l))
+  here = moved part (paid_event (lane_at book l))
 
   abbrev y : Txn
   y = txn_behind adding.added (record_of_adding adding) (txn_at st.w.lanes l)
@@ -348,10 +348,10 @@ module _ (E : Type 0) (layout : Layout) (start : Words) (book later : Book E) (k
   newest_is : newest_log v.keeping.ledger ≡ newest_log st.w.keeping.ledger
   newest_is = settling.newest_there E layout start book keeper region behind spare left events made l e m st are adding n is
 
-  own : IsLaneOf layout book.blocks state_there.log (newest_log v.keeping.ledger) (under_of (layout_shape layout) v l) p (moved part (with_event_paid (lane_at book l))) (txn_at v.lanes l)
-  own = subst (λ (z : Txn). IsLaneOf layout book.blocks state_there.log (newest_log v.keeping.ledger) (under_of (layout_shape layout) v l) p (moved part (with_event_paid (lane_at book l))) z) (sym txn_is)
-      (subst (λ (u : UnderWay). IsLaneOf layout book.blocks state_there.log (newest_log v.keeping.ledger) u p (moved part (with_event_paid (lane_at book l))) y) (sym under_none)
-      (subst (λ (log : Log). IsLaneOf layout book.blocks state_there.log log nothing p (moved part (with_event_paid (lane_at book l))) y) (sym newest_is) to.own))
+  own : IsLaneOf layout book.blocks state_there.log (newest_log v.keeping.ledger) (under_of (layout_shape layout) v l) p (moved part (paid_event (lane_at book l))) (txn_at v.lanes l)
+  own = subst (λ (z : Txn). IsLaneOf layout book.blocks state_there.log (newest_log v.keeping.ledger) (under_of (layout_shape layout) v l) p (moved part (paid_event (lane_at book l))) z) (sym txn_is)
+      (subst (λ (u : UnderWay). IsLaneOf layout book.blocks state_there.log (newest_log v.keeping.ledger) u p (moved part (paid_event (lane_at book l))) y) (sym under_none)
+      (subst (λ (log : Log). IsLaneOf layout book.blocks state_there.log log nothing p (moved part (paid_event (lane_at book l))) y) (sym newest_is) to.own))
 
   abbrev noted : ℕ
   noted = records_noted st.w (txn_at st.w.lanes l).number
@@ -365,13 +365,13 @@ module _ (E : Type 0) (layout : Layout) (start : Words) (book later : Book E) (k
   owed_here : Owes (layout_shape layout) p noted (length (st.chains p)) (appends adding n) (txn_at st.w.lanes l) keeper (lane_at book l)
   owed_here = settling.owed_here E layout start book keeper region behind spare left events made l e m st are adding n is
 
-  owes_there : Owes (layout_shape layout) p (records_noted v (txn_at v.lanes l).number) (length (chains_there p)) (under_of (layout_shape layout) v l) (txn_at v.lanes l) kept (moved part (with_event_paid (lane_at book l)))
+  owes_there : Owes (layout_shape layout) p (records_noted v (txn_at v.lanes l).number) (length (chains_there p)) (under_of (layout_shape layout) v l) (txn_at v.lanes l) kept (moved part (paid_event (lane_at book l)))
   owes_there =
-      subst (λ (z : Txn). Owes (layout_shape layout) p (records_noted v z.number) (length (chains_there p)) (under_of (layout_shape layout) v l) z kept (moved part (with_event_paid (lane_at book l)))) (sym txn_is)
-      (subst (λ (u : UnderWay). Owes (layout_shape layout) p (records_noted v y.number) (length (chains_there p)) u y kept (moved part (with_event_paid (lane_at book l)))) (sym under_none)
-      (subst (λ (k : ℕ). Owes (layout_shape layout) p k (length (chains_there p)) nothing y kept (moved part (with_event_paid (lane_at book l)))) (sym noted_is)
+      subst (λ (z : Txn). Owes (layout_shape layout) p (records_noted v z.number) (length (chains_there p)) (under_of (layout_shape layout) v l) z kept (moved part (paid_event (lane_at book l)))) (sym txn_is)
+      (subst (λ (u : UnderWay). Owes (layout_shape layout) p (records_noted v y.number) (length (chains_there p)) u y kept (moved part (paid_event (lane_at book l)))) (sym under_none)
+      (subst (λ (k : ℕ). Owes (layout_shape layout) p k (length (chains_there p)) nothing y kept (moved part (paid_event (lane_at book l)))) (sym noted_is)
       (owes_step E (layout_shape layout) p noted (length (st.chains p)) (appends adding n) (txn_at st.w.lanes l) noted (length (chains_there p)) nothing y to.stage keeper kept (lane_at book l)
-      (moved part (with_event_paid (lane_at book l))) (going.has_slot E layout start book keeper region behind spare left events made l e m st) keeps.slots to.stage_is refl refl
+      (moved part (paid_event (lane_at book l))) (going.has_slot E layout start book keeper region behind spare left events made l e m st) keeps.slots to.stage_is refl refl
       (to.less noted (length (st.chains p)) (length (chains_there p))) owed_here)))
 
   one_owed : 1 ≤ (lane_at book l).owed_events
@@ -390,10 +390,10 @@ module _ (E : Type 0) (layout : Layout) (start : Words) (book later : Book E) (k
       omega (arith, old, sum, before, after, long, whole, count)
 
   pub state_settled : IsStateOf layout start later kept behind left made
-  state_settled = rebuilt E layout start book later keeper kept region behind spare left events made l (txn_at st.w.lanes l).number (moved part (with_event_paid (lane_at book l))) base_there state_there chains_there v st (record {
+  state_settled = rebuilt E layout start book later keeper kept region behind spare left events made l (txn_at st.w.lanes l).number (moved part (paid_event (lane_at book l))) base_there state_there chains_there v st (record {
     world = world;
     roomy = settling.roomy_there E layout start book keeper region behind spare left events made l e m st are adding n is (reserved_for layout later)
-        (λ q. reserved_less layout book later l (moved part (with_event_paid (lane_at book l))) goes.lanes (omega arith) q);
+        (λ q. reserved_less layout book later l (moved part (paid_event (lane_at book l))) goes.lanes (omega arith) q);
     beside = settling.beside E layout start book keeper region behind spare left events made l e m st are adding n is v refl elsewhere (λ q ne. refl) (λ q ne. refl) (λ k ne lt. nobody k lt) refl;
     apart = going.apart E layout start book keeper region behind spare left events made l e m st;
     lanes = goes.lanes;
@@ -408,13 +408,13 @@ module _ (E : Type 0) (layout : Layout) (start : Words) (book later : Book E) (k
         (subst (λ (k : ℕ). (txn_at st.w.lanes l).number < k) (sym goes.next) (st.tied.fresh l));
     no_less = (let same = goes.next in omega (arith, same));
     owes = owes_there;
-    stores = events_paid E book later l spare left (moved part (with_event_paid (lane_at book l))) goes.lanes (let one = one_owed in omega (arith, one)) m.places st.owing.stores;
-    places = records_owed E book later l (free_places keeper) (free_places kept) (moved part (with_event_paid (lane_at book l))) goes.lanes refl keeps.places st.owing.places;
-    numbered = numbered_there E layout.partitions book later st.w v events made l (moved part (with_event_paid (lane_at book l))) goes.lanes goes.next refl (omega arith) numbers st.numbered;
+    stores = events_paid E book later l spare left (moved part (paid_event (lane_at book l))) goes.lanes (let one = one_owed in omega (arith, one)) m.places st.owing.stores;
+    places = records_owed E book later l (free_places keeper) (free_places kept) (moved part (paid_event (lane_at book l))) goes.lanes refl keeps.places st.owing.places;
+    numbered = numbered_there E layout.partitions book later st.w v events made l (moved part (paid_event (lane_at book l))) goes.lanes goes.next refl (omega arith) numbers st.numbered;
     opens = subst (λ (k : ℕ). 1 ≤ k) (sym keeps.number) st.opens;
-    is_book = world_book layout book later l (moved part (with_event_paid (lane_at book l))) goes.lanes is_book
-        (entries_stay book later l (moved part (with_event_paid (lane_at book l))) goes
-        (same_entry book.history.items l (lane_at book l) (moved part (with_event_paid (lane_at book l))) refl refl refl refl (its_entry book l st.is_book.entries)) (omega arith) st.is_book.entries)
+    is_book = world_book layout book later l (moved part (paid_event (lane_at book l))) goes.lanes is_book
+        (entries_stay book later l (moved part (paid_event (lane_at book l))) goes
+        (same_entry book.history.items l (lane_at book l) (moved part (paid_event (lane_at book l))) refl refl refl refl (its_entry book l st.is_book.entries)) (omega arith) st.is_book.entries)
         st.is_book;
   })
 

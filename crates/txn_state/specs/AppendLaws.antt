@@ -32,7 +32,7 @@ use Rattle.txn_laws.specs.Rooms.{stores_gate}
 use Rattle.txn_state.specs.declared.parts.TheConstants.{STORE, UNDO, KEEP, CLOSE}
 use Rattle.txn_state.specs.Stages.{Naming, Opening, Undoing, Ending, stage_of, is_commit}
 use Rattle.txn_state.specs.States.{IsStateOf, reserved_for}
-use Rattle.txn_state.specs.Changes.{GoesTo, JoinsTo, IsKept, HasDrawn, with_event_paid, with_record_paid}
+use Rattle.txn_state.specs.Changes.{GoesTo, JoinsTo, IsKept, HasDrawn, paid_event, paid_record}
 use Rattle.txn_state.specs.QuietLaws.{HasSameTransaction}
 
 -- ---- an append begins
@@ -77,7 +77,7 @@ AppendsBegin E = (layout : Layout) (start : Words) (book later : Book E) (keeper
     let p = l % layout.partitions in
     (keeping_of keeper).holder p ≡ 17 → IsPlaceRead layout p region place → IsNextCell region (lane_at book l) cell →
     ((a : ℕ) → a < region.size → 0 < length (region.at a)) →
-    events < 2 ^ 64 → GoesTo book later l (with_record_paid (lane_at book l)) → IsBook later → HasDrawn keeper drawn (latched_append p l place cell keeper) →
+    events < 2 ^ 64 → GoesTo book later l (paid_record (lane_at book l)) → IsBook later → HasDrawn keeper drawn (latched_append p l place cell keeper) →
     IsStateOf layout start book keeper region spare events → IsStateOf layout start later drawn region spare events
 
 -- ---- the next event of a part
@@ -105,7 +105,7 @@ abbrev pub PartsGoOn : Type 0 → Type 0
 PartsGoOn E = (layout : Layout) (start : Words) (book later : Book E) (keeper kept : LogKeeper) (region behind : Region) (spare left events made l n : ℕ) (e : Event) (lane : Lane E) →
     let p = l % layout.partitions in
     IsMade layout keeper region behind l e spare left events made → AreLeft layout keeper p (n + 2) → stores_gate (layout_shape layout) (keeping_of keeper) p ≡ false →
-    HasSameTransaction (with_event_paid (lane_at book l)) lane → GoesTo book later l lane → IsBook later → IsKept keeper kept (made_in layout keeper p) →
+    HasSameTransaction (paid_event (lane_at book l)) lane → GoesTo book later l lane → IsBook later → IsKept keeper kept (made_in layout keeper p) →
     IsStateOf layout start book keeper region spare events → IsStateOf layout start later kept behind left made
 
 -- ---- the store of a record's gate
@@ -127,7 +127,7 @@ GatesAreStored E = (layout : Layout) (start : Words) (book later : Book E) (keep
     let p = l % layout.partitions in
     IsMade layout keeper region behind l e spare left events made → AreLeft layout keeper p 2 →
     ((keeping_of keeper).runs p).part ≡ appends place (record_of (place_address place) c) →
-    Notices (with_event_paid (lane_at book l)) c lane → LetsGoOne layout book later p →
+    Notices (paid_event (lane_at book l)) c lane → LetsGoOne layout book later p →
     GoesTo book later l (moved lane.part lane) → IsBook later → IsKept keeper kept (made_in layout keeper p) →
     IsStateOf layout start book keeper region spare events → IsStateOf layout start later kept behind left made
 
@@ -147,7 +147,7 @@ abbrev pub RecordsSettle : Type 0 → Type 0
 RecordsSettle E = (layout : Layout) (start : Words) (book later : Book E) (keeper kept : LogKeeper) (region behind : Region) (spare left events made l part : ℕ) (e : Event) →
     let p = l % layout.partitions in
     IsMade layout keeper region behind l e spare left events made → AreLeft layout keeper p 1 →
-    GoesOnTo (lane_at book l) part → GoesTo book later l (moved part (with_event_paid (lane_at book l))) → IsBook later →
+    GoesOnTo (lane_at book l) part → GoesTo book later l (moved part (paid_event (lane_at book l))) → IsBook later →
     IsKept keeper kept (latched p 17 (made_in layout keeper p)) →
     IsStateOf layout start book keeper region spare events → IsStateOf layout start later kept behind left made
 
@@ -161,7 +161,7 @@ UndoneEndsSettle E = (layout : Layout) (start : Words) (book later : Book E) (ke
     let p = l % layout.partitions in
     IsMade layout keeper region behind l e spare left events made → AreLeft layout keeper p 1 →
     stage_of (lane_at book l) ≡ Ending → is_commit (lane_at book l).doing ≡ false →
-    GoesTo book later l (moved CLOSE (with_event_paid (lane_at book l))) → IsBook later →
+    GoesTo book later l (moved CLOSE (paid_event (lane_at book l))) → IsBook later →
     IsKept keeper kept (closing_begun p (lane_at book l).transaction (made_in layout keeper p)) →
     IsStateOf layout start book keeper region spare events → IsStateOf layout start later kept behind left made
 
@@ -171,6 +171,6 @@ CommitEndsSettle E = (layout : Layout) (start : Words) (book later : Book E) (ke
     let p = l % layout.partitions in
     IsMade layout keeper region behind l e spare left events made → AreLeft layout keeper p 1 →
     stage_of (lane_at book l) ≡ Ending → is_commit (lane_at book l).doing ≡ true → (lane_at book l).entry ≡ Some entry →
-    JoinsTo book later l (moved CLOSE (entered_lane (with_event_paid (lane_at book l)))) entry → IsBook later →
+    JoinsTo book later l (moved CLOSE (entered_lane (paid_event (lane_at book l)))) entry → IsBook later →
     IsKept keeper kept (closing_begun p (lane_at book l).transaction (made_in layout keeper p)) →
     IsStateOf layout start book keeper region spare events → IsStateOf layout start later kept behind left made

@@ -3,20 +3,13 @@ use Rattle.std.specs.Prelude.{◌≡◌, ◌≢◌, ℕ, ◌+◌, ◌-◌, ◌<�
 use Rattle.lane_types.specs.declared.face.Entry.{Entry}
 use Rattle.lane_book.specs.declared.book.Book.{Book}
 use Rattle.lane_book.specs.declared.lane.Lane.{Lane}
+pub use Rattle.lane_book.specs.Lanes.{paid_event, paid_record}
 use Rattle.lane_book.specs.FacesOf.{lane_at}
 use Rattle.log_keeper.specs.declared.keeper.LogKeeper.{LogKeeper}
 use Rattle.log_keeper.specs.Logged.{Keeping}
 use Rattle.log_keeper.specs.Keeper.{keeping_of, KeepsSlots, free_places}
 
 -- ---- the book
-
--- one event less is owed
-abbrev pub with_event_paid : {E : Type 0} → Lane E → Lane E
-with_event_paid lane = record lane { owed_events = lane.owed_events - 1 }
-
--- and one record less
-abbrev pub with_record_paid : {E : Type 0} → Lane E → Lane E
-with_record_paid lane = record lane { owed_records = lane.owed_records - 1 }
 
 -- Lane l of the later book is this one, and nothing else is another but perhaps the history, the next number and the touched word.
 pub record HasLane {E : Type 0} (book later : Book E) (l : ℕ) (lane : Lane E) : Type 0 where

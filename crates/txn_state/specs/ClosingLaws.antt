@@ -22,7 +22,7 @@ use Rattle.log_keeper.specs.Keeper.{begun_in}
 use Rattle.txn_state.specs.declared.parts.TheConstants.{CLOSE_END, DROP}
 use Rattle.txn_state.specs.Stages.{Closing, ClosingEnd, Dropping, stage_of, is_commit}
 use Rattle.txn_state.specs.States.{IsStateOf}
-use Rattle.txn_state.specs.Changes.{GoesTo, IsKept, with_event_paid}
+use Rattle.txn_state.specs.Changes.{GoesTo, IsKept, paid_event}
 use Rattle.txn_state.specs.AppendLaws.{newest_image, IsMade, AreLeft, made_in}
 
 -- ---- the last event of the first group
@@ -35,7 +35,7 @@ abbrev pub ClosingsGoOn : Type 0 → Type 0
 ClosingsGoOn E = (layout : Layout) (start : Words) (book later : Book E) (keeper kept : LogKeeper) (region behind : Region) (spare left events made l : ℕ) (e : Event) →
     let p = l % layout.partitions in
     IsMade layout keeper region behind l e spare left events made → AreLeft layout keeper p 1 → stage_of (lane_at book l) ≡ Closing →
-    GoesTo book later l (moved CLOSE_END (with_event_paid (lane_at book l))) → IsBook later →
+    GoesTo book later l (moved CLOSE_END (paid_event (lane_at book l))) → IsBook later →
     IsKept keeper kept (end_closing_begun p (lane_at book l).transaction (made_in layout keeper p)) →
     IsStateOf layout start book keeper region spare events → IsStateOf layout start later kept behind left made
 
@@ -55,7 +55,7 @@ abbrev pub RemovalsBegin : Type 0 → Type 0
 RemovalsBegin E = (layout : Layout) (start : Words) (book later : Book E) (keeper kept : LogKeeper) (region behind : Region) (spare left events made l : ℕ) (e : Event) (r : Remove) →
     let p = l % layout.partitions in
     IsMade layout keeper region behind l e spare left events made → AreLeft layout keeper p 1 → HasCleared (lane_at book l) → IsRemovalRead layout p behind r →
-    GoesTo book later l (moved DROP (with_event_paid (lane_at book l))) → IsBook later →
+    GoesTo book later l (moved DROP (paid_event (lane_at book l))) → IsBook later →
     IsKept keeper kept (begun_in p (drops r) (made_in layout keeper p).ledger (made_in layout keeper p)) →
     IsStateOf layout start book keeper region spare events → IsStateOf layout start later kept behind left made
 
@@ -68,6 +68,6 @@ abbrev pub TransactionsEnd : Type 0 → Type 0
 TransactionsEnd E = (layout : Layout) (start : Words) (book later : Book E) (keeper kept : LogKeeper) (region behind : Region) (spare left events made l : ℕ) (e : Event) →
     let p = l % layout.partitions in
     IsMade layout keeper region behind l e spare left events made → AreLeft layout keeper p 1 → HasCleared (lane_at book l) →
-    GoesTo book later l (left_lane (end_reply (is_commit (lane_at book l).doing)) (with_event_paid (lane_at book l))) → IsBook later →
+    GoesTo book later l (left_lane (end_reply (is_commit (lane_at book l).doing)) (paid_event (lane_at book l))) → IsBook later →
     IsKept keeper kept (latched p 17 (made_in layout keeper p)) →
     IsStateOf layout start book keeper region spare events → IsStateOf layout start later kept behind left made

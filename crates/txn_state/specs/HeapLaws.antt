@@ -20,7 +20,7 @@ use Rattle.log_keeper.specs.Ledger.{settled_log}
 use Rattle.txn_state.specs.declared.parts.TheConstants.{END}
 use Rattle.txn_state.specs.Stages.{Storing, Securing, TakingBack, Keeping, stage_of}
 use Rattle.txn_state.specs.States.{IsStateOf}
-use Rattle.txn_state.specs.Changes.{GoesTo, with_event_paid}
+use Rattle.txn_state.specs.Changes.{GoesTo, paid_event}
 use Rattle.txn_state.specs.AppendLaws.{undo_part}
 
 -- the device has an event more, and perhaps a place less
@@ -35,7 +35,7 @@ abbrev pub WritesAreStored : Type 0 → Type 0
 WritesAreStored E = (layout : Layout) (start : Words) (book later : Book E) (keeper : LogKeeper) (region behind : Region) (spare left events made l : ℕ) (w : WordWrite) →
     IsEvent region behind l (PStore w.address w.value) spare left events made →
     stage_of (lane_at book l) ≡ Storing → slice_get (lane_at book l).writes.items (lane_at book l).stored ≡ Some w →
-    GoesTo book later l (closed Reply.Written (stored_one (with_event_paid (lane_at book l)))) → IsBook later →
+    GoesTo book later l (closed Reply.Written (stored_one (paid_event (lane_at book l)))) → IsBook later →
     IsStateOf layout start book keeper region spare events → IsStateOf layout start later keeper behind left made
 
 -- The word whose update was compensated last becomes what the newest change by the transaction, which is the compensation, left.
@@ -44,7 +44,7 @@ WordsAreTakenBack E = (layout : Layout) (start : Words) (book later : Book E) (k
     IsEvent region behind l (PStore w.address r.after) spare left events made →
     stage_of (lane_at book l) ≡ TakingBack → slice_get (lane_at book l).writes.items ((lane_at book l).stored - 1) ≡ Some w →
     IsLatest (IsChangeBy (lane_at book l).transaction w.address) (settled_log (keeping_of keeper).ledger) r →
-    GoesTo book later l (moved (undo_part (lane_at book l)) (unstored_one (with_event_paid (lane_at book l)))) → IsBook later →
+    GoesTo book later l (moved (undo_part (lane_at book l)) (unstored_one (paid_event (lane_at book l)))) → IsBook later →
     IsStateOf layout start book keeper region spare events → IsStateOf layout start later keeper behind left made
 
 -- A commit's fence, or an abort's behind all that it took back: the end may be appended.
@@ -52,5 +52,5 @@ abbrev pub FencesKeep : Type 0 → Type 0
 FencesKeep E = (layout : Layout) (start : Words) (book later : Book E) (keeper : LogKeeper) (region behind : Region) (spare left events made l : ℕ) →
     IsEvent region behind l Fence spare left events made →
     (stage_of (lane_at book l) ≡ Securing) ⊎ (stage_of (lane_at book l) ≡ Keeping) →
-    GoesTo book later l (moved END (with_event_paid (lane_at book l))) → IsBook later →
+    GoesTo book later l (moved END (paid_event (lane_at book l))) → IsBook later →
     IsStateOf layout start book keeper region spare events → IsStateOf layout start later keeper behind left made

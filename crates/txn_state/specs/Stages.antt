@@ -1,6 +1,7 @@
 -- What a lane is about in its transaction, by its call and the part of its plan.
 use Rattle.std.specs.Prelude.{ℕ, Bool, true, false, if◌then◌else◌, ◌==◌}
 use Rattle.lane_types.specs.declared.call.Phase.{Phase}
+pub use Rattle.lane_book.specs.Flights.{is_commit}
 use Rattle.lane_book.specs.declared.lane.Lane.{Lane}
 use Rattle.lane_book.specs.declared.lane.Doing.{Doing}
 use Rattle.txn_state.specs.declared.parts.TheConstants.{FIRST, STORE, UNDO, KEEP, END, CLOSE, CLOSE_END}
@@ -69,7 +70,3 @@ stage_at phase recorded part (Doing.RollbackTo n) = Unbuilt
 
 abbrev pub stage_of : {E : Type 0} → Lane E → Stage
 stage_of lane = stage_at lane.phase lane.has_records lane.part lane.doing
-
-abbrev pub is_commit : Doing → Bool
-is_commit Doing.Commit = true
-is_commit _ = false
