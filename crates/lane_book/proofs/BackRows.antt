@@ -147,6 +147,7 @@ back_keeps m n lane doing can is =
     let ws = ap (λ (xs : List WordWrite). length xs) (front_whole (take (point_at n lane).writes lane.writes.items)) ∙ w in
     let gs = ap (λ (xs : List ℕ). length xs) (front_whole (take (point_at n lane).gives lane.gives.items)) ∙ g in
     record {
+      calling = λ e. cc;
       behind = is.behind;
       points = subst (λ (a : ℕ). AreWithin a (length (front 0 (take (point_at n lane).gives lane.gives.items))) (take (n + 1) lane.points.items)) (sym ws)
           (subst (λ (a : ℕ). AreWithin (point_at n lane).writes a (take (n + 1) lane.points.items)) (sym gs) (within_up_to n lane can));

@@ -184,6 +184,7 @@ waiting_of m lane n doing is = subst (IsAboutIt lane) doing is.about
 
 pub batched_keeps : {E : Type 0} (m : ℕ) (lane : Lane E) → ends lane.doing ≡ false → IsLane m lane → IsLane m (closed Written (stored_all lane))
 batched_keeps m lane calm is = record {
+  calling = λ e. cc;
   behind = is.behind;
   points = within_more (length (standing_writes lane)) (length (front 0 lane.writes.items)) (length (standing_gives lane)) (length (front 0 lane.gives.items))
       lane.points.items (front_short (waiting_writes lane.doing) lane.writes.items) (front_short (waiting_gives lane.doing) lane.gives.items) is.points;

@@ -45,10 +45,10 @@ keeps_lane book later l lane touched lt is whole step =
 
 -- nothing but the tally and the place in the plan
 pub noted_keeps : {E : Type 0} (n : ℕ) (answer : Stepped) (lane : Lane E) → IsLane n lane → IsLane n (noted answer lane)
-noted_keeps n answer lane is = record { behind = is.behind; points = is.points; rising = is.rising; about = is.about; cells = is.cells; out = is.out }
+noted_keeps n answer lane is = record { behind = is.behind; points = is.points; rising = is.rising; about = is.about; cells = is.cells; out = is.out; calling = is.calling }
 
 pub moved_keeps : {E : Type 0} (n part : ℕ) (lane : Lane E) → IsLane n lane → IsLane n (moved part lane)
-moved_keeps n part lane is = record { behind = is.behind; points = is.points; rising = is.rising; about = is.about; cells = is.cells; out = is.out }
+moved_keeps n part lane is = record { behind = is.behind; points = is.points; rising = is.rising; about = is.about; cells = is.cells; out = is.out; calling = is.calling }
 
 pub take_short : {X : Type 0} (m : ℕ) (xs : List X) → length (take m xs) ≤ length xs
 take_short zero xs = omega arith
@@ -84,6 +84,7 @@ none_rise n lt = absurd (omega (arith, lt))
 pub closed_keeps : {E : Type 0} (n : ℕ) (reply : Reply) (d : Doing) (lane : Lane E) → lane.doing ≡ d → ends d ≡ false → IsLane n lane → AreStored lane →
     (phase_after reply ≡ Out → IsEmptied lane) → IsLane n (closed reply lane)
 closed_keeps n reply d lane doing calm is stored out = record {
+  calling = λ e. cc;
   behind = is.behind;
   points = within_more (length (standing_writes lane)) (length (front 0 lane.writes.items)) (length (standing_gives lane)) (length (front 0 lane.gives.items))
       lane.points.items (front_short (waiting_writes lane.doing) lane.writes.items) (front_short (waiting_gives lane.doing) lane.gives.items) is.points;
@@ -95,6 +96,7 @@ closed_keeps n reply d lane doing calm is stored out = record {
 
 pub left_keeps : {E : Type 0} (n : ℕ) (reply : Reply) (lane : Lane E) → IsLane n (left reply lane)
 left_keeps n reply lane = record {
+  calling = λ e. cc;
   behind = omega arith;
   points = tt;
   rising = none_rise;
@@ -106,6 +108,7 @@ left_keeps n reply lane = record {
 pub begun_keeps : {E : Type 0} (n number set : ℕ) (lane : Lane E) → lane.doing ≡ Doing.Begin set → IsLane n lane → IsLane n (begun_lane number set n lane)
 begun_keeps n number set lane doing is =
     let cleared : IsEmptied lane = subst (IsAboutIt lane) doing is.about in record {
+      calling = λ e. cc;
       behind = omega arith;
       points = subst (AreWithin (length (front 0 lane.writes.items)) (length (front 0 lane.gives.items))) (sym cleared.points_gone) tt;
       rising = is.rising;
@@ -154,6 +157,7 @@ saved_keeps n lane doing is =
     let ws = ap (λ (xs : List WordWrite). length xs) (front_whole lane.writes.items) in
     let gs = ap (λ (xs : List ℕ). length xs) (front_whole lane.gives.items) in
     record {
+      calling = λ e. cc;
       behind = is.behind;
       points = within_last (length (front 0 lane.writes.items)) (length (front 0 lane.gives.items)) lane.points.items
           (record { writes = length lane.writes.items; gives = length lane.gives.items }) closed_lane.points (omega (arith, ws)) (omega (arith, gs));
@@ -168,6 +172,7 @@ saved_keeps n lane doing is =
 pub stored_keeps : {E : Type 0} (n : ℕ) (reply : Reply) (lane : Lane E) (w : WordWrite) → IsNextStored lane w → (phase_after reply ≡ Out → ⊥) → ends lane.doing ≡ false →
     IsLane n lane → IsLane n (closed reply (stored_one lane))
 stored_keeps n reply lane w next stays calm is = record {
+  calling = λ e. cc;
   behind = is.behind;
   points = within_more (length (standing_writes lane)) (length (front 0 lane.writes.items)) (length (standing_gives lane)) (length (front 0 lane.gives.items))
       lane.points.items (front_short (waiting_writes lane.doing) lane.writes.items) (front_short (waiting_gives lane.doing) lane.gives.items) is.points;
@@ -189,7 +194,7 @@ ready_of n lane nothing is = record {
 }
 
 pub refused_keeps : {E : Type 0} (n : ℕ) (call : Call E) (refusal : Refusal) (lane : Lane E) → IsLane n lane → IsLane n (refused_lane call refusal lane)
-refused_keeps n call refusal lane is = record { behind = is.behind; points = is.points; rising = is.rising; about = is.about; cells = is.cells; out = is.out }
+refused_keeps n call refusal lane is = record { behind = is.behind; points = is.points; rising = is.rising; about = is.about; cells = is.cells; out = is.out; calling = is.calling }
 
 module _ {E : Type 0} (n : ℕ) (lane later : Lane E) (call : Call E) (doing : Doing) (writes : List WordWrite) (gives : List ℕ) (promised : ℕ)
     (ready : IsReady lane) (asks : AsksFor lane call doing writes gives promised later) where
@@ -210,6 +215,7 @@ module _ {E : Type 0} (n : ℕ) (lane later : Lane E) (call : Call E) (doing : D
 
   pub asked_keeps : IsLane n lane → IsAboutIt later doing → IsLane n later
   asked_keeps is about = record {
+    calling = λ e. ap (λ (x : Lane _). x.phase) asks.is;
     behind = let j = ap (λ (x : Lane _). x.joined) asks.is in let b = is.behind in omega (arith, j, b);
     points = subst (λ (d : Doing). AreWithin (length (front (waiting_writes d) later.writes.items)) (length (front (waiting_gives d) later.gives.items)) later.points.items)
         (sym doing_later)
@@ -279,11 +285,11 @@ keeps_begun book later l set lt is doing whole = subst (λ (b : Book _). IsBook 
 -- ---- an entry joins
 
 pub entered_keeps : {E : Type 0} (n : ℕ) (lane : Lane E) → IsLane n lane → IsLane n (entered_lane lane)
-entered_keeps n lane is = record { behind = is.behind; points = is.points; rising = is.rising; about = is.about; cells = is.cells; out = is.out }
+entered_keeps n lane is = record { behind = is.behind; points = is.points; rising = is.rising; about = is.about; cells = is.cells; out = is.out; calling = is.calling }
 
 -- the history has an entry more
 pub grown_keeps : {E : Type 0} (n : ℕ) (lane : Lane E) → IsLane n lane → IsLane (n + 1) lane
-grown_keeps n lane is = record { behind = let b = is.behind in omega (arith, b); points = is.points; rising = is.rising; about = is.about; cells = is.cells; out = is.out }
+grown_keeps n lane is = record { behind = let b = is.behind in omega (arith, b); points = is.points; rising = is.rising; about = is.about; cells = is.cells; out = is.out; calling = is.calling }
 
 pub keeps_entered : {E : Type 0} (book later : Book E) (l : ℕ) (lane : Lane E) (e : Entry E) → l < length book.lanes.items →
     later ≡ with_history (book.history.items ++ e ∷ []) (with_lane book l lane None) → IsBook book →
@@ -301,6 +307,7 @@ by_result (Err e) f g p q = g q
 
 pub roomier_keeps : {E : Type 0} (n : ℕ) (lane later : Lane E) → IsRoomier lane later → IsLane n lane → IsLane n later
 roomier_keeps n lane later roomier is = subst (IsLane n) (sym roomier.is) record {
+  calling = is.calling;
   behind = is.behind;
   points = within_same roomier.writes roomier.gives roomier.points is.points;
   rising = subst AreRising (sym roomier.points) is.rising;
@@ -381,6 +388,7 @@ stored_of n lane doing is = subst (IsAboutIt lane) doing is.about
 
 pub idle_is : {E : Type 0} (n : ℕ) → IsLane n (idle_lane {E = E})
 idle_is n = record {
+  calling = λ e. cc;
   behind = omega arith;
   points = tt;
   rising = none_rise;

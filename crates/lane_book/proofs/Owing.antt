@@ -54,7 +54,7 @@ module _ {E : Type 0} (f : Lane E → ℕ) (book : Book E) (l : ℕ) (lane : Lan
 -- ---- a lane owes otherwise
 
 owing_lane : {E : Type 0} (n events records : ℕ) (lane : Lane E) → IsLane n lane → IsLane n (owing events records lane)
-owing_lane n events records lane is = record { behind = is.behind; points = is.points; rising = is.rising; about = is.about; cells = is.cells; out = is.out }
+owing_lane n events records lane is = record { behind = is.behind; points = is.points; rising = is.rising; about = is.about; cells = is.cells; out = is.out; calling = is.calling }
 
 module _ {E : Type 0} (book real : Book E) (l events records : ℕ) (lt : l < length book.lanes.items)
     (is : real ≡ with_lane book l (owing events records (lane_at book l)) book.touched) where

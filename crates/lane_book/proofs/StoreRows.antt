@@ -129,6 +129,7 @@ store_keeps m n part lane doing inside is =
     let waits : AreStoredBut n lane.stored lane.writes.items = subst (IsAboutIt lane) doing is.about in
     let others = waits.others in
     record {
+      calling = is.calling;
       behind = is.behind;
       points = is.points;
       rising = is.rising;
@@ -156,6 +157,7 @@ back_about s ws gs ps (Doing.RollbackTo n) e about = omega (arith, about)
 
 pub back_word_keeps : {E : Type 0} (m part : ℕ) (lane : Lane E) → undoes lane.doing ≡ true → IsLane m lane → IsLane m (moved part (unstored_one lane))
 back_word_keeps m part lane undoing is = record {
+  calling = is.calling;
   behind = is.behind;
   points = is.points;
   rising = is.rising;

@@ -1,7 +1,7 @@
 -- What holds of the book between its calls.
 use Rattle.std.specs.Prelude.{◌≡◌, ℕ, ◌+◌, ◌<◌, ◌≤◌, Bool, true, false, List, [], ◌∷◌, ◌++◌, length, take, get_or, None}
 use Rattle.lane_traits.specs.declared.draft.WordWrite.{WordWrite}
-use Rattle.lane_types.specs.declared.call.Phase.TheVariants.{Out}
+use Rattle.lane_types.specs.declared.call.Phase.TheVariants.{Out, Calling}
 use Rattle.offset_alloc.specs.declared.Standing.{Standing}
 use Rattle.lane_book.specs.declared.lane.Lane.{Lane}
 use Rattle.lane_book.specs.declared.lane.Doing.{Doing}
@@ -72,8 +72,14 @@ pub record IsCounted (has_records rolled ended : Bool) (updates promised : ℕ) 
   pub going : ends doing ≡ false → ended ≡ false
   pub unpromised : doing ≡ Doing.Nothing → promised ≡ 0
 
+-- a call is in progress
+abbrev pub is_asked : Doing → Bool
+is_asked Doing.Nothing = false
+is_asked _ = true
+
 -- The transaction began behind some of so many entries, its savepoints rise and are of writes and gives that stand, its lists are
--- as the call in progress has them, and so are the cells that it has reserved. Outside of one the lists are empty.
+-- as the call in progress has them, and so are the cells that it has reserved. Outside of one the lists are empty. A lane whose
+-- call is in progress is calling.
 pub record IsLane {E : Type 0} (entries : ℕ) (lane : Lane E) : Type 0 where
   pub behind : lane.joined ≤ entries
   pub points : AreWithin (length (standing_writes lane)) (length (standing_gives lane)) lane.points.items
@@ -81,6 +87,7 @@ pub record IsLane {E : Type 0} (entries : ℕ) (lane : Lane E) : Type 0 where
   pub about : IsAboutIt lane lane.doing
   pub cells : IsCounted lane.has_records lane.rolled lane.ended (length lane.updates.items) lane.promised lane.doing
   pub out : lane.phase ≡ Out → IsEmptied lane
+  pub calling : is_asked lane.doing ≡ true → lane.phase ≡ Calling
 
 abbrev pub IsBook : {E : Type 0} → Book E → Type 0
 IsBook book = (l : ℕ) → IsLane (length book.history.items) (lane_at book l)

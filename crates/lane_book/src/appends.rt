@@ -87,6 +87,7 @@ impl<E: Deed> Book<E> {
         requires update { CanUpdate (lane_at self.old lane) }
         ensures moves { Moves E.meaning self.old self.new lane None result (moved part (with_update update (lane_at self.old lane))) }
         ensures reserved { Falls 1 self.old self.new lane }
+        ensures result { result ≡ Stepped.Moved }
     {
         self.lanes[lane as usize].log_update(update, part);
         self.touched = None;
@@ -99,6 +100,7 @@ impl<E: Deed> Book<E> {
         requires group { CanGroup (length updates.now) spare (lane_at self.old lane) }
         ensures moves { Moves E.meaning self.old self.new lane None result (moved part (with_group updates.now spare (lane_at self.old lane))) }
         ensures reserved { Falls (length updates.now + spare) self.old self.new lane }
+        ensures result { result ≡ Stepped.Moved }
     {
         self.lanes[lane as usize].log_group(updates, spare, part);
         self.touched = None;
@@ -111,6 +113,7 @@ impl<E: Deed> Book<E> {
         requires deletion { CanDelete (lane_at self.old lane) }
         ensures moves { Moves E.meaning self.old self.new lane None result (moved part (with_deletion gate (lane_at self.old lane))) }
         ensures reserved { Falls 1 self.old self.new lane }
+        ensures result { result ≡ Stepped.Moved }
     {
         self.lanes[lane as usize].log_deletion(gate, part);
         self.touched = None;
@@ -123,6 +126,7 @@ impl<E: Deed> Book<E> {
         requires rollback { CanRollBack (lane_at self.old lane) }
         ensures moves { Moves E.meaning self.old self.new lane None result (moved part (with_rollback (lane_at self.old lane))) }
         ensures reserved { Falls 1 self.old self.new lane }
+        ensures result { result ≡ Stepped.Moved }
     {
         self.lanes[lane as usize].log_rollback(part);
         self.touched = None;
@@ -135,6 +139,7 @@ impl<E: Deed> Book<E> {
         requires compensation { CanCompensate (lane_at self.old lane) }
         ensures moves { Moves E.meaning self.old self.new lane None result (moved part (with_compensation (lane_at self.old lane))) }
         ensures reserved { Falls 1 self.old self.new lane }
+        ensures result { result ≡ Stepped.Moved }
     {
         self.lanes[lane as usize].log_compensation(part);
         self.touched = None;
@@ -147,6 +152,7 @@ impl<E: Deed> Book<E> {
         requires end { CanEnd (lane_at self.old lane) }
         ensures moves { Moves E.meaning self.old self.new lane None result (moved part (with_end (lane_at self.old lane))) }
         ensures reserved { Falls (undo_cells (lane_at self.old lane)) self.old self.new lane }
+        ensures result { result ≡ Stepped.Moved }
     {
         self.lanes[lane as usize].log_end(part);
         self.touched = None;

@@ -380,6 +380,7 @@ impl<E: Deed> Book<E> {
         requires inside { AreBlocks layout (lane_at self.old lane).gives.items }
         ensures is { IfOk result (λ writes. writes ≡ writes_of_entry layout (lane_at self.old lane)) }
         ensures roomier { self.new ≡ record self.old { history = record self.old.history { capacity = self.new.history.capacity } } }
+        ensures no_less { self.old.history.capacity ≤ self.new.history.capacity }
         ensures room { OnOk result (length self.new.history.items + 16 ≤ self.new.history.capacity) }
     {
         self.history.reserve(16)?;

@@ -103,6 +103,7 @@ impl<E: Deed> Book<E> {
         ensures is { self.new ≡ with_lane self.old lane (noted Stepped.Idle (lane_at self.old lane)) None }
         ensures step { Steps E.meaning self.old self.new lane result }
         ensures book { IsBook self.new }
+        ensures result { result ≡ Stepped.Idle }
     {
         self.note(lane, Stepped::Idle);
         Stepped::Idle
@@ -115,6 +116,7 @@ impl<E: Deed> Book<E> {
         ensures is { self.new ≡ record (with_lane self.old lane (noted Stepped.Stopped (lane_at self.old lane)) None) { stopped = true } }
         ensures step { Steps E.meaning self.old self.new lane result }
         ensures book { IsBook self.new }
+        ensures result { result ≡ Stepped.Stopped }
     {
         self.note(lane, Stepped::Stopped);
         self.stopped = true;
@@ -135,7 +137,8 @@ impl<E: Deed> Book<E> {
     /// The call goes on at this part of its plan.
     pub fn go_on(&mut self, lane: u32, part: u64) -> Stepped
         requires { IsCalling self.old lane }
-        ensures { Moves E.meaning self.old self.new lane None result (moved part (lane_at self.old lane)) }
+        ensures moves { Moves E.meaning self.old self.new lane None result (moved part (lane_at self.old lane)) }
+        ensures result { result ≡ Stepped.Moved }
     {
         self.lanes[lane as usize].go_on(part);
         self.touched = None;
@@ -149,6 +152,7 @@ impl<E: Deed> Book<E> {
         ensures step { StepsIf (λ base. (held_by base self.old lane).word a ≡ Some value)
             E.meaning self.old self.new lane result }
         ensures book { IsBook self.new }
+        ensures result { result ≡ Stepped.Answered (Reply.Word value) }
     {
         let reply = Reply::Word(value);
         self.close(lane, reply);
@@ -172,6 +176,7 @@ impl<E: Deed> Book<E> {
         ensures is { self.new ≡ with_lane self.old lane (closed Reply.Written (stored_one (lane_at self.old lane))) touched }
         ensures step { StepsIf (λ base. has_word (held_by base self.old lane) a ≡ true) E.meaning self.old self.new lane result }
         ensures book { IsBook self.new }
+        ensures result { result ≡ Stepped.Answered Reply.Written }
     {
         self.store(lane, Reply::Written, touched);
         Stepped::Answered(Reply::Written)
@@ -185,6 +190,7 @@ impl<E: Deed> Book<E> {
         ensures step { StepsIf (λ base. has_all (held_by base self.old lane) (batch_of count (lane_at self.old lane)) ≡ true)
             E.meaning self.old self.new lane result }
         ensures book { IsBook self.new }
+        ensures result { result ≡ Stepped.Answered Reply.Written }
     {
         self.lanes[lane as usize].store_all(Reply::Written);
         self.touched = touched;
@@ -199,6 +205,7 @@ impl<E: Deed> Book<E> {
         ensures is { self.new ≡ with_lane self.old lane (closed (Reply.Block block) (stored_one (lane_at self.old lane))) None }
         ensures step { StepsIf (CanTake self.old lane structure block a) E.meaning self.old self.new lane result }
         ensures book { IsBook self.new }
+        ensures result { result ≡ Stepped.Answered (Reply.Block block) }
     {
         self.store(lane, Reply::Block(block), None);
         Stepped::Answered(Reply::Block(block))
@@ -207,7 +214,8 @@ impl<E: Deed> Book<E> {
     /// A give is answered, whose record is in the log.
     pub fn given(&mut self, lane: u32, block: u32) -> Stepped
         requires { IsDoing (Doing.Give block) self.old lane }
-        ensures { Moves E.meaning self.old self.new lane None result (closed Reply.Given (lane_at self.old lane)) }
+        ensures moves { Moves E.meaning self.old self.new lane None result (closed Reply.Given (lane_at self.old lane)) }
+        ensures result { result ≡ Stepped.Answered Reply.Given }
     {
         self.close(lane, Reply::Given);
         Stepped::Answered(Reply::Given)
@@ -221,6 +229,7 @@ impl<E: Deed> Book<E> {
         ensures is { self.new ≡ with_lane self.old lane (saved (lane_at self.old lane)) None }
         ensures step { Steps E.meaning self.old self.new lane result }
         ensures book { IsBook self.new }
+        ensures result { result ≡ Stepped.Answered (Reply.Saved (length (lane_at self.old lane).points.items)) }
     {
         let number = self.lanes[lane as usize].points.len() as u64;
         self.lanes[lane as usize].save();
@@ -233,7 +242,8 @@ impl<E: Deed> Book<E> {
         requires lane { IsDoing (Doing.RollbackTo n) self.old lane }
         requires inside { n < length (lane_at self.old lane).points.items }
         requires stored { (lane_at self.old lane).stored ≡ (point_at n (lane_at self.old lane)).writes }
-        ensures { Moves E.meaning self.old self.new lane None result (rolled_back n (lane_at self.old lane)) }
+        ensures moves { Moves E.meaning self.old self.new lane None result (rolled_back n (lane_at self.old lane)) }
+        ensures result { result ≡ Stepped.Answered Reply.RolledBack }
     {
         self.lanes[lane as usize].roll_back(n);
         self.touched = None;
@@ -243,7 +253,8 @@ impl<E: Deed> Book<E> {
     /// A checkpoint is answered.
     pub fn checkpointed(&mut self, lane: u32) -> Stepped
         requires { IsDoing Doing.Checkpoint self.old lane }
-        ensures { Moves E.meaning self.old self.new lane None result (closed Reply.Checkpointed (lane_at self.old lane)) }
+        ensures moves { Moves E.meaning self.old self.new lane None result (closed Reply.Checkpointed (lane_at self.old lane)) }
+        ensures result { result ≡ Stepped.Answered Reply.Checkpointed }
     {
         self.close(lane, Reply::Checkpointed);
         Stepped::Answered(Reply::Checkpointed)
@@ -252,7 +263,8 @@ impl<E: Deed> Book<E> {
     /// An abort is answered.
     pub fn aborted(&mut self, lane: u32) -> Stepped
         requires { IsDoing Doing.Abort self.old lane }
-        ensures { Moves E.meaning self.old self.new lane None result (left Reply.Aborted (lane_at self.old lane)) }
+        ensures moves { Moves E.meaning self.old self.new lane None result (left Reply.Aborted (lane_at self.old lane)) }
+        ensures result { result ≡ Stepped.Answered Reply.Aborted }
     {
         self.leave(lane, Reply::Aborted);
         Stepped::Answered(Reply::Aborted)
@@ -268,6 +280,7 @@ impl<E: Deed> Book<E> {
             → self.new ≡ with_history (self.old.history.items ++ e ∷ []) (with_lane self.old lane (moved part (entered_lane (lane_at self.old lane))) None) }
         ensures step { Steps E.meaning self.old self.new lane result }
         ensures book { IsBook self.new }
+        ensures result { result ≡ Stepped.Moved }
     {
         self.touched = None;
         if let Some(entry) = self.lanes[lane as usize].join(part) {
@@ -280,7 +293,8 @@ impl<E: Deed> Book<E> {
     pub fn committed(&mut self, lane: u32) -> Stepped
         requires lane { IsDoing Doing.Commit self.old lane }
         requires entered { HasEntered self.old lane }
-        ensures { Moves E.meaning self.old self.new lane None result (left Reply.Committed (lane_at self.old lane)) }
+        ensures moves { Moves E.meaning self.old self.new lane None result (left Reply.Committed (lane_at self.old lane)) }
+        ensures result { result ≡ Stepped.Answered Reply.Committed }
     {
         self.leave(lane, Reply::Committed);
         Stepped::Answered(Reply::Committed)
@@ -296,6 +310,7 @@ impl<E: Deed> Book<E> {
             → self.new ≡ with_history (self.old.history.items ++ e ∷ []) (with_lane self.old lane (left Reply.Committed (entered_lane (lane_at self.old lane))) None) }
         ensures step { Steps E.meaning self.old self.new lane result }
         ensures book { IsBook self.new }
+        ensures result { result ≡ Stepped.Answered Reply.Committed }
     {
         self.touched = None;
         if let Some(entry) = self.lanes[lane as usize].commit() {

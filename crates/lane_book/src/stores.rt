@@ -40,6 +40,7 @@ impl<E: Deed> Book<E> {
         ensures is { self.new ≡ with_lane self.old lane (moved part (stored_one (lane_at self.old lane))) touched }
         ensures step { StepsIf (HoldsNext self.old lane) E.meaning self.old self.new lane result }
         ensures book { IsBook self.new }
+        ensures result { result ≡ Stepped.Moved }
     {
         self.lanes[lane as usize].store_word(part);
         self.touched = touched;
@@ -51,7 +52,8 @@ impl<E: Deed> Book<E> {
         requires lane { IsCalling self.old lane }
         requires undoing { undoes (lane_at self.old lane).doing ≡ true }
         requires some { 1 ≤ (lane_at self.old lane).stored }
-        ensures { Moves E.meaning self.old self.new lane touched result (moved part (unstored_one (lane_at self.old lane))) }
+        ensures moves { Moves E.meaning self.old self.new lane touched result (moved part (unstored_one (lane_at self.old lane))) }
+        ensures result { result ≡ Stepped.Moved }
     {
         self.lanes[lane as usize].take_word_back(part);
         self.touched = touched;

@@ -8,8 +8,8 @@ use Rattle.lane_book.specs.Lanes.{left}
 use Rattle.lane_book.proofs.Moving.{moves_so}
 use Rattle.lane_book.proofs.book.Book.aborted.Goals as goal
 
-pub returns : goal.returns
-returns g c =
+pub returns-clause-moves : goal.returns-clause-moves
+returns-clause-moves g c =
     let book = c.args.self.now in
     let lane = lane_at book c.args.lane in
     moves_so g.E.Deed.meaning book _ c.args.lane None (Stepped.Answered Reply.Aborted) (left Reply.Aborted lane) c.requires.inside c.requires.kept c.leave.ensures

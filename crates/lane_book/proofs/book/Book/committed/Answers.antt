@@ -8,8 +8,8 @@ use Rattle.lane_book.specs.Lanes.{left}
 use Rattle.lane_book.proofs.Moving.{moves_so}
 use Rattle.lane_book.proofs.book.Book.committed.Goals as goal
 
-pub returns : goal.returns
-returns g c =
+pub returns-clause-moves : goal.returns-clause-moves
+returns-clause-moves g c =
     let book = c.args.self.now in
     let lane = lane_at book c.args.lane in
     moves_so g.E.Deed.meaning book _ c.args.lane None (Stepped.Answered Reply.Committed) (left Reply.Committed lane) c.requires.lane.inside c.requires.lane.kept

@@ -9,8 +9,8 @@ use Rattle.lane_book.proofs.Keeps.{moved_keeps}
 use Rattle.lane_book.proofs.Moving.{moves_so}
 use Rattle.lane_book.proofs.book.Book.go_on.Goals as goal
 
-pub returns : goal.returns
-returns g c =
+pub returns-clause-moves : goal.returns-clause-moves
+returns-clause-moves g c =
     let book = c.args.self.now in
     let lane = lane_at book c.args.lane in
     moves_so g.E.Deed.meaning book _ c.args.lane None Stepped.Moved (moved c.args.part lane) c.requires.inside c.requires.kept (ap (λ (x : Lane _). with_lane book c.args.lane x None) (c.go_on.ensures ∙ ap (moved c.args.part) (lane_read book c.args.lane c.index_mut.result.now c.requires.inside c.index_mut.ensures.value)))

@@ -22,7 +22,7 @@ returns-clause-moves g c =
     moves_so g.E.Deed.meaning book _ c.args.lane None Stepped.Moved (moved c.args.part (with_group c.args.updates.now c.args.spare lane)) c.requires.lane.inside c.requires.lane.kept
     (ap (λ (x : Lane _). with_lane book c.args.lane x None) (c.log_group.ensures ∙ ap (λ (x : Lane _). moved c.args.part (with_group c.args.updates.now c.args.spare x)) (lane_read book c.args.lane c.index_mut.result.now c.requires.lane.inside c.index_mut.ensures.value)))
     (logged_row g.E.Deed.meaning book c.args.lane (moved c.args.part (with_group c.args.updates.now c.args.spare lane)) c.requires.lane.inside c.requires.lane.calling (λ base. refl))
-    (λ is. record { behind = is.behind; points = is.points; rising = is.rising; about = is.about; cells = logged_cells _ is.cells; out = is.out })
+    (λ is. record { behind = is.behind; points = is.points; rising = is.rising; about = is.about; cells = logged_cells _ is.cells; out = is.out; calling = is.calling })
 
 pub returns-clause-reserved : goal.returns-clause-reserved
 returns-clause-reserved g c =

@@ -14,8 +14,8 @@ roll_back-requires g c =
     back_inside c.args.n c.index_mut.result.now (lane_at c.args.self.now c.args.lane)
     (lane_read c.args.self.now c.args.lane c.index_mut.result.now c.requires.lane.inside c.index_mut.ensures.value) c.requires.inside
 
-pub returns : goal.returns
-returns g c =
+pub returns-clause-moves : goal.returns-clause-moves
+returns-clause-moves g c =
     let book = c.args.self.now in
     let lane = lane_at book c.args.lane in
     moves_so g.E.Deed.meaning book _ c.args.lane None (Stepped.Answered Reply.RolledBack) (rolled_back c.args.n lane) c.requires.lane.inside c.requires.lane.kept

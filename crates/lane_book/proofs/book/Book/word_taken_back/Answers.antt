@@ -14,8 +14,8 @@ take_word_back-requires g c =
     let book = c.args.self.now in
     subst (λ (x : Lane _). 1 ≤ x.stored) (sym (lane_read book c.args.lane c.index_mut.result.now c.requires.lane.inside c.index_mut.ensures.value)) c.requires.some
 
-pub returns : goal.returns
-returns g c =
+pub returns-clause-moves : goal.returns-clause-moves
+returns-clause-moves g c =
     let book = c.args.self.now in
     let lane = lane_at book c.args.lane in
     moves_so g.E.Deed.meaning book _ c.args.lane c.args.touched Stepped.Moved (moved c.args.part (unstored_one lane)) c.requires.lane.inside c.requires.lane.kept
