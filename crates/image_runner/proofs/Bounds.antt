@@ -12,7 +12,8 @@ use Rattle.persist_model.specs.State.{State, total_need}
 use Rattle.persist_model.specs.Sound.{HasState, IsSound, closed_cells, room_of}
 use Rattle.log_laws.proofs.SameLists.{chain_buckets}
 use Rattle.persist_hash.proofs.Lists.{at_most}
-use Rattle.recovery_passes.specs.Recovered.{HasNeed, with_checkpoint, forced, settled, AreFew}
+use Rattle.recovery_passes.specs.Recovered.{HasNeed, with_checkpoint, forced, settled, most_events, AreFew}
+use Rattle.migration.specs.Owed.{AreFewInAll, own_events}
 
 -- ---- a record's address is below the heap
 
@@ -145,15 +146,15 @@ need_total shape s n (forced force is) = omega (arith, is)
 need_total shape s n (settled none is) = omega (arith, is)
 
 sum_small : (cells buckets heap_is r need n : ℕ) → (cells ≡ 1) ⊎ (cells ≡ 16) → buckets ≤ 1024 → heap_is ≡ 32 + buckets * (8 + 8 * cells) → r ≤ heap_is
-    → need ≤ 3 * (cells + buckets * cells) → n ≤ need + 1 → 20 + 2 * r + (23 + cells) * n + 7 * buckets < MOST
+    → need ≤ 3 * (cells + buckets * cells) → n ≤ need + 1 → 20 + 2 * r + (23 + cells) * n + 7 * buckets + 24 < MOST
 sum_small cells buckets heap_is r need n (inl one) few start records needed last =
     let start' : heap_is ≡ 32 + buckets * 16 = start ∙ ap (λ c. 32 + buckets * (8 + 8 * c)) one in
     let needed' : need ≤ 3 * (1 + buckets * 1) = subst (λ c. need ≤ 3 * (c + buckets * c)) one needed in
-    subst (λ c. 20 + 2 * r + (23 + c) * n + 7 * buckets < MOST) (sym one) (omega (arith, few, start', records, needed', last))
+    subst (λ c. 20 + 2 * r + (23 + c) * n + 7 * buckets + 24 < MOST) (sym one) (omega (arith, few, start', records, needed', last))
 sum_small cells buckets heap_is r need n (inr many) few start records needed last =
     let start' : heap_is ≡ 32 + buckets * 136 = start ∙ ap (λ c. 32 + buckets * (8 + 8 * c)) many in
     let needed' : need ≤ 3 * (16 + buckets * 16) = subst (λ c. need ≤ 3 * (c + buckets * c)) many needed in
-    subst (λ c. 20 + 2 * r + (23 + c) * n + 7 * buckets < MOST) (sym many) (omega (arith, few, start', records, needed', last))
+    subst (λ c. 20 + 2 * r + (23 + c) * n + 7 * buckets + 24 < MOST) (sym many) (omega (arith, few, start', records, needed', last))
 
 three_parts : (w : Words) (size : ℕ) → IsShape size w → (shape_of w).partitions ≤ 3
 three_parts w size shape = elim (eqb_tells (w 0) SECOND_MAGIC) [
@@ -174,20 +175,31 @@ module _ (size : ℕ) (w : Words) (sound : IsSound size w) where
       let parts = mul-le-mul_right {m = (shape_of w).partitions} {n = 3} ((shape_of w).cells + (shape_of w).buckets * (shape_of w).cells) (three_parts w size sound.shape) in
       omega (arith, total, parts)
 
-  refuse : (n events : ℕ) → AreFew w events → MOST ≤ events → HasNeed (shape_of w) sound.state n → ⊥
-  refuse n events few many need =
+  refuse : (n more events : ℕ) → more ≤ 24 → (HasNeed (shape_of w) sound.state n → events ≤ most_events (shape_of w) (length sound.state.log) n + more) → MOST ≤ events
+      → HasNeed (shape_of w) sound.state n → ⊥
+  refuse n more events little few many need =
       let records = few_records (shape_of w) w sound.state sound.has in
-      let bound = few sound.state n sound.has need in
+      let bound = few need in
       let small = sum_small (shape_of w).cells (shape_of w).buckets (heap (shape_of w)) (length sound.state.log) (total_need (part_of (shape_of w)) (shape_of w).partitions sound.state.log) n
       sound.shape.cells sound.shape.buckets.1 refl records need_small (need_total (shape_of w) sound.state n need) in
-      omega (arith, bound, small, many)
+      omega (arith, bound, small, many, little)
 
-  -- no image may take so many events
-  pub not_many : (events : ℕ) → AreFew w events → MOST ≤ events → ⊥
-  not_many events few many =
+  not_many_by : (more events : ℕ) → more ≤ 24 → ((n : ℕ) → HasNeed (shape_of w) sound.state n → events ≤ most_events (shape_of w) (length sound.state.log) n + more) → MOST ≤ events → ⊥
+  not_many_by more events little few many =
       let need : ℕ = total_need (part_of (shape_of w)) (shape_of w).partitions sound.state.log in
       elim (eqb_tells (w 1) 2) [
-        | inl lazy ↦ refuse (total_need (part_of (shape_of w)) (shape_of w).partitions sound.state.log) events few many (settled (λ pending.
-            refuse (total_need (part_of (shape_of w)) (shape_of w).partitions sound.state.log + 1) events few many (with_checkpoint lazy.1 pending refl)) refl)
-        | inr force ↦ refuse (total_need (part_of (shape_of w)) (shape_of w).partitions sound.state.log) events few many (forced force.1 refl)
+        | inl lazy ↦ refuse (total_need (part_of (shape_of w)) (shape_of w).partitions sound.state.log) more events little (few (total_need (part_of (shape_of w)) (shape_of w).partitions sound.state.log)) many (settled (λ pending.
+            refuse (total_need (part_of (shape_of w)) (shape_of w).partitions sound.state.log + 1) more events little (few (total_need (part_of (shape_of w)) (shape_of w).partitions sound.state.log + 1)) many (with_checkpoint lazy.1 pending refl)) refl)
+        | inr force ↦ refuse (total_need (part_of (shape_of w)) (shape_of w).partitions sound.state.log) more events little (few (total_need (part_of (shape_of w)) (shape_of w).partitions sound.state.log)) many (forced force.1 refl)
       ]
+
+  -- no image may take so many events to recover it
+  pub not_many : (events : ℕ) → AreFew w events → MOST ≤ events → ⊥
+  not_many events few many = not_many_by 0 events (omega arith) (λ n need. (let bound = few sound.state n sound.has need in omega (arith, bound))) many
+
+  own_few : own_events w ≤ 24
+  own_few = elim (w 0 == SECOND_MAGIC) as (λ b. (if b then 0 else 24) ≤ 24) [ true ↦ omega arith | false ↦ omega arith ]
+
+  -- nor to migrate it
+  pub not_many_in_all : (events : ℕ) → AreFewInAll w events → MOST ≤ events → ⊥
+  not_many_in_all events few many = not_many_by (own_events w) events own_few (λ n need. few sound.state n sound.has need) many

@@ -7,3 +7,6 @@ pub mod Recovering
 pub mod Bounds
 pub mod Excluding
 pub mod Deciding
+pub mod Restarts
+pub mod MigrationEnds
+pub mod Cuts

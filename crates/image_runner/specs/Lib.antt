@@ -3,3 +3,4 @@ pub mod Reader
 pub mod Cells
 pub mod Tells
 pub mod Ends
+pub mod Migrations

@@ -45,3 +45,9 @@ Tells wanted heap kinds done words (ended.Done text) = TellsText wanted heap kin
 Tells wanted heap kinds done words (ended.Broken root) = (wanted ≡ want.Report) × IsFirstBroken heap (slice_index words) kinds root
 Tells wanted heap kinds done words ended.NoMemory = Unit {0}
 Tells wanted heap kinds done words _ = ⊥
+
+-- the text of the words, unless memory ran out
+abbrev pub TellsWords : List Kind → List ℕ → Ended → Type 0
+TellsWords kinds words (ended.Done text) = TellsImage kinds words text
+TellsWords kinds words ended.NoMemory = Unit {0}
+TellsWords kinds words _ = ⊥

@@ -4,8 +4,10 @@
 mod cells;
 pub mod laws;
 mod maps;
+mod migrating;
 mod reader;
 mod runner;
 
 pub use maps::{MapFault, read_maps};
+pub use migrating::{Stop, migrate_text};
 pub use runner::{Ended, Wanted, recover_text};

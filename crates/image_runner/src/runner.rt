@@ -102,7 +102,11 @@ fn end_of_refusal(refusal: CheckFault) -> Ended
 }
 
 /// The layout and the records of a sound image whose `map` lines fit.
-fn admit<W: Look>(alloc: Global, words: &W, kinds: &[Kind]) -> Result<SoundLog, CheckFault>
+pub(crate) fn admit<W: Look>(
+    alloc: Global,
+    words: &W,
+    kinds: &[Kind],
+) -> Result<SoundLog, CheckFault>
     requires { length kinds.now ≤ 8 }
     ensures admitted { OnOk result (IsAdmitted (record { kinds = kinds.now; words = W.words words.now })) }
     ensures shape { IfOk result (λ read. layout_shape read.layout ≡ shape_of (slice_index (W.words words.now))) }

@@ -17,7 +17,8 @@ use Rattle.rewind.specs.declared.replay.Outcome.TheVariants as outcome
 use Rattle.rewind.specs.Words.{AreRun, AreWordsOf, limit_of}
 use Rattle.rewind.specs.Call.{Call, HasRecovered, IsCauseOf, IsAnswerTo, Written, HasTold, HasRun, status_of, status_of_end, text_of}
 use Rattle.rewind.specs.Causes.{IsLongInput, IsNoScript, IsNoImageText, IsUnsoundImage, refused, broken}
-use Rattle.rewind.proofs.Dues.{recover_is_no_run, same_wanted, took_all_is}
+use Rattle.rewind.proofs.Dues.{recover_is_no_run, migrate_is_no_run, migrate_is_no_recover, same_wanted, took_all_is}
+use Rattle.rewind.proofs.Stops.{same_stop}
 
 -- ---- no two statuses are the same
 
@@ -33,7 +34,7 @@ code status.TooLong = 8
 code status.Stopped = 9
 
 -- no status is two
-differ : (s t : Status) → code s ≢ code t → s ≡ t → ⊥
+pub differ : (s t : Status) → code s ≢ code t → s ≡ t → ⊥
 differ s t apart same = apart (ap code same)
 
 module _ (call : Call) (answer : Status) (w : Written) (run : HasRun call answer w) where
@@ -54,6 +55,11 @@ same_job job.Run job.Run words here there = refl
 same_job job.Run (job.Recover w) words here there = absurd (recover_is_no_run w words here there)
 same_job (job.Recover w) job.Run words here there = absurd (recover_is_no_run w words there here)
 same_job (job.Recover w) (job.Recover v) words here there = ap job.Recover (same_wanted w v words here there)
+same_job job.Run (job.Migrate stop) words here there = absurd (migrate_is_no_run stop words here there)
+same_job (job.Migrate stop) job.Run words here there = absurd (migrate_is_no_run stop words there here)
+same_job (job.Recover w) (job.Migrate stop) words here there = absurd (migrate_is_no_recover stop w words here there)
+same_job (job.Migrate stop) (job.Recover w) words here there = absurd (migrate_is_no_recover stop w words there here)
+same_job (job.Migrate stop) (job.Migrate other) words here there = ap job.Migrate (same_stop stop other words here there)
 
 module _ (call : Call) (w : Written) (j : Job) (words : AreWordsOf j call.words) where
   end_not_long : (end : Ended) → status_of_end end ≡ status.TooLong → ⊥
@@ -80,6 +86,7 @@ module _ (call : Call) (w : Written) (j : Job) (words : AreWordsOf j call.words)
   long_by (outcome.Stopped commits) cause e text = absurd (differ status.Stopped status.TooLong (λ x. omega (arith, x)) e)
   long_by (outcome.Done s) cause e text = absurd (differ status.Done status.TooLong (λ x. omega (arith, x)) e)
   long_by (outcome.Recovery end) cause e text = absurd (end_not_long end e)
+  long_by (outcome.Migration end) cause e text = absurd (end_not_long end e)
 
 pub long_input : (call : Call) (answer : Status) (w : Written) → HasRun call answer w → answer ≡ status.TooLong → (j : Job) → AreWordsOf j call.words
     → IsLongInput j call w
@@ -107,6 +114,7 @@ module _ (call : Call) (w : Written) (words : AreRun call.words) where
   script_by (outcome.Stopped commits) cause e text = absurd (differ status.Stopped status.Script (λ x. omega (arith, x)) e)
   script_by (outcome.Done s) cause e text = absurd (differ status.Done status.Script (λ x. omega (arith, x)) e)
   script_by (outcome.Recovery end) cause e text = absurd (recover_is_no_run cause.wanted call.words words cause.read.words)
+  script_by (outcome.Migration end) cause e text = absurd (migrate_is_no_run cause.stop call.words words cause.read.words)
 
 pub no_script : (call : Call) (answer : Status) (w : Written) → HasRun call answer w → answer ≡ status.Script → AreRun call.words
     → IsNoScript call w
@@ -153,6 +161,7 @@ module _ (call : Call) (w : Written) (wanted : Wanted) (words : AreWordsOf (job.
   image_by (outcome.Stopped commits) cause e text = absurd (differ status.Stopped status.Script (λ x. omega (arith, x)) e)
   image_by (outcome.Done s) cause e text = absurd (differ status.Done status.Script (λ x. omega (arith, x)) e)
   image_by (outcome.Recovery end) cause e text = misread_end end cause e text
+  image_by (outcome.Migration end) cause e text = absurd (migrate_is_no_recover cause.stop wanted call.words words cause.read.words)
 
   unsound_by : (o : Outcome) → IsCauseOf o call → status_of o ≡ status.Unsound → HasTold w (text_of o) → IsUnsoundImage wanted call w
   unfolding code
@@ -164,6 +173,7 @@ module _ (call : Call) (w : Written) (wanted : Wanted) (words : AreWordsOf (job.
   unsound_by (outcome.Stopped commits) cause e text = absurd (differ status.Stopped status.Unsound (λ x. omega (arith, x)) e)
   unsound_by (outcome.Done s) cause e text = absurd (differ status.Done status.Unsound (λ x. omega (arith, x)) e)
   unsound_by (outcome.Recovery end) cause e text = unsound_end end cause e text
+  unsound_by (outcome.Migration end) cause e text = absurd (migrate_is_no_recover cause.stop wanted call.words words cause.read.words)
 
 pub no_image_text : (call : Call) (answer : Status) (w : Written) → HasRun call answer w → answer ≡ status.Script → (wanted : Wanted) → AreWordsOf (job.Recover wanted) call.words
     → IsNoImageText call w
@@ -191,7 +201,7 @@ over_is s (inl e) = inl (ap code e)
 over_is s (inr (inl e)) = inr (inl (ap code e))
 over_is s (inr (inr e)) = inr (inr (ap code e))
 
-not_over : (s : Status) → IsOver s → code s ≢ 0 → code s ≢ 9 → code s ≢ 7 → ⊥
+pub not_over : (s : Status) → IsOver s → code s ≢ 0 → code s ≢ 9 → code s ≢ 7 → ⊥
 not_over s over a b c = by_code (over_is s over)
   where
     by_code : (code s ≡ 0) ⊎ ((code s ≡ 9) ⊎ (code s ≡ 7)) → ⊥
@@ -214,6 +224,7 @@ module _ (call : Call) (wanted : Wanted) (bytes : List ℕ) (i : Image) (words :
       leaves_again cause.wanted cause.text call.region call.region_after call.counts call.counts_after end cause.end_is i
       (subst (λ (t : List ℕ). IsTextOf t i) text says) admitted
       (λ short. not_over (status_of_end ended.NoMemory) (subst (λ (x : Ended). IsOver (status_of_end x)) short over) (λ x. omega (arith, x)) (λ x. omega (arith, x)) (λ x. omega (arith, x)))
+  again_by (outcome.Migration end) cause over = absurd (migrate_is_no_recover cause.stop wanted call.words words cause.read.words)
 
 pub recovered_again : (call : Call) (answer : Status) (w : Written) → HasRun call answer w → (wanted : Wanted) (bytes : List ℕ) (i : Image) → AreWordsOf (job.Recover wanted) call.words
     → call.left ≡ Some bytes → IsTextOf bytes i → IsAdmitted i → IsOver answer → EachRecoversAs i call.region_after

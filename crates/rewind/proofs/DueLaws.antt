@@ -30,7 +30,7 @@ sure : (s t : Status) → (s ≡ status.NoMemory → ⊥) → (s ≡ t) ⊎ (s �
 sure s t other (inl same) = same
 sure s t other (inr none) = absurd (other none)
 
-long_one : (wanted : Wanted) (bytes : List ℕ) (t : Status) → IMAGE_LIMIT < length bytes → IsDue wanted bytes t → status.TooLong ≡ t
+pub long_one : (wanted : Wanted) (bytes : List ℕ) (t : Status) → IMAGE_LIMIT < length bytes → IsDue wanted bytes t → status.TooLong ≡ t
 long_one wanted bytes t more (long m is) = sym is
 long_one wanted bytes t more (misread less line e is) = absurd (omega (arith, more, less))
 long_one wanted bytes t more (refused less j there f b k is) = absurd (omega (arith, more, less))
@@ -98,6 +98,7 @@ recover_some wanted bytes none =
 pub one_due : HaveOneDue
 one_due job.Run bytes = record { some = λ none. none (due bytes) (λ k. due bytes); one = λ s t h k. h ∙ sym k }
 one_due (job.Recover wanted) bytes = record { some = recover_some wanted bytes; one = recover_one wanted bytes }
+one_due (job.Migrate stop) bytes = record { some = recover_some want.Image bytes; one = recover_one want.Image bytes }
 
 -- ---- the same for an image in another's place
 

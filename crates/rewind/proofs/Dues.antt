@@ -1,5 +1,5 @@
 -- The status of a call that recovers.
-use Rattle.std.proofs.Common.{◌≡◌, ◌≢◌, ◌⊎◌, inl, inr, ℕ, ◌+◌, ◌-◌, ◌<◌, ◌≤◌, ◌^◌, List, ◌++◌, length, refl, sym, ◌∙◌, ap, subst, arith, codes, if◌then◌else◌, Option, Some, None}
+use Rattle.std.proofs.Common.{◌≡◌, ◌≢◌, ◌⊎◌, inl, inr, ℕ, ◌+◌, ◌-◌, ◌<◌, ◌≤◌, ◌^◌, List, ◌++◌, length, refl, sym, ◌∙◌, ap, subst, arith, codes, slice_index, if◌then◌else◌, Option, Some, None}
 use Rattle.std.proofs.lemmas.Bool.{lt-ltb, le-ltb}
 use Rattle.rewind.specs.Served.{script as script_of_text}
 use Rattle.rewind.specs.Events.{with_events, has_stopped}
@@ -14,6 +14,7 @@ use Rattle.image_text.specs.Grammar.{IsTextOf}
 use Rattle.recovery_passes.specs.Recovered.{IsFinished}
 use Rattle.image_runner.specs.declared.runner.Wanted.{Wanted}
 use Rattle.image_runner.specs.declared.runner.Wanted.TheVariants as want
+use Rattle.image_runner.specs.declared.migrating.Stop.{Stop}
 use Rattle.image_runner.specs.declared.runner.Ended.{Ended}
 use Rattle.image_runner.specs.declared.runner.Ended.TheVariants as ended
 use Rattle.image_runner.specs.Maps.{AreMaps}
@@ -42,6 +43,22 @@ pub recover_is_no_run : (wanted : Wanted) (words : List (List ℕ)) → AreRun w
 recover_is_no_run want.Report words run recover = other_words (codes "run") (codes "recover") (one_word (codes "run") (codes "recover") (sym run ∙ recover)) (λ e. omega (arith, e))
 recover_is_no_run want.Image words run recover =
     let e = ap (λ (ws : List (List ℕ)). length ws) (sym run ∙ recover) in absurd (omega (arith, e))
+
+-- nor are those of a migration
+pub migrate_is_no_run : (stop : Option Stop) (words : List (List ℕ)) → AreRun words → AreWordsOf (job.Migrate stop) words → ⊥
+migrate_is_no_run None words run migrate = other_words (codes "run") (codes "migrate") (one_word (codes "run") (codes "migrate") (sym run ∙ migrate)) (λ e. omega (arith, e))
+migrate_is_no_run (Some stop) words run migrate =
+    let e = ap (λ (ws : List (List ℕ)). length ws) (sym run ∙ migrate.2) in absurd (omega (arith, e))
+
+pub migrate_is_no_recover : (stop : Option Stop) (wanted : Wanted) (words : List (List ℕ)) → AreWordsOf (job.Recover wanted) words → AreWordsOf (job.Migrate stop) words → ⊥
+migrate_is_no_recover None want.Report words recover migrate =
+    let e = ap (λ (word : List ℕ). slice_index word 0) (one_word (codes "recover") (codes "migrate") (sym recover ∙ migrate)) in absurd (omega (arith, e))
+migrate_is_no_recover None want.Image words recover migrate =
+    let e = ap (λ (ws : List (List ℕ)). length ws) (sym recover ∙ migrate) in absurd (omega (arith, e))
+migrate_is_no_recover (Some stop) want.Report words recover migrate =
+    let e = ap (λ (ws : List (List ℕ)). length ws) (sym recover ∙ migrate.2) in absurd (omega (arith, e))
+migrate_is_no_recover (Some stop) want.Image words recover migrate =
+    let e = ap (λ (ws : List (List ℕ)). length ws) (sym recover ∙ migrate.2) in absurd (omega (arith, e))
 
 pub same_wanted : (wanted wanted' : Wanted) (words : List (List ℕ)) → AreWordsOf (job.Recover wanted) words → AreWordsOf (job.Recover wanted') words → wanted ≡ wanted'
 same_wanted want.Report want.Report words here there = refl
@@ -78,7 +95,7 @@ pub took_all_is : (left left' : Option (List ℕ)) (bytes text : List ℕ) → l
 took_all_is None left' bytes text tells took = absurd (cc)
 took_all_is (Some xs) left' bytes text tells took = (let e : xs ≡ bytes = cc in sym e ∙ took.0)
 
-took_long : (left left' : Option (List ℕ)) (bytes text : List ℕ) (n : ℕ) → left ≡ Some bytes → Took left text left' → n < length text → n < length bytes
+pub took_long : (left left' : Option (List ℕ)) (bytes text : List ℕ) (n : ℕ) → left ≡ Some bytes → Took left text left' → n < length text → n < length bytes
 took_long None left' bytes text n tells took more = absurd (cc)
 took_long (Some xs) left' bytes text n tells took more =
     let e : xs ≡ bytes = cc in
@@ -91,6 +108,7 @@ module _ (wanted : Wanted) (call : Call) (bytes : List ℕ) (words : AreWordsOf 
   limit_is : (j : Job) → AreWordsOf j call.words → limit_of j ≡ IMAGE_LIMIT
   limit_is job.Run run = absurd (recover_is_no_run wanted call.words run words)
   limit_is (job.Recover w) here = refl
+  limit_is (job.Migrate stop) here = refl
 
   long_due : (due : Status) → IMAGE_LIMIT < length bytes → IsDue wanted bytes due → IsDueOrShort status.TooLong due
   long_due due more (long m is) = inl (sym is)
@@ -119,6 +137,7 @@ module _ (wanted : Wanted) (call : Call) (bytes : List ℕ) (words : AreWordsOf 
   outcome_due (outcome.Stopped commits) due cause d = absurd (recover_is_no_run wanted call.words cause.read.words words)
   outcome_due (outcome.Done s) due cause d = absurd (recover_is_no_run wanted call.words cause.read.words words)
   outcome_due (outcome.Recovery end) due cause d = recovered_due end due cause d
+  outcome_due (outcome.Migration end) due cause d = absurd (migrate_is_no_recover cause.stop wanted call.words words cause.read.words)
 
   pub recover_due : (answer due : Status) (w : Written) → (HasRisen w.faults w.faults_after → ⊥) → HasRun call answer w → IsDue wanted bytes due → IsDueOrShort answer due
   recover_due answer due w unfaulted run d = by_told run.told
@@ -139,6 +158,7 @@ misused_outcome call outcome.NoMemory unknown cause = inr refl
 misused_outcome call (outcome.Stopped commits) unknown cause = absurd (unknown (job.Run, cause.read.words))
 misused_outcome call (outcome.Done s) unknown cause = absurd (unknown (job.Run, cause.read.words))
 misused_outcome call (outcome.Recovery end) unknown cause = absurd (unknown (job.Recover cause.wanted, cause.read.words))
+misused_outcome call (outcome.Migration end) unknown cause = absurd (unknown (job.Migrate cause.stop, cause.read.words))
 
 pub misused : (call : Call) (answer : Status) (w : Written) → (AreKnown call.words → ⊥) → (HasRisen w.faults w.faults_after → ⊥) → HasRun call answer w
     → (answer ≡ status.Usage) ⊎ (answer ≡ status.NoMemory)
@@ -154,6 +174,7 @@ module _ (call : Call) (bytes : List ℕ) (words : AreRun call.words) (tells : c
   run_limit : (j : Job) → AreWordsOf j call.words → limit_of j ≡ SCRIPT_LIMIT
   run_limit job.Run here = refl
   run_limit (job.Recover w) there = absurd (recover_is_no_run w call.words words there)
+  run_limit (job.Migrate stop) there = absurd (migrate_is_no_run stop call.words words there)
 
   due_long : SCRIPT_LIMIT < length bytes → status.TooLong ≡ due bytes
   due_long more = sym (ap (λ b. if b then status.TooLong else due_of_script (script_of_text bytes)) (lt-ltb SCRIPT_LIMIT (length bytes) more))
@@ -180,6 +201,7 @@ module _ (call : Call) (bytes : List ℕ) (words : AreRun call.words) (tells : c
   run_outcome (outcome.Stopped commits) cause = absurd (unstopped (stopped_rose cause.run.made cause.run.counted))
   run_outcome (outcome.Done s) cause = inl (due_read cause.text cause.read status.Done (sym (ap due_of_script cause.says)))
   run_outcome (outcome.Recovery end) cause = absurd (recover_is_no_run cause.wanted call.words words cause.read.words)
+  run_outcome (outcome.Migration end) cause = absurd (migrate_is_no_run cause.stop call.words words cause.read.words)
 
   pub run_due : (answer : Status) (w : Written) → (HasRisen w.faults w.faults_after → ⊥) → HasRun call answer w → IsDueOrShort answer (due bytes)
   run_due answer w unfaulted run = by_told run.told
@@ -214,6 +236,7 @@ module _ (wanted : Wanted) (call : Call) (words : AreWordsOf (job.Recover wanted
   goes_on (outcome.Stopped commits) cause e = recover_is_no_run wanted call.words cause.read.words words
   goes_on (outcome.Done s) cause e = cc
   goes_on (outcome.Recovery end) cause e = end_goes_on cause.wanted cause.text end cause.end_is e
+  goes_on (outcome.Migration end) cause e = migrate_is_no_recover cause.stop wanted call.words words cause.read.words
 
   pub never_stopped : (answer : Status) (w : Written) → HasRun call answer w → answer ≡ status.Stopped → ⊥
   never_stopped answer w run e = by_told run.told
@@ -271,6 +294,7 @@ module _ (wanted : Wanted) (call : Call) (bytes : List ℕ) (i : Image) (words :
   rests (outcome.Done s) cause = absurd (recover_is_no_run wanted call.words cause.read.words words)
   rests (outcome.Recovery end) cause =
       end_rests cause.wanted cause.text end (took_all_is call.left call.left_after bytes cause.text tells cause.read.input) cause.end_is
+  rests (outcome.Migration end) cause = absurd (migrate_is_no_recover cause.stop wanted call.words words cause.read.words)
 
   pub wants_none : (answer : Status) (w : Written) → HasRun call answer w → call.counts_after.events ≡ call.counts.events
   wants_none answer w run = rests run.outcome run.cause

@@ -3,11 +3,14 @@ pub mod Tables
 pub mod Runs
 pub mod Loaded
 pub mod Inputs
+pub mod Stops
 pub mod ServedLimits
 pub mod Recoveries
 pub mod Dues
 pub mod DueLaws
 pub mod Causes
+pub mod Migrations
 pub mod Answering
+pub mod Rests
 pub mod Outcomes
 pub mod Examples

@@ -1,11 +1,15 @@
 -- What a call of the program owes by its status: which one is due to the input, the cause of each, and what becomes of the device.
-use Rattle.std.specs.Prelude.{◌≡◌, ◌≢◌, ◌⊎◌, ℕ, ◌+◌, ◌^◌, ◌≤◌, List, length, Some}
+use Rattle.std.specs.Prelude.{◌≡◌, ◌≢◌, ◌⊎◌, ℕ, ◌+◌, ◌^◌, ◌≤◌, List, length, Option, Some}
+use Rattle.persist_model.specs.Shape.{SECOND_MAGIC}
 use Rattle.lane_traits.specs.Device.{since_load}
 use Rattle.lane_traits.specs.Stream.{HasRisen}
 use Rattle.image_text.specs.declared.image.Image.{Image}
 use Rattle.image_text.specs.Grammar.{IsTextOf}
 use Rattle.recovery_passes.specs.Recovered.{IsFinished}
+use Rattle.migration.specs.Owed.{EachMigratesAs}
 use Rattle.image_runner.specs.declared.runner.Wanted.{Wanted}
+use Rattle.image_runner.specs.declared.runner.Wanted.TheVariants as want
+use Rattle.image_runner.specs.declared.migrating.Stop.{Stop}
 use Rattle.image_runner.specs.Ends.{words_of, IsAdmitted, EachRecoversAs}
 use Rattle.rewind.specs.declared.script.Script.{Script}
 use Rattle.rewind.specs.declared.status.Status.{Status}
@@ -16,7 +20,7 @@ use Rattle.rewind.specs.Words.{AreRun, AreKnown, AreWordsOf}
 use Rattle.rewind.specs.Served.{script as script_of_text}
 use Rattle.rewind.specs.Events.{event_count}
 use Rattle.rewind.specs.Call.{Call, Written, HasRun}
-use Rattle.rewind.specs.Causes.{IsLongInput, IsNoScript, IsNoImageText, IsUnsoundImage}
+use Rattle.rewind.specs.Causes.{IsLongInput, IsNoScript, IsNoImageText, IsUnsoundImage, HasMigratedTo}
 use Rattle.rewind.specs.Due.{due as due_of, IsDue}
 
 -- a read failed
@@ -50,7 +54,10 @@ pub record HasAnswered (call : Call) (answer : Status) (w : Written) : Type 0 wh
   pub no_image_text : answer ≡ status.Script → (wanted : Wanted) → AreWordsOf (job.Recover wanted) call.words → IsNoImageText call w
   pub unsound_image : answer ≡ status.Unsound → (wanted : Wanted) → AreWordsOf (job.Recover wanted) call.words → IsUnsoundImage wanted call w
   -- The device
-  pub last_load : (answer ≡ status.Done) ⊎ (answer ≡ status.Stopped) → call.counts_after.restarts ≡ (since_load call.counts).restarts
+  pub last_load : (answer ≡ status.Done) ⊎ (answer ≡ status.Stopped) → call.counts_after.restarts.loaded_at ≡ call.counts.events
+  -- It was restarted since then only by `migrate STOP PICK`, and not where it stopped of itself.
+  pub not_restarted : answer ≡ status.Done → ((stop : Stop) → ¬ (AreWordsOf (job.Migrate (Some stop)) call.words)) → call.counts_after.restarts ≡ (since_load call.counts).restarts
+  pub left_stopped : answer ≡ status.Stopped → call.counts_after.restarts ≡ (since_load call.counts).restarts
   pub one_event_each : AreRun call.words → (bytes : List ℕ) (s : Script) → call.left ≡ Some bytes → script_of_text bytes ≡ Some s
       → call.counts_after.events ≤ call.counts.events + event_count s.transactions
   -- A recovery takes fewer events than this.
@@ -61,3 +68,17 @@ pub record HasAnswered (call : Call) (answer : Status) (w : Written) : Type 0 wh
   -- Whatever a stop leaves of the device then can be recovered in the image's place.
   pub recovered_again : (wanted : Wanted) (bytes : List ℕ) (i : Image) → AreWordsOf (job.Recover wanted) call.words → call.left ≡ Some bytes → IsTextOf bytes i → IsAdmitted i
       → (answer ≡ status.Done) ⊎ (answer ≡ status.Stopped) ⊎ (answer ≡ status.Unsound) → EachRecoversAs i call.region_after
+  -- A migration: what is due is due as to `recover image`.
+  pub migrate_due : (stop : Option Stop) (bytes : List ℕ) (s : Status) → AreWordsOf (job.Migrate stop) call.words → call.left ≡ Some bytes → IsDue want.Image bytes s
+      → ¬ (ReadFailed call) → ¬ (WriteFailed w) → ¬ (DeviceStopped call) → (answer ≡ s) ⊎ (answer ≡ status.NoMemory)
+  pub migrate_no_image_text : answer ≡ status.Script → (stop : Option Stop) → AreWordsOf (job.Migrate stop) call.words → IsNoImageText call w
+  pub migrate_unsound : answer ≡ status.Unsound → (stop : Option Stop) → AreWordsOf (job.Migrate stop) call.words → IsUnsoundImage want.Image call w
+  pub migrate_enough : (stop : Option Stop) → AreWordsOf (job.Migrate stop) call.words → call.counts.events + 2 ^ 22 ≤ call.counts.budget → answer ≢ status.Stopped
+  -- What it writes is the text of what it left: of the migrated image, or of an image that the stop may leave.
+  pub migrated_to : answer ≡ status.Done → (stop : Option Stop) → AreWordsOf (job.Migrate stop) call.words → HasMigratedTo stop call w
+  -- An image of format 2 that was recovered wants no event.
+  pub migrated_again : (stop : Option Stop) (bytes : List ℕ) (i : Image) → AreWordsOf (job.Migrate stop) call.words → call.left ≡ Some bytes → IsTextOf bytes i
+      → IsFinished (length i.words) (words_of i) → words_of i 0 ≡ SECOND_MAGIC → call.counts_after.events ≡ call.counts.events
+  -- Whatever a stop leaves of the device then can be migrated in the image's place.
+  pub migrated_in_place : (stop : Option Stop) (bytes : List ℕ) (i : Image) → AreWordsOf (job.Migrate stop) call.words → call.left ≡ Some bytes → IsTextOf bytes i → IsAdmitted i
+      → (answer ≡ status.Done) ⊎ (answer ≡ status.Stopped) ⊎ (answer ≡ status.Unsound) → EachMigratesAs i.kinds (words_of i) call.region_after

@@ -15,6 +15,8 @@ use Rattle.image_runner.specs.declared.runner.Wanted.{Wanted}
 use Rattle.image_runner.specs.declared.runner.Ended.{Ended}
 use Rattle.image_runner.specs.declared.runner.Ended.TheVariants as ended
 use Rattle.image_runner.specs.Ends.{IsEndOf}
+use Rattle.image_runner.specs.declared.migrating.Stop.{Stop}
+use Rattle.image_runner.specs.Migrations.{IsMigrationOf}
 use Rattle.rewind.specs.Words.{AreRun, AreWordsOf, AreKnown, limit_of}
 use Rattle.rewind_script.specs.Grammar.{script as meaning_of_text}
 use Rattle.rewind.specs.declared.served.Wrong.{Wrong}
@@ -131,6 +133,13 @@ pub record HasRecovered (call : Call) (end : Ended) : Type 0 where
   pub read : HasReadFor (job.Recover wanted) call text
   pub end_is : IsEndOf wanted text call.region call.counts call.region_after call.counts_after end
 
+-- All was read, and the migration of the text's image came to this end.
+pub record HasMigrated (call : Call) (end : Ended) : Type 0 where
+  pub stop : Option Stop
+  pub text : List ℕ
+  pub read : HasReadFor (job.Migrate stop) call text
+  pub end_is : IsMigrationOf stop text call.region call.counts call.region_after call.counts_after end
+
 -- what a call came to, and its cause
 abbrev pub IsCauseOf : Outcome → Call → Type 0
 IsCauseOf outcome.Usage call = IsMisused call
@@ -141,6 +150,7 @@ IsCauseOf outcome.NoMemory call = IsExhausted call
 IsCauseOf (outcome.Stopped commits) call = HasStopped call commits
 IsCauseOf (outcome.Done s) call = IsDone call s
 IsCauseOf (outcome.Recovery end) call = HasRecovered call end
+IsCauseOf (outcome.Migration end) call = HasMigrated call end
 
 -- what the text of a whole input came to
 abbrev pub IsTextOutcome : List ℕ → Region → Counts → Region → Counts → Outcome → Type 0
@@ -155,6 +165,8 @@ abbrev pub IsJobOutcome : Job → List ℕ → Region → Counts → Region → 
 IsJobOutcome job.Run text region counts region_after counts_after o = IsTextOutcome text region counts region_after counts_after o
 IsJobOutcome (job.Recover wanted) text region counts region_after counts_after (outcome.Recovery end) = IsEndOf wanted text region counts region_after counts_after end
 IsJobOutcome (job.Recover wanted) text region counts region_after counts_after _ = ⊥
+IsJobOutcome (job.Migrate stop) text region counts region_after counts_after (outcome.Migration end) = IsMigrationOf stop text region counts region_after counts_after end
+IsJobOutcome (job.Migrate stop) text region counts region_after counts_after _ = ⊥
 
 -- a script that was run is within the limits
 abbrev pub AreLimitsOf : Outcome → Type 0
@@ -178,6 +190,7 @@ status_of outcome.NoMemory = status.NoMemory
 status_of (outcome.Stopped commits) = status.Stopped
 status_of (outcome.Done s) = status.Done
 status_of (outcome.Recovery end) = status_of_end end
+status_of (outcome.Migration end) = status_of_end end
 
 -- script LINE image
 abbrev pub misread_text : ℕ → List ℕ
@@ -206,6 +219,7 @@ text_of outcome.NoMemory = []
 text_of (outcome.Stopped commits) = stop_report (first_names commits)
 text_of (outcome.Done s) = report (history s.transactions) (contents s.transactions)
 text_of (outcome.Recovery end) = text_of_end end
+text_of (outcome.Migration end) = text_of_end end
 
 -- the sink, before a call and after
 pub record Written : Type 0 where

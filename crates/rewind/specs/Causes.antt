@@ -1,5 +1,5 @@
 -- Why a call ended with a status: what it read, and what it told.
-use Rattle.std.specs.Prelude.{◌≡◌, ℕ, ◌<◌, List, length, codes}
+use Rattle.std.specs.Prelude.{◌≡◌, ℕ, ◌<◌, List, length, codes, Option}
 use Rattle.persist_model.specs.ImageRules.{MAP_RULE}
 use Rattle.persist_model.specs.Region.{Words}
 use Rattle.persist_model.specs.Shape.{shape_of, heap}
@@ -9,6 +9,8 @@ use Rattle.image_runner.specs.declared.runner.Wanted.{Wanted}
 use Rattle.image_runner.specs.declared.runner.Wanted.TheVariants as want
 use Rattle.image_runner.specs.Ends.{words_of, AreStanding, IsAdmitted, IsRefusedBy}
 use Rattle.image_runner.specs.Maps.{IsFirstBroken}
+use Rattle.image_runner.specs.Migrations.{IsWritten}
+use Rattle.image_runner.specs.declared.migrating.Stop.{Stop}
 use Rattle.rewind_script.specs.Grammar.{script as meaning_of_text}
 use Rattle.rewind.specs.declared.words.Job.{Job}
 use Rattle.rewind.specs.declared.served.Wrong.{Wrong}
@@ -48,3 +50,13 @@ pub data IsUnsoundImage (wanted : Wanted) (call : Call) (w : Written) : Type 0 w
   broken : wanted ≡ want.Report → (text : List ℕ) → TookAll call.left text call.left_after → (i : Image) → IsTextOf text i → IsAdmitted i
       → (a : ℕ) → ((z : Words) → AreStanding (words_of i) z → IsFirstBroken (heap (shape_of (words_of i))) z i.kinds a)
       → HasTold w (unsound_text MAP_RULE a) → IsUnsoundImage wanted call w
+
+-- The image of the text was migrated, to its end or up to this stop, and this text was told of it.
+pub record HasMigratedTo (stop : Option Stop) (call : Call) (w : Written) : Type 0 where
+  pub text : List ℕ
+  pub took : TookAll call.left text call.left_after
+  pub image : Image
+  pub says : IsTextOf text image
+  pub out : List ℕ
+  pub written : IsWritten stop image call.counts call.region_after call.counts_after out
+  pub told : HasTold w out

@@ -25,7 +25,7 @@ abbrev pub due : List ℕ → Status
 due bytes = if nat_lt SCRIPT_LIMIT (length bytes) then status.TooLong else due_of_script (script_of_text bytes)
 
 -- The status of `recover` and of `recover image` whose input are these bytes, where no count of faults rises and the device
--- doesn't stop.
+-- doesn't stop. That of a migration is the one of `recover image`.
 pub data IsDue (wanted : Wanted) (bytes : List ℕ) (s : Status) : Type 0 where
   long : IMAGE_LIMIT < length bytes → s ≡ status.TooLong → IsDue wanted bytes s
   misread : length bytes ≤ IMAGE_LIMIT → (line : ℕ) → BreaksAt bytes line → s ≡ status.Script → IsDue wanted bytes s
@@ -40,6 +40,7 @@ pub data IsDue (wanted : Wanted) (bytes : List ℕ) (s : Status) : Type 0 where
 abbrev pub IsDueOf : Job → List ℕ → Status → Type 0
 IsDueOf job.Run bytes s = s ≡ due bytes
 IsDueOf (job.Recover wanted) bytes s = IsDue wanted bytes s
+IsDueOf (job.Migrate stop) bytes s = IsDue want.Image bytes s
 
 -- ---- what holds of all inputs
 

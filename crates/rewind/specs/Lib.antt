@@ -7,3 +7,4 @@ pub mod Call
 pub mod Due
 pub mod Causes
 pub mod Answered
+pub mod Rests

@@ -1,4 +1,4 @@
-//! `rewind` runs a script on a region of words and writes a report.
+//! `rewind` runs a script on a region of words and writes a report, or recovers or migrates the image of a region.
 #![tactic(auto)]
 
 mod image_report;
@@ -14,6 +14,8 @@ mod streams;
 mod table;
 #[cfg(test)]
 mod tests;
+#[cfg(test)]
+mod tests_migrate;
 #[cfg(test)]
 mod tests_recover;
 mod words;

@@ -11,7 +11,7 @@ use crate::script::Script;
 use crate::served::{Refusal, Wrong, read_served};
 use crate::status::Status;
 use crate::words::{Job, job_of};
-use image_runner::{Ended, Wanted, recover_text};
+use image_runner::{Ended, migrate_text, recover_text};
 use lane_traits::{Device, Failed, Sink, Source};
 use persist_model::NoMemory;
 use std::alloc::Global;
@@ -30,6 +30,8 @@ pub enum Outcome {
     Done(Script),
     /// What the recovery of an image came to.
     Recovery(Ended),
+    /// What the migration of an image came to.
+    Migration(Ended),
 }
 
 /// The status of an end.
@@ -60,6 +62,7 @@ impl Outcome {
             Outcome::Stopped { .. } => Status::Stopped,
             Outcome::Done(_) => Status::Done,
             Outcome::Recovery(end) => status_of_end(end),
+            Outcome::Migration(end) => status_of_end(end),
         }
     }
 
@@ -77,19 +80,20 @@ impl Outcome {
             Outcome::Stopped { commits } => Ok(stop_text(alloc, *commits)?),
             Outcome::Done(script) => report_text(alloc, script.transactions.as_slice()),
             Outcome::Recovery(end) => end_text(alloc, end),
+            Outcome::Migration(end) => end_text(alloc, end),
         }
     }
 }
 
-/// Runs the script that the source has on the region, or recovers the image that it has, and writes what came of it.
+/// Runs the script that the source has on the region, or recovers or migrates the image that it has, and writes what came of it.
 ///
-/// The words are those that the program is called with: `run`, `recover` and `recover image` are known. Nothing is written before the job's end, and the
-/// device comes back as it is then.
+/// The words are those that the program is called with: `run`, `recover`, `recover image`, `migrate` and `migrate STOP PICK` are known.
+/// Nothing is written before the job's end, and the device comes back as it is then.
 pub fn rewind_replay<S: Source, K: Sink, D: Device>(
     alloc: Global,
     words: &[String],
     script: &mut S,
-    mut region: D,
+    region: D,
     out: &mut K,
 ) -> (Status, D)
     ensures { HasAnswered
@@ -112,7 +116,7 @@ pub fn rewind_replay<S: Source, K: Sink, D: Device>(
           faults_after = K.faults out.new;
         }) }
 {
-    let outcome = replay(alloc, words, script, &mut region);
+    let (outcome, region) = replay(alloc, words, script, region);
     let status = write_outcome(alloc, &outcome, out);
     (status, region)
 }
@@ -144,40 +148,50 @@ fn replay<S: Source, D: Device>(
     alloc: Global,
     words: &[String],
     source: &mut S,
-    region: &mut D,
-) -> Outcome
-    ensures limits { AreLimitsOf result }
-    ensures cause { IsCauseOf result (record {
+    region: D,
+) -> (Outcome, D)
+    ensures limits { AreLimitsOf result.0 }
+    ensures cause { IsCauseOf result.0 (record {
       words = map string_bytes words.now;
       left = S.left source.old;
       left_after = S.left source.new;
       faults = S.faults source.old;
       faults_after = S.faults source.new;
-      region = D.cells region.old;
-      region_after = D.cells region.new;
-      counts = D.counts region.old;
-      counts_after = D.counts region.new;
+      region = D.cells region;
+      region_after = D.cells result.1;
+      counts = D.counts region;
+      counts_after = D.counts result.1;
     }) }
 {
     match job_of(words) {
-        None => Outcome::Usage,
+        None => (Outcome::Usage, region),
         Some(job) => match read_input(alloc, source, job.limit()) {
-            Err(Unread::Failed) => Outcome::ReadFault,
-            Err(Unread::TooLong) => Outcome::TooLong,
-            Err(Unread::NoMemory) => Outcome::NoMemory,
+            Err(Unread::Failed) => (Outcome::ReadFault, region),
+            Err(Unread::TooLong) => (Outcome::TooLong, region),
+            Err(Unread::NoMemory) => (Outcome::NoMemory, region),
             Ok(text) => do_job(alloc, job, &text, region),
         },
     }
 }
 
 /// Does the job with the text of its whole input.
-fn do_job<D: Device>(alloc: Global, job: Job, text: &[u8], region: &mut D) -> Outcome
-    ensures limits { AreLimitsOf result }
-    ensures cause { IsJobOutcome job text.now (D.cells region.old) (D.counts region.old) (D.cells region.new) (D.counts region.new) result }
+fn do_job<D: Device>(alloc: Global, job: Job, text: &[u8], mut region: D) -> (Outcome, D)
+    ensures limits { AreLimitsOf result.0 }
+    ensures cause { IsJobOutcome job text.now (D.cells region) (D.counts region) (D.cells result.1) (D.counts result.1) result.0 }
 {
     match job {
-        Job::Run => run_text(alloc, text, region),
-        Job::Recover(wanted) => Outcome::Recovery(recover_text(alloc, text, wanted, region)),
+        Job::Run => {
+            let outcome = run_text(alloc, text, &mut region);
+            (outcome, region)
+        }
+        Job::Recover(wanted) => {
+            let end = recover_text(alloc, text, wanted, &mut region);
+            (Outcome::Recovery(end), region)
+        }
+        Job::Migrate(stop) => {
+            let (end, region) = migrate_text(alloc, text, stop, region);
+            (Outcome::Migration(end), region)
+        }
     }
 }
 

@@ -54,6 +54,14 @@ pub fn recover_image<'a>(image: &'a [u8], status: Status, text: &'a [u8]) -> Cas
     }
 }
 
+/// The words `migrate`.
+pub fn migrate<'a>(image: &'a [u8], status: Status, text: &'a [u8]) -> Case<'a> {
+    Case {
+        words: &["migrate"],
+        ..run(image, status, text)
+    }
+}
+
 fn list<T: Copy + Drop>(alloc: Global, items: &[T]) -> Result<List<T>, AllocError> {
     let mut list = List::new(alloc);
     for item in items {
@@ -109,7 +117,7 @@ fn refused(rt: &(impl Abort + AllocGlobal), script: &[u8], text: &[u8]) -> Resul
 }
 
 /// The words aren't known.
-fn misused(rt: &(impl Abort + AllocGlobal), words: &[&str]) -> Result<(), AllocError> {
+pub fn misused(rt: &(impl Abort + AllocGlobal), words: &[&str]) -> Result<(), AllocError> {
     check(
         rt,
         Case {

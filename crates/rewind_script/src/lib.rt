@@ -12,7 +12,7 @@ mod write;
 
 pub use fault::{Fault, ScriptFault};
 pub use generator::generate;
-pub use read::read_script;
+pub use read::{number_of, read_script};
 pub use recovery::{RecoveryReport, write_recovery};
 pub use report::{Fate, Got, How, Named, PairList, Printed, Report, write_report};
 pub use script::{Command, Item, LaneText, MOST_COMMANDS, MOST_TRANSACTIONS, Script, Turns};

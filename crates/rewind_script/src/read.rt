@@ -24,6 +24,7 @@ use reading::{Keyword, Part, Reading};
 use refusal::Refusal;
 use region_layout::Layout;
 use std::alloc::Global;
+pub use text::number_of;
 use text::{next_line, words_of};
 
 /// The script that the text means, or its first wrong line.

@@ -97,7 +97,7 @@ fn value_of(digits: &[u8]) -> Option<u64>
     Some(number)
 }
 
-/// The number that a word spells.
+/// The number that a word spells, of 1 to 20 decimal digits and at most 2^64-1; else None.
 #[tactic(auto, unfolding(crate::specs::Text::number))]
 pub fn number_of(word: &[u8]) -> Option<u64>
     ensures { result ≡ number word.now }
