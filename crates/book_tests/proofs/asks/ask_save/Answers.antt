@@ -1,0 +1,5 @@
+use Rattle.lane_book.specs.Steps.{IsPlain}
+use Rattle.book_tests.proofs.asks.ask_save.Goals as goal
+
+pub ask_plain-requires-clause-plain : goal.ask_plain-requires-clause-plain
+ask_plain-requires-clause-plain g c = IsPlain.savepoint
