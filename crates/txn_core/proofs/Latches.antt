@@ -30,7 +30,7 @@ holder_read layout keeper l slot slots is = read_slot holder_of NOBODY keeper.sl
 pub same_rows : (xs ys : List ℕ) → xs ≡ ys → SameLog (slice_index xs) (slice_index ys)
 same_rows xs ys is a lt = ap (λ zs. slice_index zs a) (sym is)
 
-slots_kept : (xs ys zs : List Slot) → KeepsSlots xs ys → KeepsSlots ys zs → KeepsSlots xs zs
+pub slots_kept : (xs ys zs : List Slot) → KeepsSlots xs ys → KeepsSlots ys zs → KeepsSlots xs zs
 slots_kept xs ys zs h k = record {
   count = k.count ∙ h.count;
   lists = λ p n lt room. k.lists p n (let e = h.count in omega (arith, lt, e)) (h.lists p n lt room);

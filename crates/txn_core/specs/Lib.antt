@@ -1,3 +1,14 @@
 pub mod Running
 pub mod Beginning
 pub mod Making
+pub mod Advancing
+pub mod States
+pub mod Stepping
+pub mod Images
+pub mod Quiet
+pub mod Phases
+pub mod Starting
+pub mod Clearing
+pub mod Asking
+pub mod Worlds
+pub mod AskedEnds

@@ -1,12 +1,34 @@
-//! One event of a lane, over the device, the log's keeper and the book: the append of a record is begun (`begin`), the next event of what the lane
-//! has under way in the log is made (`run`), and one on its own words is made (`make`). The lane's call owes each of these, and pays for it.
-//! There is no world of lanes here yet.
+//! Transactions of several lanes on one device: a lane's call is asked, and then made step by step, an event a step.
 #![tactic(auto)]
 
+mod aborts;
+mod advancing;
+mod ask_calls;
+mod ask_ends;
+mod ask_memory;
+mod ask_refusals;
+mod ask_wants;
+mod ask_writes;
+mod asking;
 mod beginning;
+mod clearing;
+mod crosses;
+mod ends;
 mod events;
+pub mod laws;
+mod quiet;
 mod running;
+mod starting;
+mod stepping;
+mod world;
+mod writes;
 
+pub use advancing::{Went, advance, append};
+pub use asking::ask;
 pub use beginning::begin;
+pub use crosses::world_is_sent;
 pub use events::make;
 pub use running::{Ran, run};
+pub use starting::{Begun, start};
+pub use stepping::step;
+pub use world::World;

@@ -1,0 +1,37 @@
+use Rattle.std.proofs.Common.{arith}
+use Rattle.txn_core.proofs.AskedFaces.{owed_phases}
+use Rattle.txn_core.proofs.Facts.{is_book}
+use Rattle.txn_core.proofs.Reading.{read_of}
+use Rattle.txn_core.proofs.AskedWriting.{on_ok_three, on_err_two, write_asked, lacks_at_once, lacks_behind}
+use Rattle.txn_core.proofs.ask_writes.ask_write.Goals as goal
+
+pub take_memory-requires-clause-book : goal.take_memory-requires-clause-book
+take_memory-requires-clause-book g c = is_book g.E.Deed.meaning c.args.layout c.args.book.now c.args.log.now (g.D.Device.cells c.args.device.now) (g.D.Device.spare c.args.device.now)
+    (g.D.Device.counts c.args.device.now) c.requires.world
+
+pub returns-in-Ok-clause-asked : goal.returns-in-Ok-clause-asked
+returns-in-Ok-clause-asked g c =
+    let events = c.write_wants.ensures.events in
+    let records = c.write_wants.ensures.records in
+    on_ok_three c.ask_write.result (λ has reserves asks. write_asked g.E.Deed.meaning c.args.layout c.args.book.now c.take_memory.new.book c.ask_write.new.self c.args.log.now c.take_memory.new.log
+    (g.D.Look.words c.args.device.now) (g.D.Device.cells c.args.device.now) (g.D.Device.spare c.args.device.now) (g.D.Device.spare c.take_memory.new.device) (g.D.Device.counts c.args.device.now) c.args.lane
+    (read_of _ _ (g.D.Device.counts c.args.device.now) (g.met.D.Device.reads c.args.device.now) (g.met.D.Device.full c.args.device.now) (g.met.D.Device.within c.args.device.now)
+    (g.met.D.Device.budget_fits c.args.device.now)) c.requires.lane c.requires.nothing c.requires.phase
+    (owed_phases c.args.book.now c.take_memory.new.book c.args.lane _ _ c.in-Ok.ensures.owes) c.take_memory.ensures.stays c.write_wants.result.events c.write_wants.result.records c.in-Ok.ensures.owes
+    c.ask_write.ensures.book c.args.a c.args.v c.requires.data_word c.requires.own c.requires.room (omega (arith, events)) (omega (arith, records)) has (reserves c.args.layout.cells) asks)
+    c.ask_write.ensures.asked c.ask_write.ensures.reserved c.ask_write.ensures.ok
+
+pub returns-in-Ok-clause-lacks : goal.returns-in-Ok-clause-lacks
+returns-in-Ok-clause-lacks g c = on_err_two c.ask_write.result (λ roomier asks. lacks_behind g.E.Deed.meaning c.args.layout c.args.book.now c.take_memory.new.book c.ask_write.new.self c.args.log.now c.take_memory.new.log
+    (g.D.Look.words c.args.device.now) (g.D.Device.cells c.args.device.now) (g.D.Device.spare c.args.device.now) (g.D.Device.spare c.take_memory.new.device) (g.D.Device.counts c.args.device.now) c.args.lane
+    (read_of _ _ (g.D.Device.counts c.args.device.now) (g.met.D.Device.reads c.args.device.now) (g.met.D.Device.full c.args.device.now) (g.met.D.Device.within c.args.device.now)
+    (g.met.D.Device.budget_fits c.args.device.now)) c.requires.lane c.requires.nothing c.requires.phase
+    (owed_phases c.args.book.now c.take_memory.new.book c.args.lane _ _ c.in-Ok.ensures.owes) c.take_memory.ensures.stays c.write_wants.result.events c.write_wants.result.records c.in-Ok.ensures.owes
+    c.ask_write.ensures.book roomier asks) c.ask_write.ensures.roomier c.ask_write.ensures.err
+
+pub returns-in-Err-clause-lacks : goal.returns-in-Err-clause-lacks
+returns-in-Err-clause-lacks g c = lacks_at_once g.E.Deed.meaning c.args.layout c.args.book.now c.take_memory.new.book c.take_memory.new.book c.args.log.now c.take_memory.new.log
+    (g.D.Look.words c.args.device.now) (g.D.Device.cells c.args.device.now) (g.D.Device.spare c.args.device.now) (g.D.Device.spare c.take_memory.new.device) (g.D.Device.counts c.args.device.now) c.args.lane
+    (read_of _ _ (g.D.Device.counts c.args.device.now) (g.met.D.Device.reads c.args.device.now) (g.met.D.Device.full c.args.device.now) (g.met.D.Device.within c.args.device.now)
+    (g.met.D.Device.budget_fits c.args.device.now)) c.requires.lane c.requires.nothing c.requires.phase
+    (owed_phases c.args.book.now c.take_memory.new.book c.args.lane _ _ c.in-Err.ensures.owes_nothing) c.take_memory.ensures.stays c.in-Err.ensures.owes_nothing

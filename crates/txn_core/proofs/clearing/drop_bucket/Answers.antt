@@ -1,0 +1,73 @@
+use Rattle.std.proofs.Common.{inr, ap}
+use Rattle.txn_state.specs.ReadLaws.{clears_in, makes_events}
+use Rattle.txn_core.proofs.Facts.{is_book, slots_are, can_run}
+use Rattle.txn_core.proofs.Reading.{read_of}
+use Rattle.txn_core.proofs.Exits.{clearing_answered}
+use Rattle.txn_core.proofs.Calling.{is_calling}
+use Rattle.txn_core.proofs.ClearedCalls.{slots_behind, rests_behind, calls_behind, ends_behind, entered_behind}
+use Rattle.txn_core.proofs.Cleared.{cleared_logs, cleared_world}
+use Rattle.txn_core.proofs.NoAppend.{never_stored}
+use Rattle.txn_core.proofs.clearing.drop_bucket.Goals as goal
+
+pub advance-requires-clause-slots : goal.advance-requires-clause-slots
+advance-requires-clause-slots g c = slots_are _ _ _ _ _ _ (g.D.Device.counts c.args.device.now) c.requires.world
+
+pub advance-requires-clause-calling : goal.advance-requires-clause-calling
+advance-requires-clause-calling g c = is_calling _ _ _ _ _ _ (g.D.Device.counts c.args.device.now) c.args.lane (ap makes_events c.requires.stage) c.requires.world
+
+pub advance-requires-clause-can : goal.advance-requires-clause-can
+advance-requires-clause-can g c = can_run _ _ _ _ _ _ (g.D.Device.counts c.args.device.now) c.args.lane c.requires.lane (ap clears_in c.requires.stage) c.requires.world
+
+pub advance-requires-clause-book : goal.advance-requires-clause-book
+advance-requires-clause-book g c = is_book _ _ _ _ _ _ (g.D.Device.counts c.args.device.now) c.requires.world
+
+pub clear_next-requires-clause-calling : goal.clear_next-requires-clause-calling
+clear_next-requires-clause-calling g c =
+    calls_behind g.E.Deed.meaning c.args.layout c.args.book.now c.advance.new.book c.args.log.now c.advance.new.log _ _ _ _
+    (g.D.Device.counts c.args.device.now) (g.D.Device.counts c.advance.new.device) c.args.lane c.in-Whole.ensures.advances
+    c.requires.lane (inr c.requires.stage) c.requires.world c.advance.ensures.book
+
+pub clear_next-requires-clause-doing : goal.clear_next-requires-clause-doing
+clear_next-requires-clause-doing g c =
+    ends_behind g.E.Deed.meaning c.args.layout c.args.book.now c.advance.new.book c.args.log.now c.advance.new.log _ _ _ _
+    (g.D.Device.counts c.args.device.now) (g.D.Device.counts c.advance.new.device) c.args.lane c.in-Whole.ensures.advances
+    c.requires.lane (inr c.requires.stage)
+
+pub clear_next-requires-clause-entered : goal.clear_next-requires-clause-entered
+clear_next-requires-clause-entered g c =
+    entered_behind g.E.Deed.meaning c.args.layout c.args.book.now c.advance.new.book c.args.log.now c.advance.new.log _ _ _ _
+    (g.D.Device.counts c.args.device.now) (g.D.Device.counts c.advance.new.device) c.args.lane c.in-Whole.ensures.advances
+    c.requires.lane (inr c.requires.stage) c.requires.phased c.requires.world
+
+pub clear_next-requires-clause-slots : goal.clear_next-requires-clause-slots
+clear_next-requires-clause-slots g c =
+    slots_behind g.E.Deed.meaning c.args.layout c.args.book.now c.advance.new.book c.args.log.now c.advance.new.log _ _ _ _
+    (g.D.Device.counts c.args.device.now) (g.D.Device.counts c.advance.new.device) c.args.lane c.in-Whole.ensures.advances c.requires.world
+
+pub clear_next-requires-clause-rests : goal.clear_next-requires-clause-rests
+clear_next-requires-clause-rests g c =
+    rests_behind g.E.Deed.meaning c.args.layout c.args.book.now c.advance.new.book c.args.log.now c.advance.new.log _ _ _ _
+    (g.D.Device.counts c.args.device.now) (g.D.Device.counts c.advance.new.device) c.args.lane c.in-Whole.ensures.advances
+
+pub clear_next-requires-clause-logs : goal.clear_next-requires-clause-logs
+clear_next-requires-clause-logs g c = cleared_logs g.E.Deed.meaning c.args.layout c.args.book.now _ c.args.log.now c.advance.new.log
+    (g.D.Look.words c.advance.new.device) _ _ _ _ (g.D.Device.counts c.args.device.now) (g.D.Device.counts c.advance.new.device) c.args.lane
+    (read_of _ _ (g.D.Device.counts c.advance.new.device) (g.met.D.Device.reads c.advance.new.device) (g.met.D.Device.full c.advance.new.device)
+    (g.met.D.Device.within c.advance.new.device) (g.met.D.Device.budget_fits c.advance.new.device))
+    c.requires.lane (inr c.requires.stage) c.requires.world c.in-Whole.ensures.advances
+
+pub returns-in-Answered : goal.returns-in-Answered
+returns-in-Answered g c = clearing_answered g.E.Deed.meaning c.args.layout c.args.book.now _ c.args.log.now _ _ _ _ _ _ _ c.args.lane _
+    c.requires.lane (ap clears_in c.requires.stage) c.in-Answered.ensures.advances
+
+pub returns-in-Stored : goal.returns-in-Stored
+returns-in-Stored g c = absurd (never_stored g.E.Deed.meaning c.args.layout c.args.book.now _ c.args.log.now _ _ _ _ _
+    (g.D.Device.counts c.args.device.now) (g.D.Device.counts c.advance.new.device) c.args.lane _
+    c.requires.lane (ap clears_in c.requires.stage) c.requires.world c.in-Stored.ensures.advances)
+
+pub returns-in-Whole : goal.returns-in-Whole
+returns-in-Whole g c = cleared_world g.E.Deed.meaning c.args.layout c.args.book.now c.advance.new.book _ c.args.log.now c.advance.new.log _
+    (g.D.Look.words c.advance.new.device) _ _ _ _ _ _ c.args.lane _
+    (read_of _ _ (g.D.Device.counts c.advance.new.device) (g.met.D.Device.reads c.advance.new.device) (g.met.D.Device.full c.advance.new.device)
+    (g.met.D.Device.within c.advance.new.device) (g.met.D.Device.budget_fits c.advance.new.device))
+    c.requires.lane (inr c.requires.stage) c.in-Whole.ensures.advances c.clear_next.ensures

@@ -1,0 +1,113 @@
+use Rattle.std.proofs.Common.{◌%◌, if◌then◌else◌, refl, ap}
+use Rattle.persist_model.specs.declared.kinds.Outcome.TheVariants.{Committed, RolledBack}
+use Rattle.lane_book.specs.declared.lane.Lane.{Lane}
+use Rattle.lane_book.specs.declared.lane.Doing.TheVariants as Doing
+use Rattle.lane_book.specs.FacesOf.{lane_at}
+use Rattle.lane_book.proofs.Faces.{lane_read}
+use Rattle.txn_state.specs.Stages.{is_commit}
+use Rattle.txn_state.specs.AppendLaws.{IsNextCell}
+use Rattle.txn_state.specs.ReadLaws.{appends_in, makes_events}
+use Rattle.txn_core.proofs.Calling.{is_calling}
+use Rattle.txn_core.proofs.Facts.{IsRead, is_book, slots_are, can_begin, runs_behind}
+use Rattle.txn_core.proofs.Reading.{read_of}
+use Rattle.txn_core.proofs.Exits.{append_answered}
+use Rattle.txn_core.proofs.EndedLanes.{next_end, calls_on, may_end, stored_pays, whole_pays}
+use Rattle.txn_core.proofs.EndedStores.{ends_open, end_is_stored}
+use Rattle.txn_core.proofs.EndedWhole.{has_records_room, end_slot, closing_turned, undone_settles}
+use Rattle.txn_core.proofs.ends.append_undone.Goals as goal
+use Rattle.txn_core.proofs.ends.append_undone.Goals.{After-end_cell-cell}
+
+-- the device's laws
+read : (g : _) (c : After-end_cell-cell g) → IsRead (g.D.Look.words c.args.device.now) (g.D.Device.cells c.args.device.now) (g.D.Device.counts c.args.device.now)
+read g c = read_of _ _ (g.D.Device.counts c.args.device.now) (g.met.D.Device.reads c.args.device.now) (g.met.D.Device.full c.args.device.now)
+    (g.met.D.Device.within c.args.device.now)
+    (g.met.D.Device.budget_fits c.args.device.now)
+
+-- the cell is that of the lane's end
+next : (g : _) (c : After-end_cell-cell g) → IsNextCell (g.D.Device.cells c.args.device.now) (lane_at c.args.book.now c.args.lane) c.end_cell-cell.result
+next g c = next_end (g.D.Device.cells c.args.device.now) (lane_at c.args.book.now c.args.lane) c.end_cell-cell.result c.index.result.now.transaction RolledBack
+    c.requires.stage c.end_cell-cell.ensures
+    (ap (λ (x : Lane _). x.transaction) (lane_read c.args.book.now c.args.lane c.index.result.now c.requires.lane c.index.ensures))
+    (λ i. if is_commit (c.requires.doing i) then Committed else RolledBack)
+
+pub append-requires-clause-calling : goal.append-requires-clause-calling
+append-requires-clause-calling g c = is_calling _ _ _ _ _ _ (g.D.Device.counts c.args.device.now) c.args.lane (ap makes_events c.requires.stage) c.requires.world
+
+pub append-requires-clause-can : goal.append-requires-clause-can
+append-requires-clause-can g c = can_begin g.E.Deed.meaning c.args.layout c.args.book.now c.args.log.now _ _ _ (g.D.Device.counts c.args.device.now) c.args.lane
+    (read g (goal.at.append-requires-clause-can g c).After-end_cell-cell) c.requires.lane (ap appends_in c.requires.stage) c.requires.world
+
+pub append-requires-clause-behind : goal.append-requires-clause-behind
+append-requires-clause-behind g c =
+    let at = goal.at.append-requires-clause-behind g c in
+    runs_behind g.E.Deed.meaning c.args.layout c.args.book.now c.args.log.now _ _ _ (g.D.Device.counts c.args.device.now) c.args.lane c.end_cell-cell.result
+    (read g at.After-end_cell-cell) c.requires.lane (ap appends_in c.requires.stage) (next g at.After-end_cell-cell) c.requires.world
+
+pub append-requires-clause-book : goal.append-requires-clause-book
+append-requires-clause-book g c = is_book _ _ _ _ _ _ (g.D.Device.counts c.args.device.now) c.requires.world
+
+pub end_stored-requires-clause-lane : goal.end_stored-requires-clause-lane
+end_stored-requires-clause-lane g c = calls_on c.args.book.now c.append.new.book c.args.lane
+    (stored_pays g.E.Deed.meaning c.args.layout c.args.book.now c.append.new.book c.args.log.now c.append.new.log _ _ _ _ _
+    (g.D.Device.counts c.args.device.now) (g.D.Device.counts c.append.new.device) c.args.lane _ c.requires.lane _ c.in-Stored.ensures.appends)
+    (is_calling _ _ _ _ _ _ (g.D.Device.counts c.args.device.now) c.args.lane (ap makes_events c.requires.stage) c.requires.world) c.append.ensures.book
+
+pub end_stored-requires-clause-end : goal.end_stored-requires-clause-end
+end_stored-requires-clause-end g c =
+    let at = goal.at.end_stored-requires-clause-end g c in
+    may_end c.args.book.now c.append.new.book c.args.lane
+    (stored_pays g.E.Deed.meaning c.args.layout c.args.book.now c.append.new.book c.args.log.now c.append.new.log _ _ _ _ _
+    (g.D.Device.counts c.args.device.now) (g.D.Device.counts c.append.new.device) c.args.lane _ c.requires.lane _ c.in-Stored.ensures.appends)
+    Doing.Abort c.requires.doing refl
+    (ends_open g.E.Deed.meaning c.args.layout c.args.book.now c.append.new.book c.args.log.now c.append.new.log _ _ _ _ _ (g.D.Device.counts c.args.device.now)
+    (g.D.Device.counts c.append.new.device) c.args.lane _ _
+    (read g at.After-end_cell-cell) c.requires.lane c.requires.stage (next g at.After-end_cell-cell) c.requires.world c.in-Stored.ensures.appends)
+
+pub begin_closing-requires-clause-slot : goal.begin_closing-requires-clause-slot
+begin_closing-requires-clause-slot g c =
+    let at = goal.at.begin_closing-requires-clause-slot g c in
+    end_slot g.E.Deed.meaning c.args.layout c.args.book.now c.append.new.book c.args.log.now c.append.new.log _ _ _ _ _ (g.D.Device.counts c.args.device.now)
+    (g.D.Device.counts c.append.new.device) c.args.lane _
+    (read g at.After-end_cell-cell) c.requires.lane c.requires.stage (next g at.After-end_cell-cell)
+    (slots_are _ _ _ _ _ _ (g.D.Device.counts c.args.device.now) c.requires.world) c.in-Whole.ensures.appends
+
+pub begin_closing-requires-clause-room : goal.begin_closing-requires-clause-room
+begin_closing-requires-clause-room g c =
+    let at = goal.at.begin_closing-requires-clause-room g c in
+    has_records_room g.E.Deed.meaning c.args.layout c.args.book.now c.append.new.book c.args.log.now c.append.new.log _ _ _ _ _
+    (g.D.Device.counts c.args.device.now) (g.D.Device.counts c.append.new.device) c.args.lane _
+    (read g at.After-end_cell-cell) c.requires.lane c.requires.stage (next g at.After-end_cell-cell) _
+    (ap (λ (x : Lane _). x.transaction) (lane_read c.args.book.now c.args.lane c.index.result.now c.requires.lane c.index.ensures)) c.requires.world
+    c.in-Whole.ensures.appends
+
+pub go_on-requires : goal.go_on-requires
+go_on-requires g c = calls_on c.args.book.now c.append.new.book c.args.lane
+    (whole_pays g.E.Deed.meaning c.args.layout c.args.book.now c.append.new.book c.args.log.now c.append.new.log _ _ _ _ _ (g.D.Device.counts c.args.device.now)
+    (g.D.Device.counts c.append.new.device) c.args.lane _ c.requires.lane c.in-Whole.ensures.appends)
+    (is_calling _ _ _ _ _ _ (g.D.Device.counts c.args.device.now) c.args.lane (ap makes_events c.requires.stage) c.requires.world) c.append.ensures.book
+
+pub returns-in-Answered : goal.returns-in-Answered
+returns-in-Answered g c =
+    let at = goal.at.returns-in-Answered g c in
+    append_answered g.E.Deed.meaning c.args.layout c.args.book.now c.append.new.book c.args.log.now c.append.new.log _ _ _ _ _
+    (g.D.Device.counts c.args.device.now) (g.D.Device.counts c.append.new.device) c.args.lane _ _
+    (read g at.After-end_cell-cell) c.requires.lane (ap appends_in c.requires.stage) (next g at.After-end_cell-cell) c.in-Answered.ensures.appends
+
+pub returns-in-Stored : goal.returns-in-Stored
+returns-in-Stored g c =
+    let at = goal.at.returns-in-Stored g c in
+    end_is_stored g.E.Deed.meaning c.args.layout c.args.book.now c.append.new.book c.end_stored.new.self c.args.log.now c.append.new.log _ _ _ _ _
+    (g.D.Device.counts c.args.device.now) (g.D.Device.counts c.append.new.device) c.args.lane
+    _ _ _ _ (read g at.After-end_cell-cell) c.requires.lane c.requires.stage (next g at.After-end_cell-cell) c.in-Stored.ensures.appends c.part-part.ensures
+    c.end_stored.ensures.result c.end_stored.ensures.reserved c.end_stored.ensures.moves
+
+pub returns-in-Whole : goal.returns-in-Whole
+returns-in-Whole g c =
+    let at = goal.at.returns-in-Whole g c in
+    undone_settles g.E.Deed.meaning c.args.layout c.args.book.now c.append.new.book _ c.args.log.now c.append.new.log c.begin_closing.new.self _ _ _ _ _
+    (g.D.Device.counts c.args.device.now) (g.D.Device.counts c.append.new.device) c.args.lane _ _
+    (read g at.After-end_cell-cell) c.requires.lane c.requires.stage (ap is_commit c.requires.doing) (next g at.After-end_cell-cell) c.in-Whole.ensures.appends
+    (closing_turned (c.args.lane % c.args.layout.partitions) c.index.result.now.transaction _ c.append.new.log c.begin_closing.new.self
+    (ap (λ (x : Lane _). x.transaction) (lane_read c.args.book.now c.args.lane c.index.result.now c.requires.lane c.index.ensures))
+    c.begin_closing.ensures.kept c.begin_closing.ensures.number c.begin_closing.ensures.ledger c.begin_closing.ensures.slots)
+    c.go_on.ensures.result c.go_on.ensures.moves

@@ -1,0 +1,140 @@
+// Behind the end's fence: its transaction's records are closed, then the end, and buckets with only closed gates are taken out, all under the latch.
+ghost use Rattle.std.specs.Prelude.{◌≡◌, ◌⊎◌, ◌%◌, ◌<◌, length, None};
+ghost use Rattle.lane_types.specs.declared.call.Stepped.TheVariants as Stepped;
+ghost use Rattle.lane_book.specs.declared.lane.Doing.TheVariants as Doing;
+ghost use Rattle.lane_book.specs.FacesOf.{lane_at};
+ghost use Rattle.lane_book.specs.Lanes.{left};
+ghost use Rattle.lane_book.specs.Steps.{HasEntered};
+ghost use Rattle.lane_book.specs.Calls.{IsCalling, Moves};
+ghost use Rattle.log_keeper.specs.Parts.{rests};
+ghost use Rattle.log_keeper.specs.Keeper.{keeping_of};
+ghost use Rattle.txn_state.specs.ClosingLaws.{end_reply};
+ghost use Rattle.txn_state.specs.ReadLaws.{HasLogs};
+ghost use Rattle.txn_state.specs.Stages.{Closing, ClosingEnd, Dropping, stage_of, is_commit};
+ghost use Rattle.txn_core.specs.Clearing.{Clears};
+ghost use Rattle.txn_core.specs.Phases.{IsPhased};
+ghost use Rattle.txn_core.specs.States.{HasWorld};
+ghost use Rattle.txn_core.specs.Stepping.{StepsWorld};
+
+use crate::advancing::{Went, advance};
+use lane_book::{Book, Doing};
+use lane_traits::Device;
+use lane_types::{Deed, Stepped};
+use log_clearing::removal;
+use log_keeper::LogKeeper;
+use log_partition::PartView;
+use region_layout::Layout;
+use txn_state::parts::{CLOSE_END, DROP};
+
+// The call that ends a transaction is answered.
+fn end<E: Deed>(book: &mut Book<E>, lane: u32) -> Stepped
+    requires calling { IsCalling book.old lane }
+    requires doing { ((lane_at book.old lane).doing ≡ Doing.Commit) ⊎ ((lane_at book.old lane).doing ≡ Doing.Abort) }
+    requires entered { (lane_at book.old lane).doing ≡ Doing.Commit → HasEntered book.old lane }
+    ensures moves { Moves E.meaning book.old book.new lane None result (left (end_reply (is_commit (lane_at book.old lane).doing)) (lane_at book.old lane)) }
+    ensures result { result ≡ Stepped.Answered (end_reply (is_commit (lane_at book.old lane).doing)) }
+{
+    match book.doing(lane) {
+        Doing::Commit => book.committed(lane),
+        _ => book.aborted(lane),
+    }
+}
+
+// The next bucket of the lane's partition that has only closed gates is taken out; where there is none the latch is let go, and the call is answered.
+fn clear_next<D: Device, E: Deed>(
+    device: &D,
+    layout: Layout,
+    log: &mut LogKeeper,
+    book: &mut Book<E>,
+    lane: u32,
+) -> Stepped
+    requires calling { IsCalling book.old lane }
+    requires doing { ((lane_at book.old lane).doing ≡ Doing.Commit) ⊎ ((lane_at book.old lane).doing ≡ Doing.Abort) }
+    requires entered { (lane_at book.old lane).doing ≡ Doing.Commit → HasEntered book.old lane }
+    requires slots { length log.old.slots.items ≡ layout.partitions }
+    requires rests { ((keeping_of log.old).runs (lane % layout.partitions)).part ≡ rests }
+    requires logs { HasLogs layout (D.words device.now) }
+    ensures { Clears E.meaning layout log.old log.new (D.words device.now) book.old book.new lane result }
+{
+    let p = lane % layout.partitions;
+    let view = PartView::new(device, layout, p);
+    match removal(&view, layout) {
+        Some(found) => {
+            log.begin_removal(p, found);
+            book.go_on(lane, DROP)
+        }
+        None => {
+            log.release_latch(p);
+            end(book, lane)
+        }
+    }
+}
+
+// The transaction's records but its end are closed.
+pub(crate) fn close_records<D: Device, E: Deed>(
+    device: &mut D,
+    layout: Layout,
+    log: &mut LogKeeper,
+    book: &mut Book<E>,
+    lane: u32,
+) -> Stepped
+    requires lane { lane < length book.old.lanes.items }
+    requires stage { stage_of (lane_at book.old lane) ≡ Closing }
+    requires world { HasWorld E.meaning layout book.old log.old (D.cells device.old) (D.spare device.old) (D.counts device.old) }
+    ensures { StepsWorld E.meaning layout book.old book.new log.old log.new (D.cells device.old) (D.cells device.new) (D.spare device.old) (D.spare device.new) (D.counts device.old) (D.counts device.new) lane result }
+{
+    let transaction = book.lanes[lane as usize].transaction;
+    match advance(device, layout, log, book, lane) {
+        Went::Answered(answer) => answer,
+        // No append is under way.
+        Went::Stored(_) => book.stop(lane),
+        Went::Whole => {
+            log.begin_closing_end(lane % layout.partitions, transaction);
+            book.go_on(lane, CLOSE_END)
+        }
+    }
+}
+
+// Its end is closed.
+pub(crate) fn close_end<D: Device, E: Deed>(
+    device: &mut D,
+    layout: Layout,
+    log: &mut LogKeeper,
+    book: &mut Book<E>,
+    lane: u32,
+) -> Stepped
+    requires lane { lane < length book.old.lanes.items }
+    requires stage { stage_of (lane_at book.old lane) ≡ ClosingEnd }
+    requires phased { IsPhased (lane_at book.old lane) }
+    requires world { HasWorld E.meaning layout book.old log.old (D.cells device.old) (D.spare device.old) (D.counts device.old) }
+    ensures { StepsWorld E.meaning layout book.old book.new log.old log.new (D.cells device.old) (D.cells device.new) (D.spare device.old) (D.spare device.new) (D.counts device.old) (D.counts device.new) lane result }
+{
+    match advance(device, layout, log, book, lane) {
+        Went::Answered(answer) => answer,
+        // No append is under way.
+        Went::Stored(_) => book.stop(lane),
+        Went::Whole => clear_next(device, layout, log, book, lane),
+    }
+}
+
+// A bucket is taken out.
+pub(crate) fn drop_bucket<D: Device, E: Deed>(
+    device: &mut D,
+    layout: Layout,
+    log: &mut LogKeeper,
+    book: &mut Book<E>,
+    lane: u32,
+) -> Stepped
+    requires lane { lane < length book.old.lanes.items }
+    requires stage { stage_of (lane_at book.old lane) ≡ Dropping }
+    requires phased { IsPhased (lane_at book.old lane) }
+    requires world { HasWorld E.meaning layout book.old log.old (D.cells device.old) (D.spare device.old) (D.counts device.old) }
+    ensures { StepsWorld E.meaning layout book.old book.new log.old log.new (D.cells device.old) (D.cells device.new) (D.spare device.old) (D.spare device.new) (D.counts device.old) (D.counts device.new) lane result }
+{
+    match advance(device, layout, log, book, lane) {
+        Went::Answered(answer) => answer,
+        // No append is under way.
+        Went::Stored(_) => book.stop(lane),
+        Went::Whole => clear_next(device, layout, log, book, lane),
+    }
+}
