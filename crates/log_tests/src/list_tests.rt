@@ -1,4 +1,5 @@
 //! Lists through a stop at each event of each plan, and through the repair behind it.
+ghost use Rattle.persist_model.specs.declared.format.TheConstants.{RECOVERY_LANE};
 ghost use Rattle.std.specs.Prelude.{◌≤◌, length, slice_index, IsTrue};
 ghost use Rattle.atomic_list.specs.Reads.{HasList};
 ghost use Rattle.atomic_list.specs.Repairing.{CanRepair};
@@ -70,7 +71,7 @@ fn image(alloc: Global, chain: &[u32]) -> Result<Vec<u64>, Fail> {
 
 // Makes one event on the region.
 pub(crate) fn make<D: Device>(rt: &impl Abort, region: &mut D, lane: u32, event: Event)
-    requires { lane ≤ 16 }
+    requires { lane ≤ RECOVERY_LANE }
 {
     assert!(rt; make_event(region, lane, event));
 }

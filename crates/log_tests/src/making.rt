@@ -1,4 +1,5 @@
 // One event on a device.
+ghost use Rattle.persist_model.specs.declared.format.TheConstants.{RECOVERY_LANE};
 ghost use Rattle.std.specs.Prelude.{◌≡◌, ◌≤◌, IsTrue};
 ghost use Rattle.persist_model.specs.Region.{after};
 ghost use Rattle.lane_traits.specs.Device.{IsWithin};
@@ -20,7 +21,7 @@ pub fn is_inside(event: Event, size: u32) -> bool
 
 /// Makes the event, with memory for its store, and says whether it was made.
 pub fn make_event<D: Device>(region: &mut D, lane: u32, event: Event) -> bool
-    requires { lane ≤ 16 }
+    requires { lane ≤ RECOVERY_LANE }
     ensures { IsTrue result → D.cells region.new ≡ after (D.cells region.old) lane event }
 {
     if !is_inside(event, region.size()) {

@@ -1,4 +1,5 @@
 // Two devices that meet `Device` and begin with the same cells go on with the same cells.
+ghost use Rattle.persist_model.specs.declared.format.TheConstants.{RECOVERY_LANE};
 ghost use Rattle.std.specs.Prelude.{◌≡◌, ◌<◌, ◌≤◌, OnOk, length};
 ghost use Rattle.persist_model.specs.Region.{Region};
 ghost use Rattle.lane_traits.specs.Device.{IsWithin, stores_of, MAX_WORDS};
@@ -26,7 +27,7 @@ pub fn make_both<D: Device, E: Device>(
     lane: u32,
     event: Event,
 ) -> (Done, Done)
-    requires lane { lane ≤ 16 }
+    requires lane { lane ≤ RECOVERY_LANE }
     requires address { IsWithin (D.cells one.old).size event }
     requires one_spare { stores_of event ≤ D.spare one.old }
     requires other_spare { stores_of event ≤ E.spare other.old }

@@ -1,4 +1,5 @@
 //! 2,000 events that are drawn, on 64 words in both devices.
+ghost use Rattle.persist_model.specs.declared.format.TheConstants.{RECOVERY_LANE};
 ghost use Rattle.std.specs.Prelude.{◌≡◌, ◌<◌, ◌≤◌, length};
 ghost use Rattle.lane_traits.specs.Device.{IsWithin};
 
@@ -50,7 +51,7 @@ fn draw_event(draws: &mut Draws) -> (Event, u32)
 
 /// Makes an event.
 fn make<D: Device>(rt: &impl Abort, device: &mut D, lane: u32, event: Event)
-    requires lane { lane ≤ 16 }
+    requires lane { lane ≤ RECOVERY_LANE }
     requires address { IsWithin (D.cells device.old).size event }
     ensures { (D.cells device.new).size ≡ (D.cells device.old).size }
 {

@@ -1,11 +1,11 @@
 -- What a lane plans, and what begins in a partition.
-use Rattle.std.proofs.Common.{◌≡◌, ◌≢◌, inl, inr, ℕ, zero, suc, ◌+◌, ◌*◌, ◌<◌, ◌≤◌, ◌==◌, ◌^◌, Bool, true, false, not, nat_lt, Some, if◌then◌else◌, List, [], ◌∷◌, ◌++◌, length, take, refl, sym, ap, ◌∙◌, subst, arith, length-append}
+use Rattle.std.proofs.Common.{◌≡◌, inl, inr, ℕ, zero, suc, ◌+◌, ◌<◌, ◌≤◌, ◌==◌, Bool, true, false, Some, if◌then◌else◌, List, [], ◌∷◌, ◌++◌, length, take, refl, sym, ap, ◌∙◌, subst, arith, length-append}
 use Rattle.std.specs.Prelude.{slice_get}
 use Rattle.std.proofs.lemmas.List.{length-map}
 use Rattle.std.proofs.lemmas.Option.{slice_get_within}
 use Rattle.persist_model.specs.Region.{Words, Region, newest}
 use Rattle.persist_model.specs.Progress.{Write, write, latest}
-use Rattle.persist_model.specs.Records.{Record, Log, IsAmong, HasNo}
+use Rattle.persist_model.specs.Records.{Record, IsAmong, HasNo}
 use Rattle.persist_model.specs.Standing.{IsToDelete}
 use Rattle.persist_model.specs.Shape.{Shape}
 use Rattle.persist_model.specs.Chain.{out_event}
@@ -15,8 +15,8 @@ use Rattle.bucket_log.specs.declared.append.Place.{Place}
 use Rattle.bucket_log.specs.Plans.{closing, cell_plan, insertion_of, append_plan}
 use Rattle.bucket_log.specs.Appends.{region_append}
 use Rattle.plan_records.proofs.Passing.{passes_above}
-use Rattle.log_keeper.specs.Parts.{LogPart, rests, appends as adds, Running}
-use Rattle.log_keeper.specs.Ledger.{Noted, Drawn, settled_log}
+use Rattle.log_keeper.specs.Parts.{rests, appends as adds, Running}
+use Rattle.log_keeper.specs.Ledger.{Drawn}
 use Rattle.log_keeper.specs.Making.{is_over}
 use Rattle.log_keeper.specs.Keeper.{begun_in, appending}
 use Rattle.log_keeper.specs.Logged.{Keeping, begun, latched}
@@ -28,10 +28,10 @@ use Rattle.log_keeper.proofs.Runs.{runs_keep}
 use Rattle.log_keeper.proofs.Steps.{latches_pass}
 use Rattle.history_laws.specs.Histories.{fold}
 use Rattle.history_laws.specs.UnderWay.{Added, an_update, a_deletion, a_rollback, a_compensation, an_undone_end, a_commit_end, Adding, record_of_adding, UnderWay, appends, run_of}
-use Rattle.txn_laws.specs.Txns.{Gift, Txn, txn_at, with_txn, written}
+use Rattle.txn_laws.specs.Txns.{Txn, txn_at, with_txn, written}
 use Rattle.txn_laws.specs.Owners.{IsMine, AreOwners}
 use Rattle.txn_laws.specs.Heaps.{IsKept}
-use Rattle.txn_laws.specs.AreTransactions.{IsUpdateAt, AreUpdatesOf, recorded, IsGoing, IsTransaction}
+use Rattle.txn_laws.specs.AreTransactions.{AreUpdatesOf, recorded, IsGoing, IsTransaction}
 use Rattle.txn_laws.specs.NextRecords.{is_end, ended_by}
 use Rattle.txn_laws.specs.PartsOf.{Fits, IsPartIn}
 use Rattle.txn_laws.specs.Going.{with_under}

@@ -1,5 +1,5 @@
 -- A transaction begins, and is over.
-use Rattle.std.proofs.Common.{◌≡◌, ◌≢◌, ◌⊎◌, inl, inr, ℕ, ◌<◌, ◌≤◌, Bool, true, false, List, [], ◌∷◌, ◌++◌, length, take, refl, sym, ap, ◌∙◌, subst, arith}
+use Rattle.std.proofs.Common.{◌≡◌, ◌≢◌, inl, inr, ℕ, ◌<◌, ◌≤◌, Bool, true, false, List, [], ◌∷◌, ◌++◌, length, take, refl, sym, ap, ◌∙◌, subst, arith}
 use Rattle.std.proofs.lemmas.Bool.Decides.{eqb_tells}
 use Rattle.persist_model.specs.Region.{Words, Region, IsCandidate, newest}
 use Rattle.persist_model.specs.Progress.{Write, start, latest}
@@ -11,15 +11,15 @@ use Rattle.persist_model.proofs.Tracking.{Tracks-settled}
 use Rattle.log_laws.specs.Recovery.{HasDecidingRecord}
 use Rattle.history_laws.specs.Histories.{Entry, value_behind, fold}
 use Rattle.history_laws.specs.UnderWay.{UnderWay, nothing, appends, closes, takes_back, drops}
-use Rattle.txn_laws.specs.Txns.{Gift, Txn, idle, txn_at, with_txn, written}
+use Rattle.txn_laws.specs.Txns.{Txn, idle, txn_at, with_txn, written}
 use Rattle.txn_laws.specs.Owners.{IsMine, IsNobodys, AreOwners}
 use Rattle.txn_laws.specs.Heaps.{StandsForHeap, IsHeapOf, IsKept}
 use Rattle.txn_laws.specs.AreTransactions.{IsTransaction, AreTransactions}
 use Rattle.txn_laws.specs.PartsOf.{Fits, IsResting, IsPartIn}
 use Rattle.txn_laws.specs.Worlds.{World, with_lane, IsWorldAt}
-use Rattle.txn_laws.specs.Beginnings.{begun, MayBegin, BeginsKeep, MayLeave, LeavesKeep, MayLeaveUnrecorded, UnrecordedLeave, UnrecordedCommit}
+use Rattle.txn_laws.specs.Beginnings.{begun, MayBegin, BeginsKeep, LeavesKeep, UnrecordedLeave, UnrecordedCommit}
 use Rattle.txn_laws.proofs.Finding.{idle_none}
-use Rattle.txn_laws.proofs.Lanes.{with_here, with_other, by_lane, whose, IsFound, found_of, now_found, owners_changed, numbers_changed, parts_changed, parts_rest}
+use Rattle.txn_laws.proofs.Lanes.{with_other, by_lane, whose, IsFound, found_of, now_found, owners_changed, numbers_changed, parts_changed, parts_rest}
 use Rattle.txn_laws.proofs.SameRecords.{transaction_same, own_none}
 
 -- a word that no record decides stands at itself

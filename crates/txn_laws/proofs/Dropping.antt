@@ -1,18 +1,16 @@
 -- The last event of a removal.
-use Rattle.std.proofs.Common.{◌≡◌, ◌≢◌, inl, inr, ℕ, ◌+◌, ◌<◌, ◌≤◌, ◌==◌, Bool, true, false, if◌then◌else◌, List, length, refl, sym, ap, ◌∙◌, subst, arith}
-use Rattle.std.proofs.lemmas.Bool.Decides.{eqb_tells}
+use Rattle.std.proofs.Common.{◌≡◌, ◌≢◌, inl, inr, ℕ, ◌+◌, ◌<◌, ◌≤◌, ◌==◌, Bool, true, false, if◌then◌else◌, List, refl, sym, ap, ◌∙◌, subst, arith}
 use Rattle.persist_model.specs.declared.event.Event.{Event}
 use Rattle.persist_model.specs.Region.{Words, Region}
 use Rattle.persist_model.specs.Records.{Record}
-use Rattle.persist_model.specs.Shape.{Shape, shape_of, part_of, heap_words, log_words, IsShape}
-use Rattle.persist_model.specs.Chain.{view}
+use Rattle.persist_model.specs.Shape.{Shape, part_of, heap_words, IsShape}
 use Rattle.persist_model.specs.State.{State}
 use Rattle.log_laws.specs.MoveRoom.{HasCells, HasItsCells}
 use Rattle.atomic_list.specs.declared.plans.Remove.{Remove}
 use Rattle.bucket_log.proofs.Partitions.{few_parts}
 use Rattle.log_clearing.specs.Removals.{with_room, more_room}
 use Rattle.log_clearing.proofs.RemovalStates.{room_keeps}
-use Rattle.log_keeper.specs.Parts.{drops as takes_out, LogPart, Running, CanRun, words_behind}
+use Rattle.log_keeper.specs.Parts.{drops as takes_out, LogPart, CanRun, words_behind}
 use Rattle.log_keeper.specs.Laws.{HasDropped}
 use Rattle.log_keeper.specs.Making.{made_part}
 use Rattle.log_keeper.specs.Logged.{Keeping, resting, one_more, with_chain}
@@ -33,7 +31,6 @@ use Rattle.txn_laws.specs.PartsOf.{Fits, IsPartIn}
 use Rattle.txn_laws.specs.Going.{with_under}
 use Rattle.txn_laws.specs.Worlds.{World, IsWorldAt}
 use Rattle.txn_laws.specs.Dropped.{dropped, RemovalsSettle}
-use Rattle.txn_laws.proofs.Moments.{append_part}
 use Rattle.txn_laws.proofs.Storing.{among_taken}
 use Rattle.txn_laws.proofs.LogEvents.{LeavesHeap, next_is_log, leaves_heap, kept_beside}
 

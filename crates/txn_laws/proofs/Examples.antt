@@ -1,11 +1,11 @@
 -- The definitions on literals: transaction 7 of lane 0 has written 5 to word 170 and gives the block at 176 back; transaction 9 of lane 1 has
 -- written 1 and then 2 to word 190, and the second isn't stored yet.
-use Rattle.std.proofs.Common.{◌≡◌, ℕ, Bool, true, false, ◌==◌, ◌||◌, [], ◌∷◌, refl, arith}
+use Rattle.std.proofs.Common.{◌≡◌, ℕ, true, false, ◌==◌, ◌||◌, [], ◌∷◌, refl, arith}
 use Rattle.persist_model.specs.Region.{Words}
 use Rattle.persist_model.specs.Progress.{write}
 use Rattle.persist_model.specs.Records.{Record}
 use Rattle.persist_model.specs.Kinds.{NO_OUTCOME, UPDATE}
-use Rattle.txn_laws.specs.Txns.{Txn, idle, idle_lanes, txn_at, with_txn, entry_of, written}
+use Rattle.txn_laws.specs.Txns.{Txn, idle, idle_lanes, txn_at, with_txn}
 use Rattle.txn_laws.specs.Flights.{flight_of}
 use Rattle.txn_laws.specs.Owners.{IsMine}
 use Rattle.txn_laws.specs.Heaps.{now_of}

@@ -1,18 +1,17 @@
 -- Where another lane's record is settled, and its commit joins, what is under way elsewhere fits as it did.
-use Rattle.std.proofs.Common.{◌≡◌, ◌≢◌, ◌⊎◌, inl, inr, ℕ, ◌+◌, ◌<◌, ◌≤◌, ◌==◌, ◌-◌, Bool, true, false, Some, if◌then◌else◌, List, [], ◌∷◌, length, take, refl, sym, ap, ◌∙◌, subst, arith}
+use Rattle.std.proofs.Common.{◌≡◌, ◌≢◌, inl, inr, ℕ, Bool, if◌then◌else◌, List, [], ◌∷◌, length, take, refl, sym, ap, ◌∙◌, subst, arith}
 use Rattle.std.proofs.lemmas.Bool.Decides.{eqb_tells}
 use Rattle.persist_model.specs.Region.{Words}
 use Rattle.persist_model.specs.Progress.{Write, write, latest}
 use Rattle.persist_model.specs.Kinds.{CHECKPOINT}
-use Rattle.persist_model.specs.Records.{Record, Log, IsAmong, Has, IsOf, NamesWord}
+use Rattle.persist_model.specs.Records.{Record, Log, IsAmong, IsOf, NamesWord}
 use Rattle.persist_model.specs.Need.{has_of, need_in}
 use Rattle.persist_model.specs.Shape.{Shape, part_of}
 use Rattle.persist_model.specs.State.{State}
 use Rattle.log_laws.specs.Recovering.{with_heap}
 use Rattle.log_laws.specs.MoveRoom.{HasCells, HasItsCells}
 use Rattle.log_laws.proofs.Needs.{has_of_true}
-use Rattle.log_clearing.specs.Closed.{IsListed}
-use Rattle.plan_records.specs.Passing.{inserted, MayPass, Passes}
+use Rattle.plan_records.specs.Passing.{inserted, Passes}
 use Rattle.plan_records.specs.Appends.{with_record}
 use Rattle.plan_records.specs.Courses.{own_records}
 use Rattle.plan_records.proofs.Passing.{inserted_in, inserted_out}
@@ -20,10 +19,10 @@ use Rattle.log_keeper.specs.Parts.{CanRun}
 use Rattle.history_laws.specs.UnderWay.{Added, an_update, a_deletion, a_rollback, a_compensation, an_undone_end, a_commit_end, Adding, record_of_adding, UnderWay, nothing, appends, closes, takes_back, drops, run_of}
 use Rattle.history_laws.proofs.Owning.{of_cases, need_passing}
 use Rattle.history_laws.proofs.Conditions.{added_plain}
-use Rattle.txn_laws.specs.Txns.{Gift, Txn}
+use Rattle.txn_laws.specs.Txns.{Txn}
 use Rattle.txn_laws.specs.Owners.{IsMine}
-use Rattle.txn_laws.specs.AreTransactions.{IsUpdateAt, AreUpdatesOf, recorded, IsTransaction}
-use Rattle.txn_laws.specs.NextRecords.{ComesNext, IsAppendOf}
+use Rattle.txn_laws.specs.AreTransactions.{AreUpdatesOf, recorded, IsTransaction}
+use Rattle.txn_laws.specs.NextRecords.{ComesNext}
 use Rattle.txn_laws.specs.PartsOf.{Fits}
 use Rattle.txn_laws.proofs.Moments.{record_by}
 use Rattle.txn_laws.proofs.Records.{changed_own}

@@ -1,5 +1,5 @@
 -- The commits in flight, lane by lane.
-use Rattle.std.proofs.Common.{◌≡◌, ◌≢◌, ◌⊎◌, inl, inr, ℕ, zero, suc, Bool, true, false, not, ◌&&◌, if◌then◌else◌, List, [], ◌∷◌, ◌++◌, refl, sym, ap, ◌∙◌, arith}
+use Rattle.std.proofs.Common.{◌≡◌, ◌≢◌, ◌⊎◌, inl, inr, ℕ, zero, suc, Bool, true, false, not, ◌&&◌, if◌then◌else◌, List, [], ◌∷◌, ◌++◌, refl, ap, arith}
 use Rattle.persist_model.specs.Records.{IsAmong}
 use Rattle.history_laws.specs.Histories.{Entry}
 use Rattle.txn_laws.specs.Txns.{Txn, idle, txn_at, entry_of}

@@ -1,11 +1,10 @@
 -- What the log has of a transaction that gains a record.
-use Rattle.std.proofs.Common.{◌≡◌, ◌≢◌, ◌⊎◌, inl, inr, ℕ, suc, ◌+◌, ◌<◌, ◌≤◌, ◌==◌, ◌&&◌, Bool, true, false, Some, if◌then◌else◌, List, [], ◌∷◌, ◌++◌, length, take, refl, sym, ap, ◌∙◌, subst, arith}
-use Rattle.std.specs.Prelude.{slice_get}
+use Rattle.std.proofs.Common.{◌≡◌, ◌≢◌, ◌⊎◌, inl, inr, ℕ, ◌<◌, ◌==◌, ◌&&◌, Bool, true, false, List, [], ◌∷◌, ◌++◌, length, take, refl, sym, ap, ◌∙◌, subst, arith}
 use Rattle.std.proofs.lemmas.Bool.Decides.{eqb_tells}
 use Rattle.persist_model.specs.Region.{Words}
 use Rattle.persist_model.specs.Kinds.{CHECKPOINT, COMMITTED, COMPENSATION, DELETION, END, ROLLBACK, UPDATE}
 use Rattle.persist_model.specs.Progress.{Write, write, latest}
-use Rattle.persist_model.specs.Records.{Record, Log, IsAmong, Has, HasNo, IsOf, IsUpdate, IsCompensation, IsRollback, IsDeletion, IsEnd, IsEndOf, IsChange, NamesWord, IsRunning}
+use Rattle.persist_model.specs.Records.{Record, Log, IsAmong, Has, HasNo, IsOf, IsUpdate, IsRollback, IsChange, NamesWord, IsRunning}
 use Rattle.persist_model.specs.Standing.{IsLatest}
 use Rattle.persist_model.specs.Order.{is_kind_of, undo_point, Bars}
 use Rattle.persist_model.specs.Need.{to_undo, rest}
@@ -15,7 +14,7 @@ use Rattle.persist_model.proofs.Tracking.{latest-pushed, latest-push_other}
 use Rattle.log_laws.specs.Moves.{IsDeletionBy, IsChangeBy}
 use Rattle.txn_laws.specs.Txns.{Gift, Txn}
 use Rattle.txn_laws.specs.Owners.{IsMine}
-use Rattle.txn_laws.specs.AreTransactions.{IsUpdateAt, AreUpdatesOf, recorded, IsGoing, IsOver, IsTransaction}
+use Rattle.txn_laws.specs.AreTransactions.{IsUpdateAt, AreUpdatesOf, recorded, IsGoing, IsTransaction}
 
 kind_yes : (t k : ℕ) (r : Record) → r.transaction ≡ t → r.kind ≡ k → is_kind_of t k r ≡ true
 kind_yes t k r of kind = elim (eqb_tells r.transaction t) [

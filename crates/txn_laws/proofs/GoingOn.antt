@@ -1,16 +1,15 @@
 -- An event of a part that isn't its last.
-use Rattle.std.proofs.Common.{◌≡◌, ◌≢◌, inl, inr, ℕ, suc, ◌+◌, ◌<◌, ◌≤◌, ◌==◌, Bool, true, false, if◌then◌else◌, List, length, take, refl, sym, ap, ◌∙◌, subst, arith}
-use Rattle.std.proofs.lemmas.Bool.Decides.{eqb_tells}
+use Rattle.std.proofs.Common.{◌≡◌, ◌≢◌, ℕ, suc, ◌+◌, ◌<◌, ◌==◌, Bool, true, if◌then◌else◌, List, length, take, refl, sym, ap, ◌∙◌, subst, arith}
 use Rattle.persist_model.specs.declared.event.Event.{Event}
-use Rattle.persist_model.specs.Region.{Words, Region, IsCandidate, newest, after}
+use Rattle.persist_model.specs.Region.{Words, Region, newest}
 use Rattle.persist_model.specs.Progress.{latest}
 use Rattle.persist_model.specs.Records.{Record, Log, IsAmong, HasNo}
 use Rattle.persist_model.specs.Standing.{IsToDelete}
-use Rattle.persist_model.specs.Shape.{Shape, IsHeapWord, IsShape}
+use Rattle.persist_model.specs.Shape.{Shape, IsShape}
 use Rattle.persist_model.specs.State.{State}
 use Rattle.log_keeper.specs.Parts.{rests, appends as adds, closes as shuts, takes_back as drops_deletions, drops as takes_out, waits_for, LogPart, Running}
-use Rattle.log_keeper.specs.Making.{made_part, is_over, gone_on as kept_on}
-use Rattle.log_keeper.specs.Logged.{Keeping, one_more, plan_in, waiting, IsAlone}
+use Rattle.log_keeper.specs.Making.{made_part}
+use Rattle.log_keeper.specs.Logged.{Keeping, one_more, plan_in}
 use Rattle.log_keeper.specs.Events.{IsNextEvent, region_made}
 use Rattle.log_keeper.proofs.Progressing.{by_part, size_after, waits_is}
 use Rattle.log_keeper.proofs.Made.{goes_on, events_go_on}

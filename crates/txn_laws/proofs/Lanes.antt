@@ -1,19 +1,18 @@
 -- One lane's transaction becomes another.
-use Rattle.std.proofs.Common.{◌≡◌, ◌≢◌, ◌⊎◌, inl, inr, ℕ, zero, suc, ◌<◌, ◌≤◌, ◌==◌, Bool, true, false, List, [], ◌∷◌, length, refl, sym, ap, ◌∙◌, subst, arith}
+use Rattle.std.proofs.Common.{◌≡◌, ◌≢◌, ◌⊎◌, inl, inr, ℕ, zero, suc, ◌<◌, ◌≤◌, Bool, true, false, List, [], ◌∷◌, length, refl, sym, ap, ◌∙◌, subst, arith}
 use Rattle.std.proofs.lemmas.Bool.Decides.{eqb_tells}
-use Rattle.persist_model.specs.Region.{Words, Region, IsCandidate, newest}
+use Rattle.persist_model.specs.Region.{Words, Region, newest}
 use Rattle.persist_model.specs.Progress.{latest}
-use Rattle.persist_model.specs.Records.{Record, Log, IsAmong, Has, HasNo, IsOf}
+use Rattle.persist_model.specs.Records.{Record, Log, HasNo, IsOf}
 use Rattle.persist_model.specs.Standing.{IsToDelete}
 use Rattle.persist_model.specs.Shape.{Shape, IsHeapWord}
 use Rattle.persist_model.specs.State.{State}
-use Rattle.log_keeper.specs.Parts.{rests, appends as adds, closes as shuts, takes_back as drops_deletions, LogPart, Running}
+use Rattle.log_keeper.specs.Parts.{rests, appends as adds, closes as shuts, takes_back as drops_deletions, Running}
 use Rattle.log_keeper.specs.Logged.{Keeping}
 use Rattle.history_laws.specs.UnderWay.{UnderWay, nothing, appends, closes, takes_back, drops, record_of_adding, run_of}
-use Rattle.txn_laws.specs.Txns.{Gift, Txn, idle, txn_at, with_txn, written}
+use Rattle.txn_laws.specs.Txns.{Txn, txn_at, with_txn, written}
 use Rattle.txn_laws.specs.Owners.{IsMine, IsNobodys, AreOwners}
 use Rattle.txn_laws.specs.Heaps.{now_of}
-use Rattle.txn_laws.specs.AreTransactions.{IsTransaction, AreTransactions}
 use Rattle.txn_laws.specs.PartsOf.{Fits, IsResting, IsPartIn}
 use Rattle.txn_laws.proofs.Finding.{idle_none, now_own, now_nobodys}
 

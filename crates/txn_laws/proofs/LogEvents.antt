@@ -1,19 +1,16 @@
 -- An event of a part of the log leaves the heap's words, but for what a fence makes durable.
-use Rattle.std.proofs.Common.{◌≡◌, ◌≢◌, inl, inr, ℕ, ◌+◌, ◌<◌, ◌≤◌, List, [], ◌∷◌, ◌++◌, length, refl, sym, ap, ◌∙◌, subst, arith}
+use Rattle.std.proofs.Common.{◌≡◌, inl, inr, ℕ, ◌+◌, ◌<◌, List, [], ◌∷◌, ◌++◌, length, sym, ap, subst, arith}
 use Rattle.std.proofs.lemmas.Bool.Decides.{eqb_tells}
-use Rattle.std.specs.Prelude.{Some, slice_get}
 use Rattle.persist_model.specs.declared.event.Event.{Event}
 use Rattle.persist_model.specs.declared.event.Event.TheVariants.{Store, PStore, WriteBack, Fence}
 use Rattle.persist_model.specs.declared.event.Candidate.{Candidate}
-use Rattle.persist_model.specs.Region.{Words, Region, candidate, mark_last, IsCandidate, newest, after}
-use Rattle.persist_model.specs.Progress.{advance, Tracks, IsAside, IsDurable}
+use Rattle.persist_model.specs.Region.{Words, Region, candidate, IsCandidate, newest, after}
+use Rattle.persist_model.specs.Progress.{advance, Tracks, IsDurable}
 use Rattle.persist_model.specs.Shape.{Shape, heap, IsHeapWord}
 use Rattle.persist_model.specs.State.{State}
 use Rattle.persist_model.proofs.Candidates.{IsCandidate-fenced, newest-fenced}
 use Rattle.persist_model.proofs.Images.{at-with_word_other}
 use Rattle.persist_model.proofs.Tracking.{Tracks-event, Tracks-aside}
-use Rattle.region_layout.specs.Layout.{IsAllowed}
-use Rattle.bucket_log.specs.Words.{IsPartWord}
 use Rattle.bucket_log.specs.PartWords.{IsOnPart}
 use Rattle.bucket_log.proofs.Partitions.{part_word_below}
 use Rattle.log_keeper.specs.Logged.{Keeping, plan_in, IsLoggedAt}

@@ -1,19 +1,16 @@
 -- At each image of a world its keeper, lanes and history make a moment.
-use Rattle.std.proofs.Common.{◌≡◌, ◌≢◌, ◌⊎◌, inl, inr, ℕ, ◌+◌, ◌<◌, ◌≤◌, Bool, true, false, not, nat_lt, if◌then◌else◌, List, [], ◌∷◌, length, take, refl, sym, ap, ◌∙◌, subst, arith}
+use Rattle.std.proofs.Common.{◌≡◌, ◌≢◌, inl, inr, ℕ, ◌+◌, ◌<◌, ◌≤◌, Bool, true, false, not, nat_lt, if◌then◌else◌, List, length, take, refl, sym, ap, ◌∙◌, subst, arith}
 use Rattle.std.proofs.lemmas.Bool.Decides.{nat_tests}
 use Rattle.std.proofs.lemmas.List.{take_all}
-use Rattle.persist_model.specs.Region.{Words, Region, IsCandidate, MayStand, newest}
-use Rattle.persist_model.specs.Kinds.{CHECKPOINT}
+use Rattle.persist_model.specs.Region.{Words, Region, IsCandidate, newest}
 use Rattle.persist_model.specs.Progress.{latest}
-use Rattle.persist_model.specs.Records.{Record, Log, IsAmong, Has, HasNo, IsOf, IsRollback, IsDeletion, NamesWord, IsRunning, IsEnded, IsCommitted}
-use Rattle.persist_model.specs.Standing.{IsToDelete, IsLatest}
+use Rattle.persist_model.specs.Records.{Record, IsAmong, NamesWord, IsRunning, IsEnded, IsCommitted}
+use Rattle.persist_model.specs.Standing.{IsLatest}
 use Rattle.persist_model.specs.Order.{undo_point}
 use Rattle.persist_model.specs.Need.{to_undo}
-use Rattle.persist_model.specs.Shape.{Shape, shape_of, part_of, IsBucketOf, log_words, heap_words, words_of_shape, IsHeapWord, IsShape}
-use Rattle.persist_model.specs.Chain.{view}
+use Rattle.persist_model.specs.Shape.{Shape, part_of, IsBucketOf, heap_words, IsHeapWord}
 use Rattle.persist_model.specs.State.{State}
-use Rattle.log_laws.specs.Moves.{IsOfRunning, MayName, IsDeletionBy, IsChangeBy}
-use Rattle.log_laws.proofs.Deciding.{has_or_none}
+use Rattle.log_laws.specs.Moves.{IsOfRunning, MayName, IsChangeBy}
 use Rattle.region_layout.specs.Layout.{IsAllowed}
 use Rattle.bucket_log.specs.declared.append.Place.{Place}
 use Rattle.bucket_log.specs.Appends.{CanAppend, region_append}
@@ -21,27 +18,24 @@ use Rattle.bucket_log.specs.Places.{IsPlaceBy}
 use Rattle.bucket_log.proofs.AppendImages.{Each-among}
 use Rattle.bucket_log.proofs.Partitions.{part_of_cell}
 use Rattle.plan_records.specs.Cells.{appended}
-use Rattle.plan_records.specs.Conditions.{CanUpdate, AreLast, AreWritten}
 use Rattle.plan_records.proofs.Changes.{heap_word_is}
 use Rattle.log_keeper.specs.Parts.{appends as adds, Running, CanRun}
-use Rattle.log_keeper.specs.Ledger.{Noted, Settled, settled_log}
 use Rattle.log_keeper.specs.Making.{is_over}
-use Rattle.log_keeper.specs.Logged.{Keeping, IsLoggedAt}
+use Rattle.log_keeper.specs.Logged.{IsLoggedAt}
 use Rattle.log_keeper.proofs.Ledgers.{in_ledger}
 use Rattle.history_laws.specs.Histories.{Entry, LeavesWord, fold}
 use Rattle.history_laws.specs.UnderWay.{Added, an_update, a_deletion, a_rollback, a_compensation, an_undone_end, a_commit_end, cell_of, Adding, record_of_adding, UnderWay, nothing, appends, closes, takes_back, drops, run_of, IsStored, IsAddedIn}
-use Rattle.history_laws.specs.Moments.{IsOldOf, IsEntryOf, IsInFlight, CanAdd, Serves, IsReady, IsRunningIn, AreTogether, IsMoment}
+use Rattle.history_laws.specs.Moments.{IsEntryOf, IsInFlight, CanAdd, Serves, IsRunningIn, AreTogether, IsMoment}
 use Rattle.history_laws.proofs.ImagesStand.{kept_regions_stand}
-use Rattle.history_laws.proofs.Conditions.{added_plain}
-use Rattle.txn_laws.specs.Txns.{Gift, Txn, txn_at, entry_of, written}
+use Rattle.txn_laws.specs.Txns.{Txn, txn_at, entry_of, written}
 use Rattle.txn_laws.specs.Flights.{flight_of}
 use Rattle.txn_laws.specs.Owners.{IsMine}
-use Rattle.txn_laws.specs.AreTransactions.{IsGoing, recorded, IsTransaction}
+use Rattle.txn_laws.specs.AreTransactions.{recorded}
 use Rattle.txn_laws.specs.NextRecords.{ComesNext, is_end, IsAppendOf}
 use Rattle.txn_laws.specs.PartsOf.{Fits}
 use Rattle.txn_laws.specs.Worlds.{World, IsWorldAt}
 use Rattle.txn_laws.specs.Laws.{WorldsStand}
-use Rattle.txn_laws.proofs.Flying.{IsFlying, IsEntryAt, IsSplitAt, flight_from, is_in_flight, split_at}
+use Rattle.txn_laws.proofs.Flying.{IsFlying, IsEntryAt, flight_from, is_in_flight, split_at}
 use Rattle.txn_laws.proofs.Finding.{now_own, kept_is, stands_word}
 use Rattle.txn_laws.proofs.Records.{changed_own, deleted_own, entry_leaves, entry_is, word_free, not_deleted}
 

@@ -1,17 +1,17 @@
 -- The records of the lanes' transactions.
-use Rattle.std.proofs.Common.{◌≡◌, ◌≢◌, ◌⊎◌, inl, inr, ℕ, ◌≤◌, true, false, List, [], ◌∷◌, ◌++◌, map, length, take, refl, sym, ap, ◌∙◌, subst, arith}
+use Rattle.std.proofs.Common.{◌≡◌, ◌≢◌, ◌⊎◌, inl, inr, ℕ, List, [], ◌∷◌, ◌++◌, map, length, sym, ap, ◌∙◌, subst, arith}
 use Rattle.std.proofs.lemmas.List.{take_all}
 use Rattle.persist_model.specs.Region.{Words}
 use Rattle.persist_model.specs.Kinds.{CHECKPOINT}
 use Rattle.persist_model.specs.Progress.{Write, latest}
-use Rattle.persist_model.specs.Records.{Record, Log, IsAmong, Has, HasNo, IsOf, IsDeletion, NamesWord, IsRunning, IsCommitted}
-use Rattle.persist_model.specs.Standing.{IsToDelete, IsLatest}
+use Rattle.persist_model.specs.Records.{Record, Log, IsAmong, HasNo, IsOf, NamesWord, IsRunning}
+use Rattle.persist_model.specs.Standing.{IsToDelete}
 use Rattle.persist_model.specs.Order.{Bars}
 use Rattle.persist_model.specs.Shape.{Shape}
-use Rattle.log_laws.specs.Moves.{MayName, IsDeletionBy, IsChangeBy}
-use Rattle.history_laws.specs.Histories.{Entry, LeavesWord}
+use Rattle.log_laws.specs.Moves.{IsDeletionBy, IsChangeBy}
+use Rattle.history_laws.specs.Histories.{LeavesWord}
 use Rattle.history_laws.specs.Moments.{IsEntryOf}
-use Rattle.txn_laws.specs.Txns.{Gift, Txn, txn_at, zero_of, entry_of}
+use Rattle.txn_laws.specs.Txns.{Txn, txn_at, zero_of, entry_of}
 use Rattle.txn_laws.specs.Owners.{IsMine, AreOwners}
 use Rattle.txn_laws.specs.AreTransactions.{IsGoing, recorded, IsTransaction, AreTransactions}
 use Rattle.txn_laws.proofs.Written.{latest-append, latest_elsewhere, among_zeros, zeros_make}

@@ -1,12 +1,12 @@
 -- What the log has of a transaction hangs on its own records alone.
-use Rattle.std.proofs.Common.{◌≡◌, ◌≢◌, ◌⊎◌, inl, inr, ℕ, List, [], ◌∷◌, refl, sym, ap, ◌∙◌, subst, arith}
+use Rattle.std.proofs.Common.{◌≡◌, inl, inr, ℕ, [], ◌∷◌, refl, sym, ap, ◌∙◌, subst, arith}
 use Rattle.persist_model.specs.Region.{Words}
-use Rattle.persist_model.specs.Records.{Record, Log, IsAmong, Has, HasNo, IsOf, IsEndOf, IsRunning, IsCommitted}
+use Rattle.persist_model.specs.Records.{Record, Log, IsAmong, HasNo, IsOf, IsRunning, IsCommitted}
 use Rattle.persist_model.specs.Standing.{IsLatest}
-use Rattle.persist_model.specs.Order.{undo_point, Bars}
+use Rattle.persist_model.specs.Order.{Bars}
 use Rattle.persist_model.specs.Need.{to_undo}
-use Rattle.persist_model.specs.Shape.{Shape, part_of}
-use Rattle.log_laws.specs.Moves.{IsDeletionBy, IsChangeBy}
+use Rattle.persist_model.specs.Shape.{Shape}
+use Rattle.log_laws.specs.Moves.{IsChangeBy}
 use Rattle.plan_records.specs.Courses.{own_records}
 use Rattle.plan_records.proofs.HeapOwn.{change_of, undo_point_stays}
 use Rattle.plan_records.proofs.OwnRecords.{own_in, own_out, to_undo_own}

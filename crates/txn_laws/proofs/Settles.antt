@@ -1,13 +1,12 @@
 -- The last event of an append, by the kind of its record.
-use Rattle.std.proofs.Common.{◌≡◌, ◌≢◌, ◌⊎◌, inl, inr, ℕ, ◌+◌, ◌<◌, ◌≤◌, Bool, true, false, List, [], ◌∷◌, ◌++◌, length, take, map, refl, sym, ap, ◌∙◌, subst, arith}
+use Rattle.std.proofs.Common.{◌≡◌, inl, inr, ℕ, ◌<◌, true, false, List, [], ◌∷◌, ◌++◌, length, map, refl, sym, ap, ◌∙◌, subst, arith}
 use Rattle.std.proofs.lemmas.List.{take_all}
 use Rattle.persist_model.specs.declared.event.Event.{Event}
-use Rattle.persist_model.specs.Region.{Words, Region, IsCandidate, newest}
+use Rattle.persist_model.specs.Region.{Words, Region, newest}
 use Rattle.persist_model.specs.Kinds.{COMMITTED, END}
 use Rattle.persist_model.specs.Progress.{Write, latest}
-use Rattle.persist_model.specs.Records.{Record, Log, IsAmong, HasNo, IsOf, NamesWord}
+use Rattle.persist_model.specs.Records.{Record, Log, IsAmong, HasNo, IsOf}
 use Rattle.persist_model.specs.Standing.{IsToDelete, Stands}
-use Rattle.persist_model.specs.Need.{rest}
 use Rattle.persist_model.specs.Shape.{Shape, part_of, heap, heap_words, IsHeapWord}
 use Rattle.persist_model.specs.State.{State, IsSoundState}
 use Rattle.persist_model.proofs.Candidates.{IsCandidate_newest}
@@ -28,16 +27,14 @@ use Rattle.history_laws.proofs.AppendsBeside.{Leaves}
 use Rattle.history_laws.proofs.Conditions.{added_plain}
 use Rattle.history_laws.proofs.Folding.{value_append}
 use Rattle.history_laws.proofs.Growing.{stands_grown}
-use Rattle.txn_laws.specs.Txns.{Gift, Txn, txn_at, written, zero_of, entry_of}
-use Rattle.txn_laws.specs.Owners.{IsMine, IsNobodys}
-use Rattle.txn_laws.specs.Heaps.{StandsForHeap}
+use Rattle.txn_laws.specs.Txns.{Txn, txn_at, written, zero_of, entry_of}
+use Rattle.txn_laws.specs.Owners.{IsMine}
 use Rattle.txn_laws.specs.AreTransactions.{IsGoing, IsTransaction}
-use Rattle.txn_laws.specs.NextRecords.{ComesNext, IsAppendOf}
+use Rattle.txn_laws.specs.NextRecords.{IsAppendOf}
 use Rattle.txn_laws.specs.Worlds.{World, IsWorldAt}
-use Rattle.txn_laws.specs.Settled.{txn_behind, history_behind, settled_with, world_behind, base_behind, state_behind, AppendsSettle}
+use Rattle.txn_laws.specs.Settled.{txn_behind, settled_with, world_behind, base_behind, state_behind, AppendsSettle}
 use Rattle.txn_laws.proofs.Written.{latest-append, latest_elsewhere, among_zeros}
 use Rattle.txn_laws.proofs.Records.{entry_leaves, entry_is}
-use Rattle.txn_laws.proofs.Moments.{record_by}
 use Rattle.txn_laws.proofs.SameRecords.{transaction_same}
 use Rattle.txn_laws.proofs.Gaining.{updated_told, undone_told, rolled_told, given_told, ended_told}
 use Rattle.txn_laws.proofs.Settling.{mixed, fits, told, own_is, above, stands_in, leaves_there, sound_there, before_there, back_there, settled_there}

@@ -1,29 +1,24 @@
 -- The last event of an append.
-use Rattle.std.proofs.Common.{◌≡◌, ◌≢◌, ◌⊎◌, inl, inr, ℕ, suc, ◌+◌, ◌*◌, ◌<◌, ◌≤◌, ◌==◌, ◌^◌, Bool, true, false, nat_lt, if◌then◌else◌, List, [], ◌∷◌, ◌++◌, length, take, map, refl, sym, ap, ◌∙◌, subst, arith}
+use Rattle.std.proofs.Common.{◌≡◌, ◌≢◌, ◌⊎◌, inl, inr, ℕ, ◌+◌, ◌<◌, ◌≤◌, ◌==◌, Bool, true, false, nat_lt, if◌then◌else◌, List, ◌∷◌, length, take, refl, sym, ap, ◌∙◌, subst, arith}
 use Rattle.std.proofs.lemmas.Bool.{cases_lt}
 use Rattle.std.proofs.lemmas.Bool.Decides.{eqb_tells, nat_tests}
 use Rattle.std.proofs.lemmas.List.{take_all}
 use Rattle.persist_model.specs.declared.event.Event.{Event}
-use Rattle.persist_model.specs.Region.{Words, Region, IsCandidate, newest, after}
-use Rattle.persist_model.specs.Kinds.{CHECKPOINT, COMMITTED}
-use Rattle.persist_model.specs.Progress.{Write, start, latest, advance_all, Tracks}
-use Rattle.persist_model.specs.Runs.{progress_at}
-use Rattle.persist_model.specs.Records.{Record, Log, IsAmong, Has, HasNo, IsOf, NamesWord, IsRunning, IsCommitted}
-use Rattle.persist_model.specs.Standing.{IsToDelete, IsToUndo, IsToRedo, IsLatest, Stands}
-use Rattle.persist_model.specs.Order.{undo_point}
-use Rattle.persist_model.specs.Shape.{Shape, shape_of, part_of, heap, heap_words, log_words, IsHeapWord, IsShape}
+use Rattle.persist_model.specs.Region.{Words, Region, IsCandidate, newest}
+use Rattle.persist_model.specs.Progress.{start, latest, advance_all, Tracks}
+use Rattle.persist_model.specs.Records.{Record, Log, IsAmong, HasNo, IsOf, NamesWord}
+use Rattle.persist_model.specs.Standing.{IsToDelete, Stands}
+use Rattle.persist_model.specs.Shape.{Shape, part_of, heap, heap_words, log_words, IsHeapWord, IsShape}
 use Rattle.persist_model.specs.Chain.{view}
 use Rattle.persist_model.specs.State.{State, IsSoundState}
 use Rattle.persist_model.proofs.Candidates.{IsCandidate_newest}
 use Rattle.log_laws.specs.Recovery.{HasDecidingRecord}
-use Rattle.log_laws.specs.Recovering.{with_heap}
-use Rattle.log_laws.specs.Moves.{IsDeletionBy, IsChangeBy}
+use Rattle.log_laws.specs.Moves.{IsChangeBy}
 use Rattle.log_clearing.proofs.ClearingStates.{sound_with_heap}
-use Rattle.bucket_log.specs.declared.append.Place.{Place}
 use Rattle.bucket_log.specs.Appends.{CanAppend, region_append, chain_behind}
 use Rattle.bucket_log.proofs.Partitions.{few_parts}
-use Rattle.plan_records.specs.Passing.{inserted, Passes}
-use Rattle.plan_records.specs.Appends.{MayAppend, MayStandAt, seen, Keeps, Commits, with_record}
+use Rattle.plan_records.specs.Passing.{inserted}
+use Rattle.plan_records.specs.Appends.{MayAppend, MayStandAt, seen, with_record}
 use Rattle.plan_records.specs.Courses.{own_records}
 use Rattle.plan_records.proofs.Changes.{heap_word_is}
 use Rattle.plan_records.proofs.HeapUpdates.{olds_meet}
@@ -33,8 +28,8 @@ use Rattle.plan_records.proofs.Records.{updates_keep, deletions_keep, rollbacks_
 use Rattle.plan_records.proofs.RoomBound.{room_is_bounded}
 use Rattle.plan_records.proofs.UndoneEnds.{undone_ends_keep}
 use Rattle.log_keeper.specs.Parts.{LogPart, rests, appends as adds, closes as shuts, takes_back as drops_deletions, drops as takes_out, Running, plan_of, waits_for, CanRun}
-use Rattle.log_keeper.specs.Making.{made_part, settled_by}
-use Rattle.log_keeper.specs.Logged.{Keeping, resting, plan_in, ended as part_ended, advanced, with_chain, one_more}
+use Rattle.log_keeper.specs.Making.{made_part}
+use Rattle.log_keeper.specs.Logged.{Keeping, resting, with_chain, one_more}
 use Rattle.log_keeper.specs.Events.{IsLastEvent, region_made}
 use Rattle.log_keeper.specs.Ordered.{Spares}
 use Rattle.log_keeper.proofs.Progressing.{by_part, size_after, part_on, words_outside}
@@ -42,28 +37,25 @@ use Rattle.log_keeper.proofs.Made.{appends_are_made}
 use Rattle.log_keeper.proofs.Steps.{last_events_end}
 use Rattle.log_keeper.proofs.Orders.{orders_keep}
 use Rattle.log_keeper.proofs.Runs.{runs_keep}
-use Rattle.history_laws.specs.Histories.{Entry, LeavesWord, fold}
-use Rattle.history_laws.specs.UnderWay.{Added, an_update, a_deletion, a_rollback, a_compensation, an_undone_end, a_commit_end, Adding, record_of_adding, UnderWay, nothing, appends, closes, takes_back, drops, run_of, IsStored}
+use Rattle.history_laws.specs.Histories.{Entry, fold}
+use Rattle.history_laws.specs.UnderWay.{Added, an_update, a_deletion, a_rollback, a_compensation, an_undone_end, a_commit_end, Adding, record_of_adding, nothing, appends, run_of, IsStored}
 use Rattle.history_laws.specs.Moments.{CanAdd, Serves}
 use Rattle.history_laws.specs.Stands.{IsHeader}
 use Rattle.history_laws.proofs.AppendsBeside.{HeapMeets, Leaves}
-use Rattle.history_laws.proofs.Conditions.{added_plain, added_runs}
-use Rattle.history_laws.proofs.Folding.{value_append}
-use Rattle.history_laws.proofs.Growing.{stands_grown}
+use Rattle.history_laws.proofs.Conditions.{added_plain}
 use Rattle.history_laws.proofs.Headers.{header_is_none's, same_shape, is_shape}
-use Rattle.txn_laws.specs.Txns.{Gift, Txn, txn_at, with_txn, written, zero_of, entry_of}
+use Rattle.txn_laws.specs.Txns.{Txn, txn_at, with_txn, written}
 use Rattle.txn_laws.specs.Flights.{flight_of}
 use Rattle.txn_laws.specs.Owners.{IsMine, IsNobodys, AreOwners}
 use Rattle.txn_laws.specs.Heaps.{StandsForHeap, IsKept}
-use Rattle.txn_laws.specs.AreTransactions.{IsGoing, IsTransaction, recorded}
-use Rattle.txn_laws.specs.NextRecords.{ComesNext, IsAppendOf}
+use Rattle.txn_laws.specs.AreTransactions.{IsGoing, IsTransaction}
+use Rattle.txn_laws.specs.NextRecords.{IsAppendOf}
 use Rattle.txn_laws.specs.PartsOf.{Fits, IsPartIn}
 use Rattle.txn_laws.specs.Worlds.{World, IsLogOf, IsWorldAt}
 use Rattle.txn_laws.specs.Going.{with_under}
-use Rattle.txn_laws.specs.Settled.{txn_behind, history_behind, settled_with, world_behind, base_behind, state_behind, AppendsSettle}
-use Rattle.txn_laws.proofs.Written.{latest-append, latest_elsewhere, among_zeros}
+use Rattle.txn_laws.specs.Settled.{settled_with, base_behind, state_behind}
 use Rattle.txn_laws.proofs.Finding.{stands_word}
-use Rattle.txn_laws.proofs.Records.{bars_own, not_deleted, entry_leaves, entry_is}
+use Rattle.txn_laws.proofs.Records.{bars_own, not_deleted}
 use Rattle.txn_laws.proofs.Moments.{record_by, append_part, can_add, serves_there, below_next}
 use Rattle.txn_laws.proofs.Lanes.{by_lane, IsFound, now_found, owners_same, nobodys_same, numbers_same, numbers_changed, known_same, rests_fits}
 use Rattle.txn_laws.proofs.SameRecords.{transaction_same}
@@ -71,7 +63,6 @@ use Rattle.txn_laws.proofs.Beginning.{stands_itself, found_here}
 use Rattle.txn_laws.proofs.Storing.{among_taken}
 use Rattle.txn_laws.proofs.LogEvents.{LeavesHeap, next_is_log, leaves_heap, kept_beside}
 use Rattle.txn_laws.proofs.FitsBeside.{told_heap, fits_same}
-use Rattle.txn_laws.proofs.Gaining.{updated_told, undone_told, rolled_told, given_told, ended_told}
 
 -- ---- words with the log of one and a chosen value in one heap word, elsewhere the newest
 

@@ -1,22 +1,17 @@
 -- Where a world begins.
-use Rattle.std.proofs.Common.{◌≡◌, ◌≢◌, inl, inr, ℕ, zero, suc, ◌+◌, ◌*◌, ◌<◌, ◌≤◌, ◌^◌, true, false, List, [], refl, sym, ap, ◌∙◌, subst, arith}
-use Rattle.persist_model.specs.Region.{Words, Region, IsCandidate, MayStand, AreSettled, newest}
-use Rattle.persist_model.specs.Progress.{start, AreSettledAt}
-use Rattle.persist_model.specs.Records.{Record, Log, IsAmong}
+use Rattle.std.proofs.Common.{◌≡◌, ℕ, zero, suc, ◌<◌, ◌≤◌, true, false, [], refl, sym, ap, ◌∙◌, subst, arith}
+use Rattle.persist_model.specs.Region.{Words, IsCandidate}
+use Rattle.persist_model.specs.Progress.{start}
+use Rattle.persist_model.specs.Records.{IsAmong}
 use Rattle.persist_model.specs.Standing.{Stands, kept}
-use Rattle.persist_model.specs.Shape.{Shape, shape_of, heap, heap_words, words_of_shape, IsHeapWord}
+use Rattle.persist_model.specs.Shape.{Shape, heap, heap_words, words_of_shape, IsHeapWord}
 use Rattle.persist_model.proofs.Images.{settled_is}
-use Rattle.persist_model.proofs.Tracking.{Tracks-settled}
 use Rattle.plan_records.proofs.Changes.{heap_word_is}
-use Rattle.log_keeper.specs.Starting.{starting}
 use Rattle.log_keeper.proofs.Starts.{starts_ordered, keepers_start}
-use Rattle.history_laws.specs.Histories.{fold}
 use Rattle.txn_laws.specs.Txns.{Txn, idle, txn_at, idle_lanes}
 use Rattle.txn_laws.specs.Owners.{IsMine}
-use Rattle.txn_laws.specs.Heaps.{now_of}
 use Rattle.txn_laws.specs.AreTransactions.{IsTransaction}
-use Rattle.txn_laws.specs.Worlds.{World, IsWorldAt}
-use Rattle.txn_laws.specs.StartLaws.{IsStartingRegion, fresh_world, WorldsStart}
+use Rattle.txn_laws.specs.StartLaws.{WorldsStart}
 use Rattle.txn_laws.proofs.Finding.{idle_none, now_nobodys, some_candidate}
 
 idle_at : (n l : ℕ) → txn_at (idle_lanes n) l ≡ idle

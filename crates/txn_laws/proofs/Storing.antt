@@ -3,16 +3,15 @@ use Rattle.std.proofs.Common.{◌≡◌, ◌≢◌, ◌⊎◌, inl, inr, ℕ, ze
 use Rattle.std.specs.Prelude.{slice_get}
 use Rattle.std.proofs.lemmas.Bool.Decides.{eqb_tells}
 use Rattle.std.proofs.lemmas.Option.{slice_get_within}
-use Rattle.persist_model.specs.declared.event.Event.{Event}
 use Rattle.persist_model.specs.declared.event.Event.TheVariants.{PStore, Fence}
 use Rattle.persist_model.specs.declared.event.Candidate.{Candidate}
 use Rattle.persist_model.specs.Region.{Words, Region, candidate, IsCandidate, newest, after, fenced, has_mark, unmarked, from_last}
-use Rattle.persist_model.specs.Progress.{Write, write, latest, advance, Wrote, Tracks}
-use Rattle.persist_model.specs.Records.{Record, Log, IsAmong, Has, HasNo, IsOf, IsUpdate, IsRunning, IsCommitted}
+use Rattle.persist_model.specs.Progress.{Write, write, latest, advance, Tracks}
+use Rattle.persist_model.specs.Records.{Record, IsAmong, Has, HasNo, IsUpdate, IsRunning, IsCommitted}
 use Rattle.persist_model.specs.Standing.{IsToDelete, Stands}
-use Rattle.persist_model.specs.Shape.{Shape, heap, IsHeapWord}
+use Rattle.persist_model.specs.Shape.{Shape, IsHeapWord}
 use Rattle.persist_model.specs.State.{State}
-use Rattle.persist_model.proofs.Candidates.{IsCandidate-push, newest-push, IsCandidate_newest, IsCandidate-fenced, newest-fenced, some-from_last}
+use Rattle.persist_model.proofs.Candidates.{newest-push, IsCandidate_newest, IsCandidate-fenced, newest-fenced, some-from_last}
 use Rattle.persist_model.proofs.Images.{at-with_word, at-with_word_other}
 use Rattle.persist_model.proofs.Running.{take_one_more}
 use Rattle.persist_model.proofs.Tracking.{Wrote-push_other, latest-pushed, latest-push_other, Tracks-event, Tracks-aside}
@@ -25,13 +24,13 @@ use Rattle.log_keeper.proofs.EventsPass.{events_pass, heap_events_pass, fences_p
 use Rattle.history_laws.specs.Histories.{fold}
 use Rattle.history_laws.proofs.Owning.{deletion_of}
 use Rattle.txn_laws.specs.Txns.{Gift, Txn, txn_at, with_txn, written}
-use Rattle.txn_laws.specs.Owners.{IsMine, IsNobodys, AreOwners}
+use Rattle.txn_laws.specs.Owners.{IsMine, AreOwners}
 use Rattle.txn_laws.specs.Heaps.{IsKept}
 use Rattle.txn_laws.specs.AreTransactions.{AreUpdatesOf, recorded, IsGoing, IsTransaction}
 use Rattle.txn_laws.specs.PartsOf.{IsResting}
 use Rattle.txn_laws.specs.Worlds.{World, with_lane, IsLogOf, IsWorldAt}
 use Rattle.txn_laws.specs.Stores.{IsBetween, with_stored, with_zeroed, with_fence, WritesAreStored, WritesAreTakenBack, GiftsAreZeroed, FencesKeep}
-use Rattle.txn_laws.proofs.Lanes.{with_here, with_other, by_lane, IsFound, now_found, owners_same, nobodys_same, numbers_same, numbers_changed, known_same, parts_rest}
+use Rattle.txn_laws.proofs.Lanes.{by_lane, IsFound, now_found, owners_same, nobodys_same, numbers_same, numbers_changed, known_same, parts_rest}
 use Rattle.txn_laws.proofs.Beginning.{found_here}
 
 -- ---- lists of writes

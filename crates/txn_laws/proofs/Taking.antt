@@ -1,15 +1,14 @@
 -- Words come to a transaction.
-use Rattle.std.proofs.Common.{◌≡◌, ◌≢◌, ◌⊎◌, inl, inr, ℕ, ◌+◌, ◌<◌, ◌||◌, Bool, true, false, if◌then◌else◌, List, [], ◌∷◌, ◌++◌, length, take, refl, sym, ap, ◌∙◌, subst, arith}
+use Rattle.std.proofs.Common.{◌≡◌, ◌⊎◌, inl, inr, ℕ, ◌+◌, ◌||◌, Bool, true, false, if◌then◌else◌, List, [], take, refl, sym, ◌∙◌, subst}
 use Rattle.std.proofs.lemmas.Bool.Decides.{eqb_tells}
-use Rattle.persist_model.specs.declared.event.Candidate.{Candidate}
-use Rattle.persist_model.specs.Region.{Words, Region, IsCandidate, newest}
-use Rattle.persist_model.specs.Progress.{Progress, latest, Wrote, IsWordOf}
+use Rattle.persist_model.specs.Region.{Words, Region, newest}
+use Rattle.persist_model.specs.Progress.{Progress, latest, IsWordOf}
 use Rattle.persist_model.specs.Records.{IsAmong, HasNo}
 use Rattle.persist_model.specs.Standing.{IsToDelete}
-use Rattle.persist_model.specs.Shape.{Shape, IsHeapWord}
+use Rattle.persist_model.specs.Shape.{Shape}
 use Rattle.persist_model.specs.State.{State}
 use Rattle.history_laws.specs.Histories.{fold}
-use Rattle.txn_laws.specs.Txns.{Gift, Txn, txn_at, with_txn, written}
+use Rattle.txn_laws.specs.Txns.{Txn, txn_at, with_txn, written}
 use Rattle.txn_laws.specs.Owners.{IsMine, IsNobodys, AreOwners}
 use Rattle.txn_laws.specs.Heaps.{IsKept}
 use Rattle.txn_laws.specs.AreTransactions.{IsTransaction}

@@ -1,5 +1,5 @@
 -- The last event of a removal: the partition has the cells of a bucket more room, and nothing else is another.
-use Rattle.std.specs.Prelude.{◌≡◌, ℕ, List}
+use Rattle.std.specs.Prelude.{ℕ, List}
 use Rattle.persist_model.specs.declared.event.Event.{Event}
 use Rattle.persist_model.specs.Region.{Words, Region}
 use Rattle.persist_model.specs.Shape.{Shape, heap_words}

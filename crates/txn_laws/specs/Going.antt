@@ -1,5 +1,5 @@
 -- An event of a part of the log that isn't its last: nothing is settled yet.
-use Rattle.std.specs.Prelude.{◌≡◌, ℕ, suc, ◌+◌, ◌<◌, ◌==◌, if◌then◌else◌, List, length}
+use Rattle.std.specs.Prelude.{ℕ, suc, ◌+◌, ◌<◌, ◌==◌, if◌then◌else◌, List, length}
 use Rattle.persist_model.specs.declared.event.Event.{Event}
 use Rattle.persist_model.specs.Region.{Words, Region}
 use Rattle.persist_model.specs.Shape.{Shape}

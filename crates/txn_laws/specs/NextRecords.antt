@@ -1,10 +1,9 @@
 -- What a lane appends: the record that comes next in its transaction, and what is asked for it. All of it is said of the settled log.
-use Rattle.std.specs.Prelude.{◌≡◌, ℕ, ◌≤◌, ◌+◌, true, false, Bool, Some, List, ◌∷◌, [], length, slice_get, if◌then◌else◌}
+use Rattle.std.specs.Prelude.{◌≡◌, ℕ, ◌≤◌, ◌+◌, true, false, Bool, List, ◌∷◌, [], length, if◌then◌else◌}
 use Rattle.persist_model.specs.Region.{Words}
-use Rattle.persist_model.specs.Progress.{write, latest}
 use Rattle.persist_model.specs.Records.{Record, NamesWord}
 use Rattle.persist_model.specs.Need.{has_of}
-use Rattle.persist_model.specs.Shape.{Shape, part_of, IsRootOwner, IsPlainOwner}
+use Rattle.persist_model.specs.Shape.{Shape, IsRootOwner, IsPlainOwner}
 use Rattle.persist_model.specs.State.{State}
 use Rattle.log_laws.specs.MoveRoom.{HasCells, HasItsCells}
 use Rattle.bucket_log.specs.Appends.{region_append}
@@ -14,7 +13,7 @@ use Rattle.log_keeper.specs.Making.{is_over}
 use Rattle.history_laws.specs.UnderWay.{Added, an_update, a_deletion, a_rollback, a_compensation, an_undone_end, a_commit_end, Adding, record_of_adding}
 use Rattle.txn_laws.specs.Txns.{Txn}
 use Rattle.txn_laws.specs.Owners.{IsMine}
-use Rattle.txn_laws.specs.AreTransactions.{IsUpdateAt, recorded}
+use Rattle.txn_laws.specs.AreTransactions.{IsUpdateAt}
 
 -- the update of the first write that has none yet
 pub record IsNextUpdate (shape : Shape) (s : State) (h : Words) (x : Txn) (r : Record) : Type 0 where

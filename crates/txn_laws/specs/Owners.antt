@@ -1,5 +1,5 @@
 -- Whose a word of the heap is.
-use Rattle.std.specs.Prelude.{◌≡◌, ◌≢◌, ℕ, true, List}
+use Rattle.std.specs.Prelude.{◌≡◌, ℕ, true, List}
 use Rattle.persist_model.specs.Records.{Record, Log, IsAmong, IsOf}
 use Rattle.persist_model.specs.Order.{Bars}
 use Rattle.persist_model.specs.Shape.{Shape, IsHeapWord}

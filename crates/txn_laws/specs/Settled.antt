@@ -1,5 +1,5 @@
 -- The last event of an append: the record is settled, and the lane's transaction has it.
-use Rattle.std.specs.Prelude.{◌≡◌, ◌≢◌, ℕ, ◌<◌, true, List, [], ◌∷◌, ◌++◌, length}
+use Rattle.std.specs.Prelude.{◌≡◌, ℕ, ◌<◌, true, List, [], ◌∷◌, ◌++◌, length}
 use Rattle.persist_model.specs.declared.event.Event.{Event}
 use Rattle.persist_model.specs.Region.{Words, Region}
 use Rattle.persist_model.specs.Records.{Record}
@@ -15,7 +15,7 @@ use Rattle.log_keeper.specs.Logged.{with_chain}
 use Rattle.log_keeper.specs.Events.{IsLastEvent, region_made}
 use Rattle.history_laws.specs.Histories.{Entry}
 use Rattle.history_laws.specs.UnderWay.{Added, an_update, a_deletion, a_rollback, a_compensation, an_undone_end, a_commit_end, Adding, record_of_adding, nothing, appends}
-use Rattle.txn_laws.specs.Txns.{Gift, Txn, txn_at, with_txn, entry_of}
+use Rattle.txn_laws.specs.Txns.{Txn, txn_at, with_txn, entry_of}
 use Rattle.txn_laws.specs.Going.{with_under}
 use Rattle.txn_laws.specs.Worlds.{World, IsWorldAt}
 

@@ -1,4 +1,5 @@
 -- What a lane stores to its own words, and waits for, between its parts of the log.
+use Rattle.log_keeper.specs.declared.slots.TheConstants.{NOBODY}
 use Rattle.std.specs.Prelude.{◌≡◌, ℕ, ◌+◌, ◌<◌, true, false, Some, List, length, slice_get}
 use Rattle.persist_model.specs.declared.event.Event.{Event}
 use Rattle.persist_model.specs.declared.event.Event.TheVariants.{PStore, Fence}
@@ -15,7 +16,7 @@ use Rattle.txn_laws.specs.Worlds.{World, with_lane, IsWorldAt}
 -- it is one of the lanes, and no part of it is under way
 pub record IsBetween (shape : Shape) (w : World) (l : ℕ) : Type 0 where
   pub lane : l < length w.lanes
-  pub few : l < 17
+  pub few : l < NOBODY
   pub resting : IsResting shape w.keeping l
 
 -- With lane l's event e its transaction becomes y, and nothing else changes.

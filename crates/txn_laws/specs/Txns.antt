@@ -1,5 +1,5 @@
 -- The transactions of lanes, as plain data.
-use Rattle.std.specs.Prelude.{ℕ, zero, suc, Bool, false, ◌&&◌, not, if◌then◌else◌, List, [], ◌∷◌, ◌++◌, take, map}
+use Rattle.std.specs.Prelude.{ℕ, zero, suc, Bool, false, if◌then◌else◌, List, [], ◌∷◌, ◌++◌, take, map}
 use Rattle.persist_model.specs.Progress.{Write, write}
 use Rattle.persist_model.specs.Records.{Record}
 use Rattle.history_laws.specs.Histories.{Entry}

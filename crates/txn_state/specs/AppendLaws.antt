@@ -1,4 +1,5 @@
 -- The events of the log's parts: an append begins, goes on, stores its record's gate, and ends.
+use Rattle.log_keeper.specs.declared.slots.TheConstants.{NOBODY}
 use Rattle.std.specs.Prelude.{◌≡◌, ℕ, ◌+◌, ◌%◌, ◌<◌, ◌≤◌, true, false, if◌then◌else◌, ◌==◌, List, [], ◌∷◌, length, reverse, slice_get, Some, ◌^◌}
 use Rattle.persist_model.specs.declared.event.Event.{Event}
 use Rattle.persist_model.specs.declared.kinds.Outcome.TheVariants.{Committed, RolledBack}
@@ -75,7 +76,7 @@ latched_append p l place cell keeper = appending p place (record_of (place_addre
 abbrev pub AppendsBegin : Type 0 → Type 0
 AppendsBegin E = (layout : Layout) (start : Words) (book later : Book E) (keeper drawn : LogKeeper) (region : Region) (spare events l : ℕ) (place : Place) (cell : Cell) →
     let p = l % layout.partitions in
-    (keeping_of keeper).holder p ≡ 17 → IsPlaceRead layout p region place → IsNextCell region (lane_at book l) cell →
+    (keeping_of keeper).holder p ≡ NOBODY → IsPlaceRead layout p region place → IsNextCell region (lane_at book l) cell →
     ((a : ℕ) → a < region.size → 0 < length (region.at a)) →
     events < 2 ^ 64 → GoesTo book later l (paid_record (lane_at book l)) → IsBook later → HasDrawn keeper drawn (latched_append p l place cell keeper) →
     IsStateOf layout start book keeper region spare events → IsStateOf layout start later drawn region spare events
@@ -89,7 +90,7 @@ pub record IsMade (layout : Layout) (keeper : LogKeeper) (region later : Region)
   pub cells : later ≡ after region l e
   pub places : spare ≤ left + 1
   pub counted : made ≡ events + 1
-  pub inside : l < 17
+  pub inside : l < NOBODY
 
 -- so many of its events are left, that one included
 abbrev pub AreLeft : Layout → LogKeeper → ℕ → ℕ → Type 0
@@ -148,7 +149,7 @@ RecordsSettle E = (layout : Layout) (start : Words) (book later : Book E) (keepe
     let p = l % layout.partitions in
     IsMade layout keeper region behind l e spare left events made → AreLeft layout keeper p 1 →
     GoesOnTo (lane_at book l) part → GoesTo book later l (moved part (paid_event (lane_at book l))) → IsBook later →
-    IsKept keeper kept (latched p 17 (made_in layout keeper p)) →
+    IsKept keeper kept (latched p NOBODY (made_in layout keeper p)) →
     IsStateOf layout start book keeper region spare events → IsStateOf layout start later kept behind left made
 
 -- the closing of the transaction's records but its end begins

@@ -1,4 +1,5 @@
 -- The closing of an ended transaction's records, the removal of buckets behind it, and the end of its call.
+use Rattle.log_keeper.specs.declared.slots.TheConstants.{NOBODY}
 use Rattle.std.specs.Prelude.{◌≡◌, ◌⊎◌, ℕ, ◌%◌, Bool, true, if◌then◌else◌, [], Some}
 use Rattle.persist_model.specs.declared.event.Event.{Event}
 use Rattle.persist_model.specs.Region.{Words, Region}
@@ -69,5 +70,5 @@ TransactionsEnd E = (layout : Layout) (start : Words) (book later : Book E) (kee
     let p = l % layout.partitions in
     IsMade layout keeper region behind l e spare left events made → AreLeft layout keeper p 1 → HasCleared (lane_at book l) →
     GoesTo book later l (left_lane (end_reply (is_commit (lane_at book l).doing)) (paid_event (lane_at book l))) → IsBook later →
-    IsKept keeper kept (latched p 17 (made_in layout keeper p)) →
+    IsKept keeper kept (latched p NOBODY (made_in layout keeper p)) →
     IsStateOf layout start book keeper region spare events → IsStateOf layout start later kept behind left made

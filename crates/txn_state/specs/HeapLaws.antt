@@ -1,4 +1,5 @@
 -- What a lane stores to its own words, and its fences.
+use Rattle.log_keeper.specs.declared.slots.TheConstants.{NOBODY}
 use Rattle.std.specs.Prelude.{◌≡◌, ◌⊎◌, ℕ, ◌+◌, ◌-◌, ◌<◌, ◌≤◌, slice_get, Some}
 use Rattle.persist_model.specs.declared.event.Event.{Event}
 use Rattle.persist_model.specs.declared.event.Event.TheVariants.{PStore, Fence}
@@ -28,7 +29,7 @@ pub record IsEvent (region later : Region) (l : ℕ) (e : Event) (spare left eve
   pub cells : later ≡ after region l e
   pub places : spare ≤ left + 1
   pub counted : made ≡ events + 1
-  pub inside : l < 17
+  pub inside : l < NOBODY
 
 -- The word of a write whose update is appended is stored, and the write is answered.
 abbrev pub WritesAreStored : Type 0 → Type 0

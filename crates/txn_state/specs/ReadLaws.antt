@@ -1,4 +1,5 @@
 -- What a state gives to the code that makes the next step.
+use Rattle.log_keeper.specs.declared.slots.TheConstants.{NOBODY}
 use Rattle.std.specs.Prelude.{◌≡◌, ◌≢◌, ◌⊎◌, ℕ, ◌-◌, ◌%◌, ◌<◌, ◌≤◌, ◌^◌, Bool, true, false, List, length, slice_get, slice_index, Some}
 use Rattle.persist_model.specs.declared.event.Event.{Event}
 use Rattle.persist_model.specs.Region.{Words, Region, newest_words}
@@ -85,7 +86,7 @@ pub record HasNextEvent (layout : Layout) (keeper : LogKeeper) (region : Region)
 
 abbrev pub HoldersGoOn : Type 0 → Type 0
 HoldersGoOn E = (layout : Layout) (start : Words) (book : Book E) (keeper : LogKeeper) (region : Region) (spare events p : ℕ) → p < layout.partitions →
-    (keeping_of keeper).holder p ≢ 17 → IsStateOf layout start book keeper region spare events → HasNextEvent layout keeper region p
+    (keeping_of keeper).holder p ≢ NOBODY → IsStateOf layout start book keeper region spare events → HasNextEvent layout keeper region p
 
 -- A lane that closes or takes out holds its latch; and one that holds it appends, closes or takes out.
 pub record HoldersAreBusy (E : Type 0) : Type 0 where
@@ -102,7 +103,7 @@ EventsAreOwed E = (layout : Layout) (start : Words) (book : Book E) (keeper : Lo
 
 abbrev pub RecordsAreOwed : Type 0 → Type 0
 RecordsAreOwed E = (layout : Layout) (start : Words) (book : Book E) (keeper : LogKeeper) (region : Region) (spare events l : ℕ) → l < length book.lanes.items →
-    appends_in (stage_of (lane_at book l)) ≡ true → (keeping_of keeper).holder (l % layout.partitions) ≡ 17 → IsStateOf layout start book keeper region spare events →
+    appends_in (stage_of (lane_at book l)) ≡ true → (keeping_of keeper).holder (l % layout.partitions) ≡ NOBODY → IsStateOf layout start book keeper region spare events →
     (1 ≤ (lane_at book l).owed_records) × (1 ≤ free_places keeper)
 
 -- The lists have memory for the gates of a closing that begins behind the last event of the end's append, and of that one's.
@@ -158,7 +159,7 @@ pub record ViewsAreRead (E : Type 0) : Type 0 where
       ((a : ℕ) → 0 < length (region.at a)) → IsStateOf layout start book keeper region spare events →
       IsNextPlaceSeen layout p (newest_words region) place → IsPlaceRead layout p region place
   pub some : (layout : Layout) (start : Words) (book : Book E) (keeper : LogKeeper) (region : Region) (spare events l : ℕ) → l < length book.lanes.items →
-      ((a : ℕ) → 0 < length (region.at a)) → appends_in (stage_of (lane_at book l)) ≡ true → (keeping_of keeper).holder (l % layout.partitions) ≡ 17 →
+      ((a : ℕ) → 0 < length (region.at a)) → appends_in (stage_of (lane_at book l)) ≡ true → (keeping_of keeper).holder (l % layout.partitions) ≡ NOBODY →
       IsStateOf layout start book keeper region spare events → room_seen layout (l % layout.partitions) (newest_words region) ≢ 0
   pub room : (layout : Layout) (start : Words) (book : Book E) (keeper : LogKeeper) (region : Region) (spare events p : ℕ) → p < layout.partitions →
       ((a : ℕ) → 0 < length (region.at a)) → IsStateOf layout start book keeper region spare events →
@@ -177,8 +178,8 @@ pub record HasWrite {E : Type 0} (layout : Layout) (lane : Lane E) (n : ℕ) (w 
 -- What the lane's calls ask of its book at each stage.
 pub record LanesAreReady (E : Type 0) : Type 0 where
   pub updates : (layout : Layout) (start : Words) (book : Book E) (keeper : LogKeeper) (region : Region) (spare events l : ℕ) → l < length book.lanes.items →
-      stage_of (lane_at book l) ≡ Naming → AreLeft layout keeper (l % layout.partitions) 2 ⊎ ((keeping_of keeper).holder (l % layout.partitions) ≡ 17) →
-      ((keeping_of keeper).holder (l % layout.partitions) ≡ l) ⊎ ((keeping_of keeper).holder (l % layout.partitions) ≡ 17) →
+      stage_of (lane_at book l) ≡ Naming → AreLeft layout keeper (l % layout.partitions) 2 ⊎ ((keeping_of keeper).holder (l % layout.partitions) ≡ NOBODY) →
+      ((keeping_of keeper).holder (l % layout.partitions) ≡ l) ⊎ ((keeping_of keeper).holder (l % layout.partitions) ≡ NOBODY) →
       IsStateOf layout start book keeper region spare events → WaitsToAppend (lane_at book l)
   pub is_open : (layout : Layout) (start : Words) (book : Book E) (keeper : LogKeeper) (region : Region) (spare events l : ℕ) → l < length book.lanes.items →
       (stage_of (lane_at book l) ≡ Opening) ⊎ (stage_of (lane_at book l) ≡ Undoing) ⊎ (stage_of (lane_at book l) ≡ Ending) →
@@ -188,8 +189,8 @@ pub record LanesAreReady (E : Type 0) : Type 0 where
       stage_of (lane_at book l) ≡ Opening → AreLeft layout keeper (l % layout.partitions) 2 → (keeping_of keeper).holder (l % layout.partitions) ≡ l →
       IsStateOf layout start book keeper region spare events → (lane_at book l).rolled ≡ false
   pub some_update : (layout : Layout) (start : Words) (book : Book E) (keeper : LogKeeper) (region : Region) (spare events l : ℕ) → l < length book.lanes.items →
-      stage_of (lane_at book l) ≡ Undoing → AreLeft layout keeper (l % layout.partitions) 2 ⊎ ((keeping_of keeper).holder (l % layout.partitions) ≡ 17) →
-      ((keeping_of keeper).holder (l % layout.partitions) ≡ l) ⊎ ((keeping_of keeper).holder (l % layout.partitions) ≡ 17) →
+      stage_of (lane_at book l) ≡ Undoing → AreLeft layout keeper (l % layout.partitions) 2 ⊎ ((keeping_of keeper).holder (l % layout.partitions) ≡ NOBODY) →
+      ((keeping_of keeper).holder (l % layout.partitions) ≡ l) ⊎ ((keeping_of keeper).holder (l % layout.partitions) ≡ NOBODY) →
       IsStateOf layout start book keeper region spare events → 1 ≤ length (lane_at book l).updates.items
   pub to_store : (layout : Layout) (start : Words) (book : Book E) (keeper : LogKeeper) (region : Region) (spare events l : ℕ) → l < length book.lanes.items →
       (stage_of (lane_at book l) ≡ Naming) ⊎ (stage_of (lane_at book l) ≡ Storing) → IsStateOf layout start book keeper region spare events →

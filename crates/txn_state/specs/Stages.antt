@@ -1,5 +1,5 @@
 -- What a lane is about in its transaction, by its call and the part of its plan.
-use Rattle.std.specs.Prelude.{ℕ, Bool, true, false, if◌then◌else◌, ◌==◌}
+use Rattle.std.specs.Prelude.{ℕ, Bool, if◌then◌else◌, ◌==◌}
 use Rattle.lane_types.specs.declared.call.Phase.{Phase}
 pub use Rattle.lane_book.specs.Flights.{is_commit}
 use Rattle.lane_book.specs.declared.lane.Lane.{Lane}

@@ -1,4 +1,5 @@
 -- The lanes of a book against the transactions of the plain world.
+use Rattle.log_keeper.specs.declared.slots.TheConstants.{NOBODY}
 use Rattle.std.specs.Prelude.{◌≡◌, ◌≢◌, ℕ, ◌+◌, ◌*◌, ◌%◌, ◌<◌, ◌≤◌, Bool, true, false, ◌&&◌, not, nat_lt, List, [], ◌∷◌, length, map, reverse, Some}
 use Rattle.persist_model.specs.Progress.{Write}
 use Rattle.persist_model.specs.Records.{Record, Log, IsAmong, Has, HasNo, IsOf, IsEnd}
@@ -267,11 +268,11 @@ pub record IsLaneOf {E : Type 0} (layout : Layout) (blocks : List Standing) (log
 
 -- A latch is held only where something is under way, an event of which is left, by a lane that appends there.
 pub record AreHeld (shape : Shape) (w : World) : Type 0 where
-  pub free : (p : ℕ) → p < shape.partitions → w.keeping.holder p ≡ 17 → w.under p ≡ nothing
-  pub busy : (p : ℕ) → p < shape.partitions → w.keeping.holder p ≢ 17 → w.under p ≢ nothing
-  pub unfinished : (p : ℕ) → p < shape.partitions → w.keeping.holder p ≢ 17 → (w.keeping.runs p).made < length (plan_in shape w.keeping p)
-  pub lane : (p : ℕ) → p < shape.partitions → w.keeping.holder p ≢ 17 → w.keeping.holder p < length w.lanes
-  pub here : (p : ℕ) → p < shape.partitions → w.keeping.holder p ≢ 17 → w.keeping.holder p % shape.partitions ≡ p
+  pub free : (p : ℕ) → p < shape.partitions → w.keeping.holder p ≡ NOBODY → w.under p ≡ nothing
+  pub busy : (p : ℕ) → p < shape.partitions → w.keeping.holder p ≢ NOBODY → w.under p ≢ nothing
+  pub unfinished : (p : ℕ) → p < shape.partitions → w.keeping.holder p ≢ NOBODY → (w.keeping.runs p).made < length (plan_in shape w.keeping p)
+  pub lane : (p : ℕ) → p < shape.partitions → w.keeping.holder p ≢ NOBODY → w.keeping.holder p < length w.lanes
+  pub here : (p : ℕ) → p < shape.partitions → w.keeping.holder p ≢ NOBODY → w.keeping.holder p % shape.partitions ≡ p
 
 -- The book and the keeper are the plain world's.
 pub record IsTied {E : Type 0} (layout : Layout) (book : Book E) (keeper : LogKeeper) (s : State) (w : World) : Type 0 where
