@@ -22,84 +22,10 @@ keeper_send = search every depth 30
 pub flight_send : (E : RattleType) → IsSend E → IsSend (Stock.the_field (Entry.the_row E)).row
 flight_send E s = search every depth 30
 
--- a search for each of its 27 fields, since one for all runs out of its limits
+-- the first fields by searches of their own, since one for all runs out of its limits
 lane_send : (E : RattleType) → IsSend E → IsSend (Lane.the_row E)
-lane_send E s = let T = Lane.the_type E in recorded_send (Struct (shape T)) T.D T.to T.to_one (struct_send (shape T) (
-  search every depth 30,
-  (
-    search every depth 30,
-    (
-      search every depth 30,
-      (
-        search every depth 30,
-        (
-          search every depth 30,
-          (
-            search every depth 30,
-            (
-              search every depth 30,
-              (
-                search every depth 30,
-                (
-                  search every depth 30,
-                  (
-                    search every depth 30,
-                    (
-                      search every depth 30,
-                      (
-                        search every depth 30,
-                        (
-                          search every depth 30,
-                          (
-                            search every depth 30,
-                            (
-                              search every depth 30,
-                              (
-                                search every depth 30,
-                                (
-                                  search every depth 30,
-                                  (
-                                    search every depth 30,
-                                    (
-                                      search every depth 30,
-                                      (
-                                        search every depth 30,
-                                        (
-                                          search every depth 30,
-                                          (
-                                            search every depth 30,
-                                            (
-                                              search every depth 30,
-                                              (
-                                                search every depth 30,
-                                                (
-                                                  search every depth 30,
-                                                  (search every depth 30, (search every depth 30, tt)),
-                                                ),
-                                              ),
-                                            ),
-                                          ),
-                                        ),
-                                      ),
-                                    ),
-                                  ),
-                                ),
-                              ),
-                            ),
-                          ),
-                        ),
-                      ),
-                    ),
-                  ),
-                ),
-              ),
-            ),
-          ),
-        ),
-      ),
-    ),
-  ),
-))
+lane_send E s = let T = Lane.the_type E in recorded_send (Struct (shape T)) T.D T.to T.to_one
+    (struct_send (shape T) (search every depth 30, (search every depth 30, (search every depth 30, search every depth 100 fits 100000))))
 
 pub book_send : (E : RattleType) → IsSend E → IsSend (Book.the_field E).row
 book_send E s = search (every, lane_send, flight_send) depth 20

@@ -1,4 +1,5 @@
 -- A step of what a lane appends or closes, with its answer where the call goes on as it was.
+use Rattle.log_keeper.specs.declared.slots.TheConstants.{NOBODY}
 use Rattle.std.specs.Prelude.{◌≡◌, ◌≢◌, ℕ, ◌%◌, ◌<◌, ◌≤◌, ◌^◌, true, List, length, None}
 use Rattle.persist_model.specs.Region.{Region}
 use Rattle.lane_traits.specs.Device.{Counts}
@@ -37,9 +38,9 @@ pub record CanBegin {E : Type 0} (layout : Layout) (keeper : LogKeeper) (words :
   pub lane : l < length book.lanes.items
   pub slots : length keeper.slots.items ≡ layout.partitions
   pub logs : HasLogs layout words
-  pub room : (keeping_of keeper).holder (l % layout.partitions) ≡ 17 → room_seen layout (l % layout.partitions) words ≢ 0
-  pub owed : (keeping_of keeper).holder (l % layout.partitions) ≡ 17 → 1 ≤ (lane_at book l).owed_records
-  pub places : (keeping_of keeper).holder (l % layout.partitions) ≡ 17 → 1 ≤ free_places keeper
+  pub room : (keeping_of keeper).holder (l % layout.partitions) ≡ NOBODY → room_seen layout (l % layout.partitions) words ≢ 0
+  pub owed : (keeping_of keeper).holder (l % layout.partitions) ≡ NOBODY → 1 ≤ (lane_at book l).owed_records
+  pub places : (keeping_of keeper).holder (l % layout.partitions) ≡ NOBODY → 1 ≤ free_places keeper
   pub numbers : keeper.next_lsn < 2 ^ 63
 
 -- Once the append is begun, its next event can be made.
@@ -70,7 +71,7 @@ pub data Advances {E : Type 0} (deeds : Deeds E) (layout : Layout) (keeper later
 -- The lane waits for the latch, and no event is made.
 pub record WaitsForLatch {E : Type 0} (deeds : Deeds E) (layout : Layout) (keeper : LogKeeper) (book next : Book E) (l holder : ℕ) : Type 0 where
   pub held : (keeping_of keeper).holder (l % layout.partitions) ≡ holder
-  pub some : holder ≢ 17
+  pub some : holder ≢ NOBODY
   pub other : holder ≢ l
   pub moves : Moves deeds book next l None (Stepped.Waiting (What.Latch (l % layout.partitions)) holder)
       (noted (Stepped.Waiting (What.Latch (l % layout.partitions)) holder) (lane_at book l))

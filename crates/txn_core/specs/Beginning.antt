@@ -1,4 +1,5 @@
 -- How a lane comes to append.
+use Rattle.log_keeper.specs.declared.slots.TheConstants.{NOBODY}
 use Rattle.std.specs.Prelude.{◌≡◌, ◌≢◌, ℕ, ◌%◌, List, Option, Some, None}
 use Rattle.region_layout.specs.declared.cell.Cell.{Cell}
 use Rattle.region_layout.specs.declared.layout.Layout.{Layout}
@@ -14,9 +15,9 @@ use Rattle.txn_state.specs.ReadLaws.{IsNextPlaceSeen}
 
 -- Another lane holds the latch; or the lane does already; or it took it, and began the append of the cell at the next place.
 pub data Begins {E : Type 0} (layout : Layout) (keeper later : LogKeeper) (book after : Book E) (words : List ℕ) (l : ℕ) (cell : Cell) : Option ℕ → Type 0 where
-  waits : (h : ℕ) → (keeping_of keeper).holder (l % layout.partitions) ≡ h → h ≢ 17 → h ≢ l → later ≡ keeper → after ≡ book →
+  waits : (h : ℕ) → (keeping_of keeper).holder (l % layout.partitions) ≡ h → h ≢ NOBODY → h ≢ l → later ≡ keeper → after ≡ book →
       Begins layout keeper later book after words l cell (Some h)
   holds : (keeping_of keeper).holder (l % layout.partitions) ≡ l → later ≡ keeper → after ≡ book → Begins layout keeper later book after words l cell None
-  begins : (place : Place) → (keeping_of keeper).holder (l % layout.partitions) ≡ 17 → IsNextPlaceSeen layout (l % layout.partitions) words place →
+  begins : (place : Place) → (keeping_of keeper).holder (l % layout.partitions) ≡ NOBODY → IsNextPlaceSeen layout (l % layout.partitions) words place →
       HasDrawn keeper later (latched_append (l % layout.partitions) l place cell keeper) → after ≡ with_lane book l (paid_record (lane_at book l)) book.touched →
       Begins layout keeper later book after words l cell None

@@ -1,4 +1,5 @@
 -- What comes behind the last event of a closing's second group, or of a removal.
+use Rattle.log_keeper.specs.declared.slots.TheConstants.{NOBODY}
 use Rattle.std.specs.Prelude.{◌≡◌, ℕ, ◌%◌, List, None}
 use Rattle.atomic_list.specs.declared.plans.Remove.{Remove}
 use Rattle.region_layout.specs.declared.layout.Layout.{Layout}
@@ -29,5 +30,5 @@ pub data Clears {E : Type 0} (deeds : Deeds E) (layout : Layout) (keeper kept : 
   begins : (r : Remove) → IsRemovalSeen layout (l % layout.partitions) words r → answer ≡ Stepped.Moved →
       HasTurned keeper kept (begun_in (l % layout.partitions) (drops r) (keeping_of keeper).ledger (keeping_of keeper)) →
       Moves deeds book next l None answer (moved DROP (lane_at book l)) → Clears deeds layout keeper kept words book next l answer
-  ends : answer ≡ Stepped.Answered (end_reply (is_commit (lane_at book l).doing)) → HasTurned keeper kept (latched (l % layout.partitions) 17 (keeping_of keeper)) →
+  ends : answer ≡ Stepped.Answered (end_reply (is_commit (lane_at book l).doing)) → HasTurned keeper kept (latched (l % layout.partitions) NOBODY (keeping_of keeper)) →
       Moves deeds book next l None answer (left_lane (end_reply (is_commit (lane_at book l).doing)) (lane_at book l)) → Clears deeds layout keeper kept words book next l answer

@@ -1,4 +1,5 @@
 // How a lane comes to append: it takes the latch of its partition, where that is free, and begins.
+ghost use Rattle.log_keeper.specs.declared.slots.TheConstants.{NOBODY};
 ghost use Rattle.std.specs.Prelude.{◌≡◌, ◌≢◌, ◌%◌, ◌<◌, ◌≤◌, ◌^◌, length};
 ghost use Rattle.lane_book.specs.FacesOf.{lane_at};
 ghost use Rattle.lane_book.specs.Books.{IsBook};
@@ -26,9 +27,9 @@ pub fn begin<D: Device, E>(
     requires lane { lane < length book.old.lanes.items }
     requires slots { length log.old.slots.items ≡ layout.partitions }
     requires logs { HasLogs layout (D.words device.now) }
-    requires room { (keeping_of log.old).holder (lane % layout.partitions) ≡ 17 → room_seen layout (lane % layout.partitions) (D.words device.now) ≢ 0 }
-    requires owed { (keeping_of log.old).holder (lane % layout.partitions) ≡ 17 → 1 ≤ (lane_at book.old lane).owed_records }
-    requires places { (keeping_of log.old).holder (lane % layout.partitions) ≡ 17 → 1 ≤ free_places log.old }
+    requires room { (keeping_of log.old).holder (lane % layout.partitions) ≡ NOBODY → room_seen layout (lane % layout.partitions) (D.words device.now) ≢ 0 }
+    requires owed { (keeping_of log.old).holder (lane % layout.partitions) ≡ NOBODY → 1 ≤ (lane_at book.old lane).owed_records }
+    requires places { (keeping_of log.old).holder (lane % layout.partitions) ≡ NOBODY → 1 ≤ free_places log.old }
     requires numbers { log.old.next_lsn < 2 ^ 63 }
     requires book { IsBook book.old }
     ensures begins { Begins layout log.old log.new book.old book.new (D.words device.now) lane cell result }

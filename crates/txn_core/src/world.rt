@@ -1,4 +1,4 @@
-ghost use Rattle.std.specs.Prelude.{◌≡◌, ◌<◌, ◌≤◌, ◌-◌, ◌^◌, ◌++◌, [], Bool, min, true, length, slice_index, Some, OnOk, IfOk, IfErr};
+ghost use Rattle.std.specs.Prelude.{◌≡◌, ◌<◌, ◌≤◌, ◌-◌, ◌^◌, ◌++◌, [], ℕ, Bool, min, true, length, slice_index, Some, OnOk, IfOk, IfErr};
 ghost use Rattle.std.specs.List.{filter};
 ghost use Rattle.std.specs.Option.{option_copied};
 ghost use Rattle.persist_model.specs.Region.{AreSettled};
@@ -247,6 +247,11 @@ impl<D: Device, E: Deed> World<D, E> {
         let view = PartView::new(&self.device, self.layout, p);
         room(&view, self.layout, self.layout.part(p))
     }
+
+    /// There is room for what is reserved, in each partition. It does nothing: the clause is the law.
+    pub fn rooms_are_enough(&self)
+        ensures { (p : ℕ) → p < self.now.layout.partitions → reserved_for self.now.layout self.now.book p ≤ room_seen self.now.layout p (D.words self.now.device) }
+    {}
 
     /// Whatever a stop leaves of the device stands for the history and those commits in flight that it has. It does nothing: the clause is the law.
     pub fn images_stand(&self)
