@@ -1,13 +1,10 @@
 //! A world begins on a fresh region, and not on one that isn't sound or isn't recovered.
-ghost use Rattle.std.specs.Prelude.{◌≡◌, IsTrue};
-ghost use Rattle.persist_model.specs.Region.{AreSettled};
-ghost use Rattle.txn_core.specs.Starting.{IsForced};
 
-use crate::deed::Nothing;
+use crate::deed::Named;
+use crate::regions::loaded;
 use lane_traits::Device;
 use offset_alloc::Standing;
-use persist_model::format::MAX_WORDS;
-use persist_model::{List, Look};
+use persist_model::List;
 use region_layout::{Kind, Layout, Policy, format};
 use rest_check::RestFault;
 use std::alloc::Global;
@@ -61,30 +58,6 @@ const CASES: [(Words<'static>, (u32, u32)); 5] = [
     (&[(0, 0)], (1, 0)),
 ];
 
-/// Whether the policy is force.
-fn is_force<W: Look>(words: &W) -> bool
-    ensures { IsTrue result → IsForced (W.words words.now) }
-{
-    words.size() >= 2 && words.word(1) == 1
-}
-
-/// A device with these words, whose policy is force, that never stops of itself.
-fn loaded(rt: &impl Abort, alloc: Global, words: &[u64]) -> PlainCells
-    ensures settled { AreSettled (⟦<PlainCells as Device>⟧.cells result) }
-    ensures force { IsForced (⟦<PlainCells as Look>⟧.words result) }
-{
-    let mut region = PlainCells::new(alloc, u64::MAX);
-    assert!(rt; words.len() <= MAX_WORDS as usize);
-    match region.load(words) {
-        Ok(()) => {}
-        Err(refused) => panic!(rt; "{refused:?}"),
-    }
-    if !is_force(&region) {
-        panic!(rt; "not under force");
-    }
-    region
-}
-
 // The number of a refusal, and its address.
 fn told(rt: &impl Abort, fault: RestFault) -> (u32, u32) {
     match fault {
@@ -96,7 +69,7 @@ fn told(rt: &impl Abort, fault: RestFault) -> (u32, u32) {
 
 // What is told of a start on these words. The device that comes back has made no event.
 fn verdict(rt: &impl Abort, alloc: Global, words: &[u64]) -> (u32, u32) {
-    match start::<PlainCells, Nothing>(alloc, loaded(rt, alloc, words), 2, List::new(alloc)) {
+    match start::<PlainCells, Named>(alloc, loaded(rt, alloc, words), 2, List::new(alloc)) {
         Ok(begun) => {
             assert_eq!(rt; begun.device.events(), 0);
             (0, 0)
@@ -120,7 +93,7 @@ fn starts_are_told(rt: HostRuntime) -> Result<(), Fail> {
 }
 
 // Three lanes begin on a heap of sixteen blocks of which the first two are roots.
-fn check_begun(rt: &impl Abort, begun: &Begun<PlainCells, Nothing>) {
+fn check_begun(rt: &impl Abort, begun: &Begun<PlainCells, Named>) {
     assert_eq!(rt; begun.device.events(), 0);
     assert_eq!(rt; begun.layout.partitions, 3);
     assert_eq!(rt; begun.book.lanes.len(), 3);
@@ -152,7 +125,7 @@ fn a_world_begins_on_a_fresh_region(rt: HostRuntime) -> Result<(), Fail> {
         Err(_) => return Err("memory".into()),
     };
     let region = loaded(&rt, alloc, words.as_slice());
-    match start::<PlainCells, Nothing>(alloc, region, 3, List::new(alloc)) {
+    match start::<PlainCells, Named>(alloc, region, 3, List::new(alloc)) {
         Ok(begun) => check_begun(&rt, &begun),
         Err((fault, _)) => panic!(rt; "{fault:?}"),
     }

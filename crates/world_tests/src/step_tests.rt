@@ -1,0 +1,153 @@
+//! Calls of lanes step by step, with the events that they make.
+use crate::script::{Ask, Script, Turn};
+use lane_traits::Device;
+use lane_types::{Refusal, Reply, Stepped, What};
+use std::alloc::Global;
+use std::process::Abort;
+use std::test::Fail;
+use test_regions::words_of;
+
+/// Four buckets of one cell, and the heap at 96, whose first two blocks are roots. 352 words in all.
+const SMALL: &[(u32, u64)] = &[
+    (0, 0x5257_4e44_0000_0001),
+    (1, 1),
+    (2, 1),
+    (3, 4),
+    (4, 16),
+    (5, 2),
+    (96, 1),
+    (112, 2),
+];
+
+/// Two partitions of twelve buckets of one cell, and the heap at 416. 672 words in all.
+const SPLIT: &[(u32, u64)] = &[
+    (0, 0x5257_4e44_0000_0002),
+    (1, 1),
+    (2, 1),
+    (3, 24),
+    (4, 16),
+    (5, 2),
+    (6, 2),
+    (13, 1),
+    (14, 1),
+    (416, 1),
+    (432, 2),
+];
+
+/// A region: its words, how many there are, and the address of its heap.
+type Region = (&'static [(u32, u64)], u32, u32);
+
+const WHOLE_LOG: Region = (SMALL, 352, 96);
+
+const SPLIT_LOG: Region = (SPLIT, 672, 416);
+
+/// Takes the turns, and compares how many events were made and how many commits are in the history.
+fn plays(
+    rt: &impl Abort,
+    alloc: Global,
+    region: Region,
+    lanes: u32,
+    turns: &[(u32, Turn)],
+    left: (u64, usize),
+) -> Result<(), Fail> {
+    let words = words_of(alloc, region.0, region.1)?;
+    let mut script = Script::start(rt, alloc, words.as_slice(), region.2, lanes);
+    script.play(rt, alloc, turns);
+    let remains = script.finish();
+    assert_eq!(rt; remains.device.events(), left.0);
+    assert_eq!(rt; remains.history.len(), left.1);
+    Ok(())
+}
+
+/// The update's append makes 22 events, the word and a fence 2, the end's append 22, the closing 4, and the removal of a bucket 7.
+const A_COMMIT: &[(u32, Turn)] = &[
+    (0, Turn::Makes(Ask::Begin(1), Reply::Begun(1))),
+    (0, Turn::Makes(Ask::Write(103, 7), Reply::Written)),
+    (0, Turn::Word(103, 7)),
+    (0, Turn::Makes(Ask::Read(103), Reply::Word(7))),
+    (0, Turn::Makes(Ask::Commit(1), Reply::Committed)),
+];
+
+#[test]
+fn a_write_is_committed(rt: HostRuntime) -> Result<(), Fail> {
+    plays(&rt, rt.alloc(), WHOLE_LOG, 1, A_COMMIT, (57, 1))
+}
+
+/// Lane 1 waits for the structure. The log has room for 3 records beside what is reserved, where a second write needs 5.
+const AN_ABORT: &[(u32, Turn)] = &[
+    (0, Turn::Makes(Ask::Begin(1), Reply::Begun(1))),
+    (0, Turn::Makes(Ask::Write(103, 7), Reply::Written)),
+    (1, Turn::Asks(Ask::Begin(1))),
+    (
+        1,
+        Turn::Steps(Stepped::Waiting {
+            what: What::Structure(0),
+            holder: 0,
+        }),
+    ),
+    (
+        0,
+        Turn::Refused(Ask::Write(104, 7), Refusal::LogFull { room: 3, need: 5 }),
+    ),
+    (0, Turn::Makes(Ask::Abort, Reply::Aborted)),
+    (0, Turn::Word(103, 0)),
+    (1, Turn::Steps(Stepped::Answered(Reply::Begun(2)))),
+    (1, Turn::Makes(Ask::Commit(1), Reply::Committed)),
+];
+
+#[test]
+fn an_abort_takes_its_word_back(rt: HostRuntime) -> Result<(), Fail> {
+    plays(&rt, rt.alloc(), WHOLE_LOG, 2, AN_ABORT, (118, 1))
+}
+
+/// Both lanes are in the midst of appends, each to its partition, and then in the midst of commits.
+const TWO_APPENDS: &[(u32, Turn)] = &[
+    (0, Turn::Makes(Ask::Begin(1), Reply::Begun(1))),
+    (1, Turn::Makes(Ask::Begin(2), Reply::Begun(2))),
+    (0, Turn::Asks(Ask::Write(417, 7))),
+    (1, Turn::Asks(Ask::Write(433, 8))),
+    (0, Turn::Moves(5)),
+    (1, Turn::Moves(9)),
+    (0, Turn::Moves(10)),
+    (1, Turn::Ends(Reply::Written)),
+    (0, Turn::Word(417, 0)),
+    (0, Turn::Word(433, 8)),
+    (0, Turn::Ends(Reply::Written)),
+    (0, Turn::Word(417, 7)),
+    (1, Turn::Asks(Ask::Commit(2))),
+    (1, Turn::Moves(20)),
+    (0, Turn::Asks(Ask::Commit(1))),
+    (0, Turn::Moves(20)),
+    (1, Turn::Ends(Reply::Committed)),
+    (0, Turn::Ends(Reply::Committed)),
+];
+
+#[test]
+fn two_lanes_append_at_once(rt: HostRuntime) -> Result<(), Fail> {
+    plays(&rt, rt.alloc(), SPLIT_LOG, 2, TWO_APPENDS, (114, 2))
+}
+
+/// Lane 2 appends to the partition of lane 0, and waits until its record is whole.
+const A_LATCH: &[(u32, Turn)] = &[
+    (0, Turn::Makes(Ask::Begin(1), Reply::Begun(1))),
+    (2, Turn::Makes(Ask::Begin(2), Reply::Begun(2))),
+    (0, Turn::Asks(Ask::Write(417, 7))),
+    (2, Turn::Asks(Ask::Write(433, 8))),
+    (0, Turn::Moves(5)),
+    (
+        2,
+        Turn::Steps(Stepped::Waiting {
+            what: What::Latch(0),
+            holder: 0,
+        }),
+    ),
+    (0, Turn::Ends(Reply::Written)),
+    (2, Turn::Ends(Reply::Written)),
+    (0, Turn::Word(417, 7)),
+    (0, Turn::Word(433, 8)),
+];
+
+#[test]
+fn a_lane_waits_for_a_latch(rt: HostRuntime) -> Result<(), Fail> {
+    plays(&rt, rt.alloc(), SPLIT_LOG, 3, A_LATCH, (46, 0))
+}
