@@ -1,5 +1,5 @@
 -- What a guard has looked at is what an ask requires.
-use Rattle.std.proofs.Common.{◌≡◌, ◌≢◌, ℕ, ◌<◌, ◌≤◌, ◌+◌, ◌*◌, ◌^◌, [], sym, subst, ap, ◌∙◌, arith}
+use Rattle.std.proofs.Common.{◌≡◌, ◌≢◌, ℕ, ◌<◌, ◌^◌, [], sym, subst, ap, ◌∙◌, arith}
 use Rattle.lane_types.specs.declared.face.Face.{Face}
 use Rattle.lane_types.specs.Faces.{WholeFace}
 use Rattle.lane_types.specs.May.{MayBegin, MayCommit}

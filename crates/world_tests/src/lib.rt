@@ -2,13 +2,15 @@
 #![tactic(auto)]
 
 mod deed;
-mod guards;
-mod regions;
-mod script;
 
 pub use deed::Named;
-pub use script::{Ask, Script, Turn};
 
+#[cfg(test)]
+mod guards;
+#[cfg(test)]
+mod regions;
+#[cfg(test)]
+mod script;
 #[cfg(test)]
 mod start_tests;
 #[cfg(test)]

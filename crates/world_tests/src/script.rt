@@ -42,6 +42,8 @@ pub enum Turn {
     Ends(Reply),
     /// The word at this address has this value.
     Word(u32, u64),
+    /// So many commits are in the history, and whether its own is in flight.
+    Commits(usize, bool),
 }
 
 /// A world on a region of two structures and a heap of 16 blocks.
@@ -64,7 +66,7 @@ fn call_of(ask: Ask) -> Call<Named> {
 }
 
 impl Script {
-    /// A world of so many lanes begins on these words, with the heap at this address.
+    /// A world of so many lanes begins on these words, with the heap at this address. It panics where the world is refused, and where the sizes are others.
     pub fn start(rt: &impl Abort, alloc: Global, words: &[u64], heap: u32, lanes: u32) -> Script {
         let region = loaded(rt, alloc, words);
         expect_sizes(&region, rt, heap);
@@ -118,6 +120,11 @@ impl Script {
         self.world.word(a)
     }
 
+    fn flies(&self, rt: &impl Abort, lane: u32) -> bool {
+        expect_lane(&self.world, rt, lane);
+        self.world.in_flight(lane).is_some()
+    }
+
     fn turn(&mut self, rt: &impl Abort, alloc: Global, lane: u32, turn: Turn) {
         match turn {
             Turn::Makes(ask, reply) => {
@@ -133,10 +140,14 @@ impl Script {
             Turn::Moves(count) => self.moves(rt, lane, count),
             Turn::Ends(reply) => assert_eq!(rt; self.answer(rt, lane), reply),
             Turn::Word(a, value) => assert_eq!(rt; self.word(rt, a), value),
+            Turn::Commits(count, flies) => {
+                assert_eq!(rt; self.world.history().len(), count);
+                assert_eq!(rt; self.flies(rt, lane), flies);
+            }
         }
     }
 
-    /// Takes these turns of lanes.
+    /// Takes these turns, each with its lane. It panics where something else comes of one, and at an ask that may not be made.
     pub fn play(&mut self, rt: &impl Abort, alloc: Global, turns: &[(u32, Turn)]) {
         for (lane, turn) in turns {
             self.turn(rt, alloc, *lane, *turn);

@@ -59,13 +59,26 @@ fn plays(
     Ok(())
 }
 
-/// The update's append makes 22 events, the word and a fence 2, the end's append 22, the closing 4, and the removal of a bucket 7.
+/// The append of the update makes 22 events, the word 1; a fence 1, the append of the end 22, the closing of each record 2, and the removal of a
+/// bucket 7. The commit is in flight between the last two events of its end's append.
 const A_COMMIT: &[(u32, Turn)] = &[
     (0, Turn::Makes(Ask::Begin(1), Reply::Begun(1))),
-    (0, Turn::Makes(Ask::Write(103, 7), Reply::Written)),
+    (0, Turn::Asks(Ask::Write(103, 7))),
+    (0, Turn::Moves(22)),
+    (0, Turn::Word(103, 0)),
+    (0, Turn::Steps(Stepped::Answered(Reply::Written))),
     (0, Turn::Word(103, 7)),
     (0, Turn::Makes(Ask::Read(103), Reply::Word(7))),
-    (0, Turn::Makes(Ask::Commit(1), Reply::Committed)),
+    (0, Turn::Asks(Ask::Commit(1))),
+    (0, Turn::Moves(21)),
+    (0, Turn::Commits(0, false)),
+    (0, Turn::Moves(1)),
+    (0, Turn::Commits(0, true)),
+    (0, Turn::Moves(1)),
+    (0, Turn::Commits(1, false)),
+    (0, Turn::Moves(10)),
+    (0, Turn::Steps(Stepped::Answered(Reply::Committed))),
+    (0, Turn::Steps(Stepped::Idle)),
 ];
 
 #[test]
@@ -73,7 +86,9 @@ fn a_write_is_committed(rt: HostRuntime) -> Result<(), Fail> {
     plays(&rt, rt.alloc(), WHOLE_LOG, 1, A_COMMIT, (57, 1))
 }
 
-/// Lane 1 waits for the structure. The log has room for 3 records beside what is reserved, where a second write needs 5.
+/// Lane 1 waits for the structure. The log has room for 3 records beside what is reserved, where a second write needs 5. The write makes 23 events,
+/// the appends of the rollback record and of the compensation 22 each, the word and a fence 2, the append of the end 22, the closing of three records
+/// 4, that of the end 2, and the removal of three buckets 21. A commit without records makes none.
 const AN_ABORT: &[(u32, Turn)] = &[
     (0, Turn::Makes(Ask::Begin(1), Reply::Begun(1))),
     (0, Turn::Makes(Ask::Write(103, 7), Reply::Written)),
@@ -89,8 +104,13 @@ const AN_ABORT: &[(u32, Turn)] = &[
         0,
         Turn::Refused(Ask::Write(104, 7), Refusal::LogFull { room: 3, need: 5 }),
     ),
-    (0, Turn::Makes(Ask::Abort, Reply::Aborted)),
+    (0, Turn::Asks(Ask::Abort)),
+    (0, Turn::Moves(44)),
+    (0, Turn::Word(103, 7)),
+    (0, Turn::Moves(1)),
     (0, Turn::Word(103, 0)),
+    (0, Turn::Moves(49)),
+    (0, Turn::Steps(Stepped::Answered(Reply::Aborted))),
     (1, Turn::Steps(Stepped::Answered(Reply::Begun(2)))),
     (1, Turn::Makes(Ask::Commit(1), Reply::Committed)),
 ];
