@@ -37,7 +37,7 @@ use Rattle.txn_state.proofs.HeapSteps.{words_are_taken_back}
 use Rattle.txn_core.specs.Making.{Makes, made}
 use Rattle.txn_core.specs.States.{IsWorld, HasWorld, start_of}
 use Rattle.txn_core.specs.Phases.{IsPhased, ArePhased}
-use Rattle.txn_core.specs.Stepping.{StepsWorld, HasMade}
+use Rattle.txn_core.specs.Stepping.{StepsWorld, HasMade, IsCause}
 use Rattle.txn_core.proofs.Facts.{IsRead, has_logs}
 use Rattle.txn_core.proofs.Phasing.{phased_with, other_phased}
 use Rattle.txn_core.proofs.PhasedSteps.{paid_phased}
@@ -176,6 +176,7 @@ pub taken_back_world : {E : Type 0} (deeds : Deeds E) (layout : Layout) (book be
 taken_back_world deeds layout book between later keeper region behind spare left counts after l part v w touched answer told lt at is part_is change (made event counted paid) moves =
     steps_world deeds layout book later keeper keeper region behind spare left counts after l answer stays (paid_step deeds book between later l answer lt paid moves.step)
     (subst (λ (a : Stepped). HasMade a counts after) (sym told) counted) phased
+    (subst (λ (a : Stepped). IsCause layout book keeper counts l a) (sym told) tt)
   where
     inside : l < length between.lanes.items
     inside = lanes_paid book between l paid lt

@@ -41,7 +41,7 @@ use Rattle.txn_core.specs.Running.{whole as run_whole}
 use Rattle.txn_core.specs.Advancing.{Advances, whole}
 use Rattle.txn_core.specs.Clearing.{Clears, begins, ends}
 use Rattle.txn_core.specs.States.{IsWorld, HasWorld, start_of}
-use Rattle.txn_core.specs.Stepping.{StepsWorld, HasMade}
+use Rattle.txn_core.specs.Stepping.{StepsWorld, HasMade, IsCause}
 use Rattle.txn_core.proofs.Facts.{IsRead}
 use Rattle.txn_core.proofs.Latches.{part_of_lane}
 use Rattle.txn_core.proofs.Closings.{turned_then}
@@ -107,6 +107,7 @@ cleared_world deeds layout book between later keeper mid kept words region behin
     (subst (λ (a : Stepped). HasMade a counts after) (sym told) counted)
     (part_phased book between later l DROP lt pays moves.is
     (clears_on (lane_at book l).phase (lane_at book l).has_records (lane_at book l).part DROP (lane_at book l).doing removal clears ∙ sym clears))
+    (subst (λ (a : Stepped). IsCause layout book keeper counts l a) (sym told) tt)
   where
     clears : clears_in (stage_of (lane_at book l)) ≡ true
     clears = cleared_clears (lane_at book l) at
@@ -132,6 +133,7 @@ cleared_world deeds layout book between later keeper mid kept words region behin
     (subst (λ (a : Stepped). HasMade a counts after) (sym told) (inr counted))
     (λ phased. phased_with between later l (left_lane (end_reply (is_commit (lane_at between l).doing)) (lane_at between l)) None inside
     (ap (λ (b : Book _). b.lanes) moves.is) (left_phased (lane_at between l) (end_reply (is_commit (lane_at between l).doing))) (paid_phased book between l lt pays phased))
+    (subst (λ (a : Stepped). IsCause layout book keeper counts l a) (sym told) tt)
   where
     inside : l < length between.lanes.items
     inside = lanes_paid book between l pays lt

@@ -32,7 +32,7 @@ use Rattle.txn_core.specs.Running.{whole as run_whole}
 use Rattle.txn_core.specs.Advancing.{Advances, whole}
 use Rattle.txn_core.specs.Clearing.{HasTurned}
 use Rattle.txn_core.specs.States.{IsWorld, HasWorld, start_of}
-use Rattle.txn_core.specs.Stepping.{StepsWorld, HasMade}
+use Rattle.txn_core.specs.Stepping.{StepsWorld, HasMade, IsCause}
 use Rattle.txn_core.proofs.Latches.{slots_kept, slot_of_lane}
 use Rattle.txn_state.specs.ReadLaws.{clears_in}
 use Rattle.txn_core.proofs.PhasedSteps.{part_phased, clears_on, end_group}
@@ -66,6 +66,7 @@ closing_whole deeds layout book between later keeper mid kept region behind spar
     (subst (λ (a : Stepped). HasMade a counts after) (sym told) counted)
     (part_phased book between later l CLOSE_END lt pays moves.is
     (clears_on (lane_at book l).phase (lane_at book l).has_records (lane_at book l).part CLOSE_END (lane_at book l).doing end_group (ap clears_in at) ∙ sym (ap clears_in at)))
+    (subst (λ (a : Stepped). IsCause layout book keeper counts l a) (sym told) tt)
   where
     inside : l < length between.lanes.items
     inside = lanes_paid book between l pays lt

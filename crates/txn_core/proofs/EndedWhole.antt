@@ -39,7 +39,7 @@ use Rattle.txn_core.specs.Beginning.{Begins}
 use Rattle.txn_core.specs.Clearing.{HasTurned}
 use Rattle.txn_core.specs.States.{IsWorld, HasWorld, start_of}
 use Rattle.txn_core.specs.Phases.{ArePhased}
-use Rattle.txn_core.specs.Stepping.{StepsWorld, HasMade}
+use Rattle.txn_core.specs.Stepping.{StepsWorld, HasMade, IsCause}
 use Rattle.txn_core.proofs.Facts.{IsRead}
 use Rattle.txn_core.proofs.Latches.{slot_of_lane}
 use Rattle.txn_core.proofs.Latching.{begun_slots}
@@ -128,6 +128,7 @@ settled_step deeds layout book begun_book between later keeper begun_log mid kep
       face = λ base stood. paid_step deeds base book between l answer (faces_of base later) (paid_then book begun_book between l paid one.paid) (settled.step base);
       made = subst (λ (a : Stepped). HasMade a counts after) (sym settled.told) one.counted;
       phased = λ phased. settled.phased (begun_phased layout keeper begun_log book begun_book words l cell lt begun phased);
+      cause = subst (λ (a : Stepped). IsCause layout book keeper counts l a) (sym settled.told) tt;
     }
 
 -- ---- an abort

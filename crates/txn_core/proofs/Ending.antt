@@ -28,7 +28,7 @@ use Rattle.txn_state.proofs.HeapSteps.{fences_keep}
 use Rattle.txn_core.specs.Advancing.{Stops}
 use Rattle.txn_core.specs.Making.{Makes, stopped, made}
 use Rattle.txn_core.specs.States.{IsWorld, start_of}
-use Rattle.txn_core.specs.Stepping.{StepsWorld, HasMade}
+use Rattle.txn_core.specs.Stepping.{StepsWorld, HasMade, IsCause}
 use Rattle.txn_core.proofs.PhasedSteps.{part_phased, end_open, fence_open}
 use Rattle.txn_core.proofs.Paid.{goes_with, paid_goes, paid_step, lawful_with, lawful_paid, lanes_paid, steps_world, stops_world}
 
@@ -40,6 +40,7 @@ fenced_world deeds layout book between later keeper region behind spare left cou
     steps_world deeds layout book later keeper keeper region behind spare left counts after l answer stays (paid_step deeds book between later l answer lt paid moves.step)
     (subst (λ (a : Stepped). HasMade a counts after) (sym told) counted)
     (part_phased book between later l END lt paid moves.is (end_open (lane_at book l).phase (lane_at book l).has_records (lane_at book l).doing ∙ sym (fence_open (stage_of (lane_at book l)) at)))
+    (subst (λ (a : Stepped). IsCause layout book keeper counts l a) (sym told) tt)
   where
     inside : l < length between.lanes.items
     inside = lanes_paid book between l paid lt

@@ -1,5 +1,5 @@
 -- What each end of a step leaves of the state, and of the faces.
-use Rattle.std.proofs.Common.{◌≡◌, ℕ, ◌%◌, ◌<◌, true, List, length, None, sym, ap, subst}
+use Rattle.std.proofs.Common.{◌≡◌, ℕ, ◌%◌, ◌<◌, true, List, length, None, sym, ap, subst, refl}
 use Rattle.std.proofs.Math.Logic.{∥∥₁_map}
 use Rattle.persist_model.specs.Region.{Region}
 use Rattle.lane_traits.specs.Device.{Counts}
@@ -24,7 +24,7 @@ use Rattle.txn_core.specs.Stepping.{StepsWorld}
 use Rattle.txn_core.specs.Advancing.{WaitsForLatch, IsSameDevice, waits, runs}
 use Rattle.txn_core.proofs.Facts.{IsRead}
 use Rattle.txn_core.proofs.Paying.{IsPaid, paid_then, paid_step, inside_then}
-pub use Rattle.txn_core.proofs.UnderWay.{LetsLatchGo}
+pub use Rattle.txn_core.proofs.UnderWay.{LetsLatchGo, answered_cause}
 use Rattle.txn_core.proofs.UnderWay.{begun_paid, begun_world_if_free, same_device, noted_world, answered_world, answered_made, answered_step, stored_world, stored_paid, settled_world, whole_paid, begun_phased, answered_phased, stored_phased, whole_phased}
 use Rattle.txn_core.proofs.Phasing.{phased_with, noted_phased}
 
@@ -41,6 +41,7 @@ waits_exit deeds layout book later keeper kept region behind spare left counts a
   made = device.counts_stay;
   phased = phased_with book later l (noted (Stepped.Waiting (What.Latch (l % layout.partitions)) holder) (lane_at book l)) None lt (ap (λ (b : Book _). b.lanes) waiting.moves.is)
       (noted_phased (lane_at book l) (Stepped.Waiting (What.Latch (l % layout.partitions)) holder));
+  cause = record { part = refl; held = waiting.held; some = waiting.some; other = waiting.other };
 }
 
 same_answer : (answer other : Stepped) → Went.Answered answer ≡ Went.Answered other → answer ≡ other
@@ -71,6 +72,7 @@ append_answered_if_free deeds layout book later keeper kept words region behind 
       made = answered_made deeds layout between later mid kept region behind spare left counts after l answer advance;
       phased = λ phased. answered_phased deeds layout between later mid kept region behind spare left counts after l answer inside advance
           (begun_phased layout keeper mid book between words l cell lt begun phased);
+      cause = answered_cause deeds layout book keeper between later mid kept region behind spare left counts after l answer advance;
     }
 
 pub append_answered : {E : Type 0} (deeds : Deeds E) (layout : Layout) (book later : Book E) (keeper kept : LogKeeper) (words : List ℕ) (region behind : Region) (spare left : ℕ) (counts after : Counts) (l : ℕ) (cell : Cell) (answer : Stepped) →
@@ -101,6 +103,7 @@ append_stored_if_free deeds layout book between later keeper kept words region b
       made = one.counted;
       phased = λ phased. stored_phased deeds layout begun_book between later mid kept region behind spare left counts after l c lane inside advance notices moves
           (begun_phased layout keeper mid book begun_book words l cell lt begun phased);
+      cause = tt;
     }
 
 pub append_stored : {E : Type 0} (deeds : Deeds E) (layout : Layout) (book between later : Book E) (keeper kept : LogKeeper) (words : List ℕ) (region behind : Region) (spare left : ℕ) (counts after : Counts) (l : ℕ) (cell c : Cell) (lane : Lane E) →
@@ -133,6 +136,7 @@ append_settled_if_free deeds layout book between later keeper mid kept words reg
       made = one.counted;
       phased = λ phased. whole_phased deeds layout begun_book between later begun_log mid region behind spare left counts after l part inside advance goes moves
           (begun_phased layout keeper begun_log book begun_book words l cell lt begun phased);
+      cause = tt;
     }
 
 pub append_settled : {E : Type 0} (deeds : Deeds E) (layout : Layout) (book between later : Book E) (keeper mid kept : LogKeeper) (words : List ℕ) (region behind : Region) (spare left : ℕ) (counts after : Counts) (l part : ℕ) (cell : Cell) →
@@ -154,4 +158,5 @@ clearing_answered deeds layout book later keeper kept region behind spare left c
   face = λ base stood. answered_step deeds layout base book later keeper kept region behind spare left counts after l answer lt went;
   made = answered_made deeds layout book later keeper kept region behind spare left counts after l answer went;
   phased = answered_phased deeds layout book later keeper kept region behind spare left counts after l answer lt went;
+  cause = answered_cause deeds layout book keeper book later keeper kept region behind spare left counts after l answer went;
 }

@@ -53,3 +53,4 @@ pub mod Aborting
 pub mod AbortingLedgers
 pub mod AbortingWords
 pub mod Crossing
+pub mod Unbuilt

@@ -1,5 +1,5 @@
 -- What a book's calls change as the laws take it: a lane is another, for an event or a record it has paid, and the faces behind a payment are the same.
-use Rattle.std.proofs.Common.{◌≡◌, ℕ, ◌<◌, true, length, Option, None, inr, refl, sym, ◌∙◌, ap, subst}
+use Rattle.std.proofs.Common.{◌≡◌, ℕ, ◌<◌, true, length, Option, None, inl, inr, refl, sym, ◌∙◌, ap, subst}
 use Rattle.std.proofs.Math.Logic.{∥∥₁_map}
 use Rattle.std.proofs.lemmas.List.{length-set}
 use Rattle.persist_model.specs.Region.{Region}
@@ -28,7 +28,7 @@ use Rattle.txn_core.specs.Running.{HasStopped}
 use Rattle.txn_core.specs.Advancing.{Stops}
 use Rattle.txn_core.specs.States.{IsWorld, start_of}
 use Rattle.txn_core.specs.Phases.{ArePhased}
-use Rattle.txn_core.specs.Stepping.{StepsWorld, HasMade}
+use Rattle.txn_core.specs.Stepping.{StepsWorld, HasMade, IsCause}
 use Rattle.txn_core.proofs.Phasing.{phased_with, noted_phased}
 
 -- ---- lanes
@@ -111,10 +111,11 @@ lanes_paid book between l is lt = subst (λ (b : Book _). l < length b.lanes.ite
 
 pub steps_world : {E : Type 0} (deeds : Deeds E) (layout : Layout) (book later : Book E) (keeper kept : LogKeeper) (region behind : Region) (spare left : ℕ) (counts after : Counts) (l : ℕ) (answer : Stepped) →
     ((base : Base) → IsWorld deeds layout base book keeper region spare counts.events → IsWorld deeds layout base later kept behind left after.events) →
-    Steps deeds book later l answer → HasMade answer counts after → (ArePhased book → ArePhased later) →
+    Steps deeds book later l answer → HasMade answer counts after → (ArePhased book → ArePhased later) → IsCause layout book keeper counts l answer →
     StepsWorld deeds layout book later keeper kept region behind spare left counts after l answer
-steps_world deeds layout book later keeper kept region behind spare left counts after l answer stays step made phased = record {
+steps_world deeds layout book later keeper kept region behind spare left counts after l answer stays step made phased cause = record {
   phased = phased;
+  cause = cause;
   stays = λ base is. ∥∥₁_map is (stays base);
   face = λ base is. step base;
   made = made;
@@ -166,6 +167,7 @@ pub stops_world : {E : Type 0} (deeds : Deeds E) (layout : Layout) (book later :
 stops_world deeds layout book later keeper region behind spare left counts after l lt device stops =
     steps_world deeds layout book later keeper keeper region behind spare left counts after l Stepped.Stopped stays stops.step (inr device.counted_it)
     (phased_with book later l (noted Stepped.Stopped (lane_at book l)) None lt (ap (λ (b : Book _). b.lanes) stops.is) (noted_phased (lane_at book l) Stepped.Stopped))
+    (inl device.at_budget)
   where
     here : (base : Base) → IsWorld deeds layout base book keeper region spare counts.events → IsWorld deeds layout base later keeper region spare counts.events
     here base world = record {

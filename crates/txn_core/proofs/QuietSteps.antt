@@ -1,5 +1,5 @@
 -- The steps without an event, each by its laws.
-use Rattle.std.proofs.Common.{◌≡◌, ◌≢◌, inl, ℕ, ◌<◌, ◌^◌, ◌++◌, ◌∷◌, [], Bool, true, false, length, Option, Some, None, refl, sym, ap, ◌∙◌, subst}
+use Rattle.std.proofs.Common.{◌≡◌, ◌≢◌, inl, ℕ, ◌<◌, ◌^◌, ◌++◌, ◌∷◌, [], Bool, true, false, length, Option, Some, None, refl, sym, ap, ◌∙◌, subst, inr}
 use Rattle.std.proofs.Math.Logic.{∥∥₁_elim}
 use Rattle.std.specs.Coded.{Coded-set, coded_bool}
 use Rattle.persist_model.specs.Region.{Region}
@@ -31,7 +31,7 @@ use Rattle.txn_state.proofs.Begins.{begins_keep}
 use Rattle.txn_state.proofs.SameTransaction.{notes_keep}
 use Rattle.txn_state.proofs.Leaves.{unrecorded_aborts_keep, unrecorded_commits_keep}
 use Rattle.txn_core.specs.States.{IsWorld, IsKept, HasWorld}
-use Rattle.txn_core.specs.Stepping.{HasMade}
+use Rattle.txn_core.specs.Stepping.{HasMade, IsCause}
 use Rattle.txn_core.specs.Quiet.{KeepsWorld}
 use Rattle.txn_core.proofs.Phasing.{phased_with, noted_phased, closed_phased, left_phased, begun_phased, commit_left_phased}
 use Rattle.txn_core.proofs.QuietAnswers.{answer_is, steps_answer, last_is}
@@ -69,16 +69,16 @@ module _ {E : Type 0} (deeds : Deeds E) (layout : Layout) (book later : Book E) 
   }
 
   pub notes : (answer : Stepped) → later ≡ with_lane book l (noted answer (lane_at book l)) None → Steps deeds book later l answer → HasMade answer counts counts →
-      KeepsWorld deeds layout book later keeper region spare counts l answer
-  notes answer is steps made = quiet deeds layout book later keeper region spare counts l answer (λ base world. noted_world base answer later is kept world) (λ base world. steps base) made
-      (phased_with book later l (noted answer (lane_at book l)) None lt (ap (λ (b : Book E). b.lanes) is) (noted_phased (lane_at book l) answer))
+      IsCause layout book keeper counts l answer → KeepsWorld deeds layout book later keeper region spare counts l answer
+  notes answer is steps made cause = quiet deeds layout book later keeper region spare counts l answer (λ base world. noted_world base answer later is kept world) (λ base world. steps base) made
+      (phased_with book later l (noted answer (lane_at book l)) None lt (ap (λ (b : Book E). b.lanes) is) (noted_phased (lane_at book l) answer)) cause
 
   -- the same where the answer is told by the steps
-  pub idles : (answer : Stepped) → later ≡ with_lane book l (noted Stepped.Idle (lane_at book l)) None → Steps deeds book later l answer →
+  pub idles : (answer : Stepped) → (lane_at book l).doing ≡ Doing.Nothing → later ≡ with_lane book l (noted Stepped.Idle (lane_at book l)) None → Steps deeds book later l answer →
       KeepsWorld deeds layout book later keeper region spare counts l answer
-  idles answer is steps = let at = steps_answer deeds counts book later l answer Stepped.Idle steps (last_is deeds book book later l _ Stepped.Idle None lt (ap (λ (b : Book E). b.lanes) is) refl) in
+  idles answer rests is steps = let at = steps_answer deeds counts book later l answer Stepped.Idle steps (last_is deeds book book later l _ Stepped.Idle None lt (ap (λ (b : Book E). b.lanes) is) refl) in
       subst (λ (a : Stepped). KeepsWorld deeds layout book later keeper region spare counts l a) (sym at)
-      (notes Stepped.Idle is (subst (λ (a : Stepped). Steps deeds book later l a) at steps) refl)
+      (notes Stepped.Idle is (subst (λ (a : Stepped). Steps deeds book later l a) at steps) refl rests)
 
   stopped_world : (base : Base) → later ≡ record (with_lane book l (noted Stepped.Stopped (lane_at book l)) None) { stopped = true } →
       IsWorld deeds layout base book keeper region spare counts.events → IsWorld deeds layout base later keeper region spare counts.events
@@ -114,13 +114,13 @@ module _ {E : Type 0} (deeds : Deeds E) (layout : Layout) (book later : Book E) 
         });
   }
 
-  pub stops : (answer : Stepped) → later ≡ record (with_lane book l (noted Stepped.Stopped (lane_at book l)) None) { stopped = true } → Steps deeds book later l answer →
+  pub stops : (answer : Stepped) → book.stopped ≡ true → later ≡ record (with_lane book l (noted Stepped.Stopped (lane_at book l)) None) { stopped = true } → Steps deeds book later l answer →
       KeepsWorld deeds layout book later keeper region spare counts l answer
-  stops answer is steps = let at = steps_answer deeds counts book later l answer Stepped.Stopped steps (last_is deeds book book later l _ Stepped.Stopped None lt (ap (λ (b : Book E). b.lanes) is) refl) in
+  stops answer before is steps = let at = steps_answer deeds counts book later l answer Stepped.Stopped steps (last_is deeds book book later l _ Stepped.Stopped None lt (ap (λ (b : Book E). b.lanes) is) refl) in
       subst (λ (a : Stepped). KeepsWorld deeds layout book later keeper region spare counts l a) (sym at)
       (quiet deeds layout book later keeper region spare counts l Stepped.Stopped (λ base world. stopped_world base is world)
       (λ base world. subst (λ (a : Stepped). Steps deeds book later l a) at steps base) (inl refl)
-      (phased_with book later l (noted Stepped.Stopped (lane_at book l)) None lt (ap (λ (b : Book E). b.lanes) is) (noted_phased (lane_at book l) Stepped.Stopped)))
+      (phased_with book later l (noted Stepped.Stopped (lane_at book l)) None lt (ap (λ (b : Book E). b.lanes) is) (noted_phased (lane_at book l) Stepped.Stopped)) (inr before))
 
   -- ---- a call is answered, and the transaction goes on or there is none
 
@@ -166,7 +166,7 @@ module _ {E : Type 0} (deeds : Deeds E) (layout : Layout) (book later : Book E) 
       ((base : Base) → IsKept deeds layout base book keeper region spare counts → IsStep deeds (faces_of base book) (faces_of base later) l (Stepped.Answered reply)) →
       KeepsWorld deeds layout book later keeper region spare counts l (Stepped.Answered reply)
   closes reply quiet_lane is steps = quiet deeds layout book later keeper region spare counts l (Stepped.Answered reply) (λ base world. closed_world base reply is quiet_lane world) steps (inl refl)
-      (phased_with book later l (closed reply (lane_at book l)) None lt (ap (λ (b : Book E). b.lanes) is) (closed_phased (lane_at book l) reply))
+      (phased_with book later l (closed reply (lane_at book l)) None lt (ap (λ (b : Book E). b.lanes) is) (closed_phased (lane_at book l) reply)) tt
 
   -- ---- a transaction without a record ends
 
@@ -176,7 +176,7 @@ module _ {E : Type 0} (deeds : Deeds E) (layout : Layout) (book later : Book E) 
     state = unrecorded_aborts_keep layout _ book later keeper region spare counts.events l stage doing (goes_to book later l (left Reply.Aborted (lane_at book l)) None lt is) kept world.state;
     lawful = lawful.leaves_keep deeds layout base book later l Reply.Aborted None world.lawful lt refl is;
   }) (λ base world. steps base) (inl refl)
-      (phased_with book later l (left Reply.Aborted (lane_at book l)) None lt (ap (λ (b : Book E). b.lanes) is) (left_phased (lane_at book l) Reply.Aborted))
+      (phased_with book later l (left Reply.Aborted (lane_at book l)) None lt (ap (λ (b : Book E). b.lanes) is) (left_phased (lane_at book l) Reply.Aborted)) tt
 
   pub commits : Depends deeds → (e : Entry E) → stage_of (lane_at book l) ≡ Leaving → (lane_at book l).doing ≡ Doing.Commit → (lane_at book l).entry ≡ Some e → IsBook book →
       later ≡ with_history (book.history.items ++ e ∷ []) (with_lane book l (left Reply.Committed (entered_lane (lane_at book l))) None) →
@@ -186,7 +186,7 @@ module _ {E : Type 0} (deeds : Deeds E) (layout : Layout) (book later : Book E) 
         (joins_to book later l (left Reply.Committed (entered_lane (lane_at book l))) e lt is) kept world.state;
     lawful = lawful.commits_keep deeds depends layout base book later l e world.lawful whole lt entry is;
   }) (λ base world. steps base) (inl refl)
-      (phased_with book later l (left Reply.Committed (entered_lane (lane_at book l))) None lt (ap (λ (b : Book E). b.lanes) is) (commit_left_phased (lane_at book l) Reply.Committed))
+      (phased_with book later l (left Reply.Committed (entered_lane (lane_at book l))) None lt (ap (λ (b : Book E). b.lanes) is) (commit_left_phased (lane_at book l) Reply.Committed)) tt
 
   -- ---- a transaction begins
 
@@ -196,6 +196,7 @@ module _ {E : Type 0} (deeds : Deeds E) (layout : Layout) (book later : Book E) 
   begins set answer doing few whole (BeginEnds.waits s holder held is) steps =
       quiet deeds layout book later keeper region spare counts l (Stepped.Waiting (Structure s) holder) (λ base world. noted_world base (Stepped.Waiting (Structure s) holder) later is kept world) steps refl
       (phased_with book later l (noted (Stepped.Waiting (Structure s) holder) (lane_at book l)) None lt (ap (λ (b : Book E). b.lanes) is) (noted_phased (lane_at book l) (Stepped.Waiting (Structure s) holder)))
+      (record { set = set; call = doing; least = held })
   begins set answer doing few whole (BeginEnds.takes loose is) steps =
       quiet deeds layout book later keeper region spare counts l (Stepped.Answered (Reply.Begun book.next_transaction)) (λ base world. record {
         state = begins_keep layout _ book later keeper region spare counts.events l set (record {
@@ -205,7 +206,7 @@ module _ {E : Type 0} (deeds : Deeds E) (layout : Layout) (book later : Book E) 
         }) (has_begun book later l set lt is) (ap (λ (b : Book E). b.history) is) (ap (λ (b : Book E). b.next_transaction) is) kept world.state;
         lawful = lawful.begins_keep deeds layout base book later l set (Stepped.Answered (Reply.Begun book.next_transaction)) world.lawful lt doing whole (BeginEnds.takes loose is);
       }) steps (inl refl)
-      (phased_with book later l (begun_lane book.next_transaction set (length book.history.items) (lane_at book l)) None lt (ap (λ (b : Book E). b.lanes) is) (begun_phased (lane_at book l) book.next_transaction set (length book.history.items)))
+      (phased_with book later l (begun_lane book.next_transaction set (length book.history.items) (lane_at book l)) None lt (ap (λ (b : Book E). b.lanes) is) (begun_phased (lane_at book l) book.next_transaction set (length book.history.items))) tt
 
   -- ---- the answers, as the book's calls tell them
 
@@ -257,6 +258,14 @@ module _ {E : Type 0} (deeds : Deeds E) (layout : Layout) (book later : Book E) 
   answers_made Stepped.Stopped on = inl refl
   answers_made Stepped.Idle on = refl
 
+  answers_cause : (answer : Stepped) → is_answered answer ≡ true → IsCause layout book keeper counts l answer
+  unfolding is_answered
+  answers_cause (Stepped.Answered reply) on = tt
+  answers_cause Stepped.Moved on = tt
+  answers_cause (Stepped.Waiting what holder) on = cc
+  answers_cause Stepped.Stopped on = cc
+  answers_cause Stepped.Idle on = cc
+
   is_an_answer : (reply : Reply) (answer : Stepped) → answer ≡ Stepped.Answered reply → is_answered answer ≡ true
   unfolding is_answered
   is_an_answer reply answer is = ap is_answered is
@@ -267,11 +276,15 @@ module _ {E : Type 0} (deeds : Deeds E) (layout : Layout) (book later : Book E) 
       KeepsWorld deeds layout book later keeper region spare counts l answer
   reads a v answer calling doing is held steps world =
       quiet deeds layout book later keeper region spare counts l answer (λ base kept_world. closed_world base (Reply.Word v) is here kept_world) (λ base kept_world. steps base (held base kept_world))
-      (answers_made answer (∥∥₁_elim world (Coded-set coded_bool _ _) (λ w. is_an_answer (Reply.Word v) answer
-      (answer_is deeds w.0 book later l answer (Stepped.Answered (Reply.Word v)) (steps w.0 (held w.0 ∣ w.1 ∣₁))
-      (last_is deeds book book later l (closed (Reply.Word v) (lane_at book l)) (Stepped.Answered (Reply.Word v)) None lt (ap (λ (b : Book E). b.lanes) is) refl)))))
+      (answers_made answer told)
       (phased_with book later l (closed (Reply.Word v) (lane_at book l)) None lt (ap (λ (b : Book E). b.lanes) is) (closed_phased (lane_at book l) (Reply.Word v)))
+      (answers_cause answer told)
     where
+      told : is_answered answer ≡ true
+      told = ∥∥₁_elim world (Coded-set coded_bool _ _) (λ w. is_an_answer (Reply.Word v) answer
+          (answer_is deeds w.0 book later l answer (Stepped.Answered (Reply.Word v)) (steps w.0 (held w.0 ∣ w.1 ∣₁))
+          (last_is deeds book book later l (closed (Reply.Word v) (lane_at book l)) (Stepped.Answered (Reply.Word v)) None lt (ap (λ (b : Book E). b.lanes) is) refl)))
+
       between : stage_of (lane_at book l) ≡ Between
       between = ap (stage_at (lane_at book l).phase (lane_at book l).has_records (lane_at book l).part) doing
 

@@ -35,7 +35,7 @@ use Rattle.txn_state.proofs.Lanes.{lane_sum_same, reserved_less, reserved_by_sam
 use Rattle.txn_state.proofs.Steps.{numbers_stay, goes_on, beside_same, apart_own}
 use Rattle.txn_state.proofs.SameTransaction.{lane_same, owes_of, same_slots, wants, pending_same}
 use Rattle.txn_core.specs.Phases.{ArePhased}
-use Rattle.txn_core.specs.Stepping.{HasMade}
+use Rattle.txn_core.specs.Stepping.{HasMade, IsCause}
 use Rattle.txn_core.specs.States.{IsWorld, IsKept}
 use Rattle.txn_core.specs.Quiet.{KeepsWorld}
 
@@ -105,12 +105,14 @@ has_begun book later l set lt is = subst (λ (b : Book _). HasLane book b l (beg
 pub quiet : {E : Type 0} (deeds : Deeds E) (layout : Layout) (book later : Book E) (keeper : LogKeeper) (region : Region) (spare : ℕ) (counts : Counts) (l : ℕ) (answer : Stepped) →
     ((base : Base) → IsWorld deeds layout base book keeper region spare counts.events → IsWorld deeds layout base later keeper region spare counts.events) →
     ((base : Base) → IsKept deeds layout base book keeper region spare counts → IsStep deeds (faces_of base book) (faces_of base later) l answer) →
-    HasMade answer counts counts → (ArePhased book → ArePhased later) → KeepsWorld deeds layout book later keeper region spare counts l answer
-quiet deeds layout book later keeper region spare counts l answer keeps face made phased = record {
+    HasMade answer counts counts → (ArePhased book → ArePhased later) → IsCause layout book keeper counts l answer →
+    KeepsWorld deeds layout book later keeper region spare counts l answer
+quiet deeds layout book later keeper region spare counts l answer keeps face made phased cause = record {
   stays = λ base kept. ∥∥₁_map kept (keeps base);
   face = face;
   made = made;
   phased = phased;
+  cause = cause;
 }
 
 -- ---- a call is answered

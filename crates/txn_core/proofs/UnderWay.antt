@@ -1,5 +1,5 @@
 -- What stands behind the begin of an append, and behind an event of a part that is answered.
-use Rattle.std.proofs.Common.{◌≡◌, ℕ, ◌+◌, ◌-◌, ◌%◌, ◌<◌, ◌≤◌, ◌==◌, ◌&&◌, if◌then◌else◌, Bool, true, false, List, Option, length, None, inr, refl, sym, ap, ◌∙◌, subst, arith}
+use Rattle.std.proofs.Common.{◌≡◌, ℕ, ◌+◌, ◌-◌, ◌%◌, ◌<◌, ◌≤◌, ◌==◌, ◌&&◌, if◌then◌else◌, Bool, true, false, List, Option, length, None, inr, refl, sym, ap, ◌∙◌, subst, arith, inl}
 use Rattle.std.specs.Vec.{vec_len, vec_capacity}
 use Rattle.persist_model.specs.Region.{Region}
 use Rattle.lane_traits.specs.Device.{Counts}
@@ -44,7 +44,7 @@ use Rattle.txn_core.specs.Beginning.{Begins, holds, begins}
 use Rattle.txn_core.specs.Running.{Runs, HasStopped, stopped, going, stored, whole, one_made}
 use Rattle.txn_core.specs.Advancing.{Advances, Stops, stopped as stops_so, going as goes_so, stored as stored_so, whole as whole_so}
 use Rattle.txn_core.specs.States.{IsWorld, start_of}
-use Rattle.txn_core.specs.Stepping.{HasMade}
+use Rattle.txn_core.specs.Stepping.{HasMade, IsCause}
 use Rattle.txn_core.specs.Phases.{IsPhased, ArePhased}
 use Rattle.txn_core.proofs.Facts.{IsRead}
 use Rattle.txn_core.proofs.Phasing.{phased_with, noted_phased, owing_phased, moved_phased, other_phased}
@@ -409,3 +409,10 @@ whole_phased deeds layout book between later keeper mid region behind spare left
     (inside_then book between l (paid_event (lane_at book l)) (goes_lane book between l (paid_event (lane_at book l)) book.touched lt pays))
     (ap (λ (b : Book _). b.lanes) moves.is) (settled_phased (lane_at between l) part goes_on)
     (paid_phased book between l ((paid_event (lane_at book l)).owed_events) (lane_at book l).owed_records book.touched lt pays phased)
+
+-- why a part's event is answered so
+pub answered_cause : {E : Type 0} (deeds : Deeds E) (layout : Layout) (first : Book E) (log : LogKeeper) (book later : Book E) (keeper kept : LogKeeper) (region behind : Region) (spare left : ℕ) (counts after : Counts) (l : ℕ) (answer : Stepped) →
+    Advances deeds layout keeper kept region behind counts after spare left book later l (Went.Answered answer) → IsCause layout first log counts l answer
+answered_cause deeds layout first log book later keeper kept region behind spare left counts after l _ (stops_so between runs pays stops) =
+    inl (stopped_runs layout keeper kept region behind counts after l spare left runs).0.at_budget
+answered_cause deeds layout first log book later keeper kept region behind spare left counts after l _ (goes_so between runs pays moves) = tt

@@ -30,7 +30,7 @@ use Rattle.txn_state.proofs.SmallNumbers.{numbers_are_small}
 use Rattle.txn_core.specs.Making.{Makes, made}
 use Rattle.txn_core.specs.Phases.{IsPhased, ArePhased}
 use Rattle.txn_core.specs.States.{IsWorld, IsKept, HasWorld, start_of}
-use Rattle.txn_core.specs.Stepping.{StepsWorld, HasMade}
+use Rattle.txn_core.specs.Stepping.{StepsWorld, HasMade, IsCause}
 use Rattle.txn_core.proofs.Facts.{IsRead}
 use Rattle.txn_core.proofs.Phasing.{phased_with, closed_phased}
 use Rattle.txn_core.proofs.PhasedSteps.{paid_phased}
@@ -103,4 +103,5 @@ module _ {E : Type 0} (deeds : Deeds E) (layout : Layout) (book between later : 
         (paid_lane book between l (paid_event (lane_at book l)).owed_events (lane_at book l).owed_records book.touched lt pays) (step base (holds base stood));
     made = subst (λ (s : Stepped). HasMade s counts after) (sym told) (stored_counted makes);
     phased = stored_phased;
+    cause = subst (λ (s : Stepped). IsCause layout book keeper counts l s) (sym told) tt;
   }

@@ -25,6 +25,7 @@ use Rattle.txn_core.specs.declared.running.Ran.{Ran}
 -- The device has stopped, which it counts, and nothing else is another.
 pub record HasStopped (region later : Region) (counts after : Counts) (spare left : ℕ) : Type 0 where
   pub region_stays : later ≡ region
+  pub at_budget : counts.events ≡ counts.budget
   pub counted_it : after ≡ record counts { stopped = counted counts.stopped }
   pub spare_stays : left ≡ spare
 

@@ -1,5 +1,5 @@
 // Steps without an event.
-ghost use Rattle.std.specs.Prelude.{◌≡◌, ◌<◌, false, length};
+ghost use Rattle.std.specs.Prelude.{◌≡◌, ◌<◌, false, length, true};
 ghost use Rattle.lane_types.specs.declared.call.Phase.TheVariants as Phase;
 ghost use Rattle.lane_book.specs.FacesOf.{lane_at};
 ghost use Rattle.lane_book.specs.declared.lane.Doing.TheVariants as Doing;
@@ -39,6 +39,7 @@ pub(crate) fn stop<D: Device, E: Deed>(
     lane: u32,
 ) -> Stepped
     requires lane { lane < length book.old.lanes.items }
+    requires stopped { book.old.stopped ≡ true }
     requires world { HasWorld E.meaning layout book.old log.now (D.cells device.now) (D.spare device.now) (D.counts device.now) }
     ensures { KeepsWorld E.meaning layout book.old book.new log.now (D.cells device.now) (D.spare device.now) (D.counts device.now) lane result }
 {

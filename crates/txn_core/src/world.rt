@@ -16,7 +16,7 @@ ghost use Rattle.txn_core.specs.Asking.{IsBuilt, Accepts, Refuses};
 ghost use Rattle.txn_core.specs.Phases.{ArePhased};
 ghost use Rattle.txn_core.specs.Starting.{IsForced, Starts};
 ghost use Rattle.txn_core.specs.States.{base_of, IsKept};
-ghost use Rattle.txn_core.specs.Stepping.{HasMade};
+ghost use Rattle.txn_core.specs.Stepping.{HasMade, IsCause};
 ghost use Rattle.txn_core.specs.Worlds.{IsNew, StandForCommits};
 ghost use Rattle.txn_state.specs.ReadLaws.{room_seen};
 ghost use Rattle.txn_state.specs.States.{reserved_for};
@@ -157,12 +157,16 @@ impl<D: Device, E: Deed> World<D, E> {
     }
 
     /// Goes on with the lane's call, by one event at most. The lane's face changes by the row of the answer, and no other does.
+    ///
+    /// It waits where another lane has the latch of its partition, or the least structure that its begin wants and that is held; it is stopped where
+    /// the device is at its budget, or where a step was told so before; and it is idle where the lane has no call in progress.
     pub fn step(&mut self, lane: u32) -> Stepped
         requires { lane < length self.old.book.lanes.items }
         ensures face { IsStep E.meaning
             (faces_of (base_of self.old.layout self.old.sorts.value (D.words self.old.begun.value) (D.counts self.old.begun.value)) self.old.book)
             (faces_of (base_of self.old.layout self.old.sorts.value (D.words self.old.begun.value) (D.counts self.old.begun.value)) self.new.book) lane result }
         ensures made { HasMade result (D.counts self.old.device) (D.counts self.new.device) }
+        ensures cause { IsCause self.old.layout self.old.book self.old.log (D.counts self.old.device) lane result }
         ensures layout { self.new.layout ≡ self.old.layout }
         ensures begun { self.new.begun ≡ self.old.begun }
         ensures sorts { self.new.sorts ≡ self.old.sorts }

@@ -11,6 +11,7 @@ use Rattle.txn_core.proofs.running.run.Goals as goal
 pub returns-in-Stopped-clause-runs : goal.returns-in-Stopped-clause-runs
 returns-in-Stopped-clause-runs g c = stopped (record {
   region_stays = c.event.ensures.stopped_cells c.in-Stopped.is;
+  at_budget = c.event.ensures.stopped.0 c.in-Stopped.is;
   counted_it = c.event.ensures.stopped_counts c.in-Stopped.is;
   spare_stays = c.event.ensures.stopped_spare c.in-Stopped.is;
 }) refl
