@@ -1,0 +1,8 @@
+use Rattle.std.proofs.Common.{sym, subst}
+use Rattle.lane_traits.specs.Space.{Space}
+use Rattle.persist_cells.specs.Calls.{HoldsMap}
+use Rattle.persist_cells.proofs.Fresh.{memory_map_by}
+use Rattle.persist_cells.proofs.tests.fresh.Goals as goal
+
+pub returns : goal.returns
+returns c = subst (λ (s : Space). HoldsMap s 16) (sym c.new-2.ensures.space) (memory_map_by c.in_ok-words.words.items c.in_ok-words.ensures.root c.in_ok-words.ensures.others c.new.result c.new.ensures)
