@@ -9,6 +9,7 @@ pub mod Commands
 pub mod Grammar
 pub mod Limits
 pub mod Report
+pub mod Stopped
 pub mod Generator
 pub mod Served
 pub mod Load

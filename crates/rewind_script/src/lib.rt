@@ -8,6 +8,7 @@ mod recovery;
 mod report;
 mod script;
 mod served;
+mod stopped;
 mod write;
 
 pub use fault::{Fault, ScriptFault};
@@ -16,6 +17,7 @@ pub use read::{number_of, read_script};
 pub use recovery::{RecoveryReport, write_recovery};
 pub use report::{Fate, Got, How, Named, PairList, Printed, Report, write_report};
 pub use script::{Command, Item, LaneText, MOST_COMMANDS, MOST_TRANSACTIONS, Script, Turns};
+pub use stopped::{StopReport, write_stopped};
 
 #[cfg(test)]
 mod tests;

@@ -83,7 +83,7 @@ pub fn write_report(alloc: Global, r: &Report) -> Result<List<u8>, NoMemory>
     Ok(text)
 }
 
-fn append_commits(text: &mut List<u8>, commits: &[Printed]) -> Result<(), NoMemory>
+pub(crate) fn append_commits(text: &mut List<u8>, commits: &[Printed]) -> Result<(), NoMemory>
     ensures { OnOk result (text.new ≡ text.old ++ flat_map commit_lines commits.now) }
 {
     for commit in commits {
