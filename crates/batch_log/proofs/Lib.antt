@@ -1,0 +1,16 @@
+pub mod Events
+pub mod Enough
+pub mod GroupEvents
+pub mod Filling
+pub mod BucketCells
+pub mod FillImages
+pub mod PartGains
+pub mod Rooms
+pub mod StateImages
+pub mod BucketLaws
+pub mod FreeWalks
+pub mod FreeSlots
+pub mod GroupLaws
+pub mod GroupsAtOnce
+pub mod Examples
+pub mod TestRegions

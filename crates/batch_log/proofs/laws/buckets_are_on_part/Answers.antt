@@ -1,0 +1,5 @@
+use Rattle.batch_log.proofs.BucketLaws as lemmas
+use Rattle.batch_log.proofs.laws.buckets_are_on_part.Goals as goal
+
+pub returns : goal.returns
+returns c = lemmas.buckets_are_on_part

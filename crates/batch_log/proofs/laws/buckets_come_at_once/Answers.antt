@@ -1,0 +1,5 @@
+use Rattle.batch_log.proofs.BucketLaws as lemmas
+use Rattle.batch_log.proofs.laws.buckets_come_at_once.Goals as goal
+
+pub returns : goal.returns
+returns c = lemmas.buckets_come_at_once

@@ -1,0 +1,5 @@
+use Rattle.batch_log.proofs.GroupEvents as lemmas
+use Rattle.batch_log.proofs.laws.groups_have_fences.Goals as goal
+
+pub returns : goal.returns
+returns c = lemmas.groups_have_fences
