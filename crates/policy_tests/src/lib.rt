@@ -7,3 +7,5 @@ mod events;
 mod force_tests;
 #[cfg(test)]
 mod noforce_tests;
+#[cfg(test)]
+mod savepoint_tests;

@@ -1,0 +1,5 @@
+pub mod Plans
+pub mod Conditions
+pub mod Images
+pub mod Ends
+pub mod Newest
