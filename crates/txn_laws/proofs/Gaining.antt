@@ -32,6 +32,23 @@ kind_no t k r ne = by (r.transaction == t)
     by true = off
     by false = refl
 
+-- ---- a list with one more at its end
+
+among_end : {A : Type 0} (xs : List A) (y : A) → IsAmong (xs ++ y ∷ []) y
+among_end [] y = inl refl
+among_end (x ∷ xs) y = inr (among_end xs y)
+
+among_before : {A : Type 0} (xs : List A) (y x : A) → IsAmong xs x → IsAmong (xs ++ y ∷ []) x
+among_before [] y x m = absurd m
+among_before (z ∷ xs) y x (inl e) = inl e
+among_before (z ∷ xs) y x (inr m) = inr (among_before xs y x m)
+
+among_either : {A : Type 0} (xs : List A) (y x : A) → IsAmong (xs ++ y ∷ []) x → IsAmong xs x ⊎ (x ≡ y)
+among_either [] y x (inl e) = inr e
+among_either [] y x (inr m) = absurd m
+among_either (z ∷ xs) y x (inl e) = inl (inl e)
+among_either (z ∷ xs) y x (inr m) = elim (among_either xs y x m) [ inl k ↦ inl (inr k) | inr e ↦ inr e ]
+
 module _ (shape : Shape) (log : Log) (h : Words) (x : Txn) (r : Record) (t : IsTransaction shape log h x) (runs : x.over ≡ false) (of : r.transaction ≡ x.number) (plain : r.kind ≢ CHECKPOINT)
     (there : part_of shape r.at ≡ x.part) (above : (q : Record) → IsAmong log q → IsOf x.number q → q.lsn < r.lsn) (own : NamesWord r → IsMine x r.word) where
   going : IsGoing log h x
@@ -229,7 +246,7 @@ module _ (shape : Shape) (log : Log) (h : Words) (x : Txn) (r : Record) (t : IsT
       names = names_more;
     }
 
-    pub given_told : r.kind ≡ DELETION → IsTransaction shape (r ∷ log) h (record x { gifts = record { word = r.word; gate = r.at } ∷ x.gifts })
+    pub given_told : r.kind ≡ DELETION → IsTransaction shape (r ∷ log) h (record x { gifts = x.gifts ++ record { word = r.word; gate = r.at } ∷ [] })
     given_told deletion = record {
       in_part = in_part_more;
       going = λ on. record {
@@ -247,16 +264,16 @@ module _ (shape : Shape) (log : Log) (h : Words) (x : Txn) (r : Record) (t : IsT
       };
       ended = λ over. (let e = sym runs ∙ over in cc);
       deletions = λ a q m d. elim m [
-        | inl e ↦ (record { word = r.word; gate = r.at }, inl refl, sym (ap (λ (z : Record). z.word) e) ∙ d.1, sym (ap (λ (z : Record). z.at) e))
-        | inr k ↦ (let g = t.deletions a q k d in (g.0, inr g.1, g.2, g.3))
+        | inl e ↦ (record { word = r.word; gate = r.at }, among_end x.gifts (record { word = r.word; gate = r.at }), sym (ap (λ (z : Record). z.word) e) ∙ d.1, sym (ap (λ (z : Record). z.at) e))
+        | inr k ↦ (let g = t.deletions a q k d in (g.0, among_before x.gifts (record { word = r.word; gate = r.at }) g.0 g.1, g.2, g.3))
       ];
-      given = λ g m. elim m [
-        | inl e ↦ (r, inl refl, ((deletion, sym (ap (λ (z : Gift). z.word) e), of), sym (ap (λ (z : Gift). z.gate) e)))
-        | inr k ↦ given_more g k
+      given = λ g m. elim (among_either x.gifts (record { word = r.word; gate = r.at }) g m) [
+        | inr e ↦ (r, inl refl, ((deletion, sym (ap (λ (z : Gift). z.word) e), of), sym (ap (λ (z : Gift). z.gate) e)))
+        | inl k ↦ given_more g k
       ];
-      gifts_own = λ g m. elim m [
-        | inl e ↦ subst (λ (z : Gift). IsMine x z.word) (sym e) (own (inr deletion))
-        | inr k ↦ t.gifts_own g k
+      gifts_own = λ g m. elim (among_either x.gifts (record { word = r.word; gate = r.at }) g m) [
+        | inr e ↦ subst (λ (z : Gift). IsMine x z.word) (sym e) (own (inr deletion))
+        | inl k ↦ t.gifts_own g k
       ];
       names = names_more;
     }

@@ -22,7 +22,7 @@ use Rattle.txn_laws.specs.Worlds.{World, IsWorldAt}
 -- with its update it has the update, with a deletion the gift, with a compensation one update less, and with its end it is over
 abbrev pub txn_behind : Added → Record → Txn → Txn
 txn_behind (an_update u) r x = record x { updates = r ∷ x.updates; point = r.lsn }
-txn_behind (a_deletion g) r x = record x { gifts = record { word = r.word; gate = r.at } ∷ x.gifts }
+txn_behind (a_deletion g) r x = record x { gifts = x.gifts ++ record { word = r.word; gate = r.at } ∷ [] }
 txn_behind (a_rollback t) r x = record x { rolled = true }
 txn_behind (a_compensation u cell) r x = record x { updates = rest x.updates; point = r.undo_next }
 txn_behind (an_undone_end t) r x = record x { over = true }

@@ -10,8 +10,8 @@ pub record Gift : Type 0 where
   pub gate : ℕ
 
 -- The transaction of a lane: its number, 0 where it has none; the partition of its records; and the heap words that are its own. Its writes
--- are in order: the first of them have the updates, newest first, and the first `stored` of them stand in the device. The deletions are
--- recorded, and the owner words of the first `zeroed` of them are 0. It has a rollback record (`rolled`); its end is a commit's (`commits`);
+-- are in order: the first of them have the updates, newest first, and the first `stored` of them stand in the device. The gifts are in the order
+-- of their deletions, which are recorded, and the owner words of the first `zeroed` of them are 0. It has a rollback record (`rolled`); its end is a commit's (`commits`);
 -- the end's gate is stored (`ended`), and fenced (`over`), with which a commit joins the history. Nothing of its own words waits for a fence
 -- (`fenced`). `point` is the number of the update that it would undo next.
 pub record Txn : Type 0 where

@@ -47,23 +47,26 @@ use Rattle.txn_laws.proofs.Asking.{latches_keep, appends_begin as begins_append}
 use Rattle.txn_laws.proofs.Reading.{own_reads}
 use Rattle.txn_laws.proofs.Moments.{append_part}
 use Rattle.txn_laws.proofs.Reserved.{newest_are_bound, cells_are_reserved}
-use Rattle.txn_state.specs.Stages.{Stage, Naming, Opening, Undoing, Ending, stage_of, is_commit}
+use Rattle.txn_state.specs.Stages.{Stage, Naming, Opening, Undoing, Ending, stage_of, is_commit, Deleting}
 use Rattle.txn_state.specs.Seen.{booked, noticed}
-use Rattle.txn_state.specs.Ties.{plain_write, plain_entry, AreCellsOf, top_of, IsUpdating, IsRollingBack, IsCompensating, IsEnding, appends_it, IsGoingOn, IsNaming, IsOpening, IsUndoing, IsEndingIt, IsCome, WaitsToAppend, under_of, IsLaneOf}
+use Rattle.txn_state.specs.Ties.{plain_write, plain_entry, IsWrittenWord, AreCellsOf, top_of, IsUpdating, IsRollingBack, IsCompensating, IsEnding, appends_it, IsGoingOn, IsNaming, IsOpening, IsUndoing, IsEndingIt, IsCome, WaitsToAppend, under_of, IsLaneOf, HasGiven, IsDeleting, IsGiving, WaitsToDelete}
 use Rattle.txn_state.specs.Owing.{Needs, needs_at, records_noted}
 use Rattle.txn_state.specs.Numbers.{unpaid}
 use Rattle.txn_state.specs.States.{IsStateOf, reserved_for}
 use Rattle.txn_state.specs.Changes.{GoesTo, HasDrawn, paid_record}
-use Rattle.txn_state.specs.AppendLaws.{top_cell, write_cell, IsNextCell, of_write, of_rollback, of_update, of_end, IsPlaceRead, latched_append, AppendsBegin}
+use Rattle.txn_state.specs.AppendLaws.{top_cell, write_cell, IsNextCell, of_write, of_rollback, of_update, of_end, IsPlaceRead, latched_append, AppendsBegin, deletion_cell, DeletionsBegin}
 use Rattle.txn_state.proofs.Making.{test_same, test_other, under_held, under_free, IsChangedIn, held_changed, held_by_lane, adds_same, takes_same, beside_changed}
 use Rattle.txn_state.proofs.Lanes.{reserved_less, lane_sum, its_entry, same_entry, entries_stay, world_book, roomy_less}
-use Rattle.txn_state.proofs.StageSteps.{EndsCall, commit, abort, call_at}
+use Rattle.txn_state.proofs.StageSteps.{EndsCall, commit, abort, call_at, no_give}
 use Rattle.txn_state.proofs.Named.{updates_counted}
 use Rattle.txn_state.proofs.PlanLengths.{append_between}
 use Rattle.txn_state.proofs.Rebuilding.{Owes, owes_here, unpaid_sum, numbered_there, rebuilt}
 use Rattle.txn_state.proofs.EndsSettling.{room_fewer}
 use Rattle.txn_state.proofs.AppendReads as reads
 use Rattle.txn_state.proofs.AppendReads.{share_by, share_some, bound_there}
+use Rattle.lane_book.specs.declared.lane.Doing.{Doing}
+use Rattle.plan_records.specs.declared.parts.Giving.{Giving}
+use Rattle.txn_state.proofs.Given.{given_owner, give_waits, given_last}
 
 -- ---- lists
 
@@ -95,6 +98,11 @@ first_of c cells (u ∷ updates) are = (u, updates, refl, are.0)
 no_owner : (shape : Shape) (a : ℕ) → IsDataWord shape a → IsRootOwner shape a → ⊥
 no_owner shape a data_word owner =
     let same = owner.2 in let number : block_number shape a ≡ owner.0 = omega (arith, same) in data_word.1 (same ∙ ap (block shape) (sym number))
+
+-- nor is the owner word of a block that isn't a root
+no_root : (shape : Shape) (a : ℕ) → IsWrittenWord shape a → IsRootOwner shape a → ⊥
+no_root shape a (inl data_word) root = no_owner shape a data_word root
+no_root shape a (inr plain) root = let plain_is = plain.3 in let root_is = root.2 in let above = plain.1 in let below = root.1 in omega (arith, plain_is, root_is, above, below)
 
 -- a record of this kind names no word
 names_none : (r : Record) → r.kind ≢ 1 → r.kind ≢ 2 → r.kind ≢ 6 → NamesWord r → ⊥
@@ -129,10 +137,16 @@ pub record IsComing {E : Type 0} (shape : Shape) (s : State) (h : Words) (p next
 pub record HasComing {E : Type 0} (shape : Shape) (s : State) (h : Words) (p next : ℕ) (place : Place) (lane : Lane E) (x : Txn) (cell : Cell) : Type 0 where
   pub added : Added
   pub cell_is : cell_of added ≡ cell
+  pub of_block : (k : ℕ) → lane.doing ≡ Doing.Give k → cell.word ≡ block shape k
   pub coming : IsComing shape s h p next place lane x added
 
 going_on : (adding : Adding) (x : Txn) → IsGoingOn nothing x → IsGoingOn (appends adding 0) x
 going_on adding x going = record { some = going.some; runs = going.runs; unended = λ e. absurd (let none : appends adding 0 ≡ nothing = e in cc) }
+
+-- the cell that comes next, or that of a deletion
+pub data ComesIn {E : Type 0} (layout : Layout) (region : Region) (lane : Lane E) : Cell → Type 0 where
+  known : (cell : Cell) → IsNextCell region lane cell → ComesIn layout region lane cell
+  deletes : (k : ℕ) → stage_of lane ≡ Deleting → lane.doing ≡ Doing.Give k → IsAmong lane.gives.items k → ComesIn layout region lane (deletion_cell layout region lane k)
 
 module _ (E : Type 0) (layout : Layout) (start : Words) (region : Region) (base : Words) (s : State) (chains : ℕ → List ℕ) (w : World) (l : ℕ) (world : IsWorldAt (layout_shape layout) base s chains start w region)
     (blocks : List Standing) (newest_is : Log) (p : ℕ) (lane : Lane E) (is : IsLaneOf layout blocks s.log newest_is nothing p lane (txn_at w.lanes l)) (next : ℕ) (place : Place)
@@ -191,6 +205,7 @@ module _ (E : Type 0) (layout : Layout) (start : Words) (region : Region) (base 
     comes_update = record {
       added = an_update update_is;
       cell_is = refl;
+      of_block = λ k call. absurd (no_give lane.phase lane.has_records lane.part lane.doing Naming k call at (λ e. (let off : Naming ≡ Deleting = e in cc)));
       coming = record {
         one = come_naming.going.some;
         runs = come_naming.going.runs;
@@ -198,7 +213,7 @@ module _ (E : Type 0) (layout : Layout) (start : Words) (region : Region) (base 
         of = sym is.txn.number;
         own = λ names. mine;
         comes = record {
-          no_root = no_owner (layout_shape layout) wr.address (is.data_words wr (slice_among lane.writes.items lane.stored wr got));
+          no_root = no_root (layout_shape layout) wr.address (is.written_words wr (slice_among lane.writes.items lane.stored wr got));
           of_write = record { of_write = write_is; before = before_is };
           point_is = top_same (reverse lane.updates.items) (txn_at w.lanes l).updates is.txn.updates ∙ sym is.txn.point;
           unrolled = come_naming.unrolled;
@@ -221,6 +236,7 @@ module _ (E : Type 0) (layout : Layout) (start : Words) (region : Region) (base 
   comes_rollback at = record {
     added = a_rollback lane.transaction;
     cell_is = refl;
+    of_block = λ k call. absurd (no_give lane.phase lane.has_records lane.part lane.doing Opening k call at (λ e. (let off : Opening ≡ Deleting = e in cc)));
     coming = record {
       one = come.going.some;
       runs = come.going.runs;
@@ -252,6 +268,7 @@ module _ (E : Type 0) (layout : Layout) (start : Words) (region : Region) (base 
   comes_compensation c others at turned = record {
     added = a_compensation first.0 c;
     cell_is = refl;
+    of_block = λ k call. absurd (no_give lane.phase lane.has_records lane.part lane.doing Undoing k call at (λ e. (let off : Undoing ≡ Deleting = e in cc)));
     coming = record {
       one = come.going.some;
       runs = come.going.runs;
@@ -329,6 +346,7 @@ module _ (E : Type 0) (layout : Layout) (start : Words) (region : Region) (base 
       by true commits = record {
         added = a_commit_end lane.transaction;
         cell_is = ap (λ (b : Bool). cell_of_end lane.transaction (if b then Committed else RolledBack)) (sym commits);
+        of_block = λ k call. absurd (no_give lane.phase lane.has_records lane.part lane.doing Ending k call at (λ e. (let off : Ending ≡ Deleting = e in cc)));
         coming = record {
           one = come.going.some;
           runs = come.going.runs;
@@ -351,6 +369,7 @@ module _ (E : Type 0) (layout : Layout) (start : Words) (region : Region) (base 
       by false aborts = record {
         added = an_undone_end lane.transaction;
         cell_is = ap (λ (b : Bool). cell_of_end lane.transaction (if b then Committed else RolledBack)) (sym aborts);
+        of_block = λ k call. absurd (no_give lane.phase lane.has_records lane.part lane.doing Ending k call at (λ e. (let off : Ending ≡ Deleting = e in cc)));
         coming = record {
           one = come.going.some;
           runs = come.going.runs;
@@ -371,11 +390,56 @@ module _ (E : Type 0) (layout : Layout) (start : Words) (region : Region) (base 
         };
       }
 
+  -- a deletion
+  module _ (k : ℕ) (at : stage_of lane ≡ Deleting) (call : lane.doing ≡ Doing.Give k) (among : IsAmong lane.gives.items k) where
+    abbrev giving : Giving
+    giving = record { transaction = lane.transaction; owner_word = block (layout_shape layout) k; owner = newest (region.at (block (layout_shape layout) k)) }
+
+    come_giving : IsGiving nothing (txn_at w.lanes l)
+    come_giving = subst (IsCome s.log nothing (txn_at w.lanes l)) at is.come
+
+    waits_to : WaitsToDelete lane
+    waits_to = give_waits layout blocks s.log newest_is p lane (txn_at w.lanes l) is at
+
+    has_giving : HasReserved (layout_shape layout) s (txn_at w.lanes l) (record { promised = lane.promised; bound = is_bound lane })
+        (record_of (place_address place) (with_number next (cell_of (a_deletion giving))))
+    has_giving = cells (a_deletion giving) come_giving.going.some come_giving.going.runs (sym is.txn.number) (bound_there E lane (inr waits_to.0) (unended_of come_giving.going))
+
+    comes_deletion : HasComing (layout_shape layout) s (fold start w.history) p next place lane (txn_at w.lanes l) (deletion_cell layout region lane k)
+    comes_deletion = record {
+      added = a_deletion giving;
+      cell_is = refl;
+      of_block = λ j other. (let same : Doing.Give k ≡ Doing.Give j = sym call ∙ other in let one : k ≡ j = cc in ap (block (layout_shape layout)) one);
+      coming = record {
+        one = come_giving.going.some;
+        runs = come_giving.going.runs;
+        unended = come_giving.going.unended refl;
+        of = sym is.txn.number;
+        own = λ names. given_owner layout blocks lane.held lane.gives.items lane.gates.items (txn_at w.lanes l).gifts (txn_at w.lanes l).words k is.given among;
+        comes = record {
+          plain = (k, (is.given.each k among).plain, (is.given.each k among).inside, refl);
+          unrolled = come_giving.written.unrolled;
+          cells = has_giving.deletes come_giving.written.unrolled waits_to.0;
+        };
+        come = λ adding same. subst (IsCome s.log (appends adding 0) (txn_at w.lanes l)) (sym at) (record {
+          going = going_on adding (txn_at w.lanes l) come_giving.going;
+          written = come_giving.written;
+          under_way = appends_it adding 0 refl (subst IsDeleting (sym same) tt);
+        });
+        less = λ adding same j c. subst (λ st. IsDrawnOf (needs_at (layout_shape layout) p j c nothing (txn_at w.lanes l) st) (needs_at (layout_shape layout) p (j + 1) c (appends adding 0) (txn_at w.lanes l) st))
+            (sym at) (let most = short adding in record { events = omega (arith, most); records = omega arith; gates = omega arith });
+      };
+    }
+
   pub coming_of : (cell : Cell) → IsNextCell region lane cell → HasComing (layout_shape layout) s (fold start w.history) p next place lane (txn_at w.lanes l) cell
   coming_of _ (of_write wr at got) = comes_update wr at got
   coming_of _ (of_rollback at) = comes_rollback at
   coming_of _ (of_update c others at turned) = comes_compensation c others at turned
   coming_of _ (of_end at) = comes_end at
+
+  pub coming_in : (cell : Cell) → ComesIn layout region lane cell → HasComing (layout_shape layout) s (fold start w.history) p next place lane (txn_at w.lanes l) cell
+  coming_in _ (known cell next_cell) = coming_of cell next_cell
+  coming_in _ (deletes k at call among) = comes_deletion k at call among
 
 -- ---- numbers
 
@@ -413,7 +477,7 @@ none_noted t q ne = ap (λ (b : Bool). if b && not (q.entry.kind == END) then q.
 -- ---- the law
 
 module _ (E : Type 0) (layout : Layout) (start : Words) (book later : Book E) (keeper taken : LogKeeper) (region : Region) (spare events l : ℕ) (place : Place) (cell : Cell)
-    (free : (keeping_of keeper).holder (l % layout.partitions) ≡ 17) (read : IsPlaceRead layout (l % layout.partitions) region place) (next_cell : IsNextCell region (lane_at book l) cell)
+    (free : (keeping_of keeper).holder (l % layout.partitions) ≡ 17) (read : IsPlaceRead layout (l % layout.partitions) region place) (next_cell : ComesIn layout region (lane_at book l) cell)
     (filled : (a : ℕ) → a < region.size → 0 < length (region.at a)) (low : events < 2 ^ 64) (goes : GoesTo book later l (paid_record (lane_at book l))) (is_book : IsBook later)
     (draws : HasDrawn keeper taken (latched_append (l % layout.partitions) l place cell keeper)) (st : IsStateOf layout start book keeper region spare events) where
   abbrev part : ℕ
@@ -495,7 +559,7 @@ module _ (E : Type 0) (layout : Layout) (start : Words) (book later : Book E) (k
       here = was.txn.here one
 
   found : HasComing (layout_shape layout) st.s (fold start st.w.history) part st.w.next place (lane_at book l) (txn_at st.w.lanes l) cell
-  found = coming_of E layout start region st.base st.s st.chains st.w l st.world book.blocks (newest_log st.w.keeping.ledger) part (lane_at book l) was st.w.next place cells_there cell next_cell
+  found = coming_in E layout start region st.base st.s st.chains st.w l st.world book.blocks (newest_log st.w.keeping.ledger) part (lane_at book l) was st.w.next place cells_there cell next_cell
 
   abbrev adding : Adding
   adding = record { place = place; number = st.w.next; added = found.added }
@@ -568,8 +632,6 @@ module _ (E : Type 0) (layout : Layout) (start : Words) (book later : Book E) (k
       here = was.txn.here;
       writes = was.txn.writes;
       stored = was.txn.stored;
-      gifts = was.txn.gifts;
-      gives = was.txn.gives;
       zeroed = was.txn.zeroed;
       commits = was.txn.commits;
       updates = subst (λ (z : Txn). AreCellsOf (reverse (lane_at book l).updates.items) z.updates) (sym noticed_none) was.txn.updates;
@@ -580,8 +642,12 @@ module _ (E : Type 0) (layout : Layout) (start : Words) (book later : Book E) (k
       entry = was.txn.entry;
     };
     come = found.coming.come adding refl;
-    words = was.words;
-    data_words = was.data_words;
+    given = subst (λ (z : Txn). HasGiven layout book.blocks (lane_at book l).held (lane_at book l).gives.items (lane_at book l).gates.items z.gifts (txn_at st.w.lanes l).words) (sym noticed_none) was.given;
+    counts = was.counts;
+    deleting = λ k call. (ap (λ (c : Cell). c.word) found.cell_is ∙ found.of_block k call, (was.deleting k call).1);
+    ends_ungiven = was.ends_ungiven;
+    written_words = was.written_words;
+    taking = was.taking;
     naming = λ stage count. (let waits = was.naming stage count in record { promised = waits.promised; place = waits.place });
     recorded = was.recorded;
     begun = was.begun;
@@ -669,4 +735,9 @@ module _ (E : Type 0) (layout : Layout) (start : Words) (book later : Book E) (k
 
 pub appends_begin : (E : Type 0) → AppendsBegin E
 appends_begin E layout start book later keeper taken region spare events l place cell free read next_cell filled low goes is_book draws st =
-    state_begun E layout start book later keeper taken region spare events l place cell free read next_cell filled low goes is_book draws st
+    state_begun E layout start book later keeper taken region spare events l place cell free read (known cell next_cell) filled low goes is_book draws st
+
+pub deletions_begin : (E : Type 0) → DeletionsBegin E
+deletions_begin E layout start book later keeper taken region spare events l k place free read at call filled low goes is_book draws st =
+    state_begun E layout start book later keeper taken region spare events l place (deletion_cell layout region (lane_at book l) k) free read
+    (deletes k at call (given_last layout book l k call st.is_book.kept)) filled low goes is_book draws st

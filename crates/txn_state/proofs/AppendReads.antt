@@ -35,7 +35,7 @@ use Rattle.txn_laws.specs.Worlds.{World, IsWorldAt}
 use Rattle.txn_laws.proofs.NeedsRest.{newest_known}
 use Rattle.txn_laws.proofs.Rooms.{AreFilled}
 use Rattle.txn_laws.proofs.Reserved.{shares_are_summed}
-use Rattle.txn_state.specs.Stages.{Stage, Free, Between, Leaving, Naming, Storing, Securing, Opening, Undoing, TakingBack, Keeping, Ending, Closing, ClosingEnd, Dropping, Unbuilt, stage_of}
+use Rattle.txn_state.specs.Stages.{Stage, Free, Between, Leaving, Naming, Storing, Deleting, Securing, Opening, Undoing, TakingBack, Keeping, Ending, Closing, ClosingEnd, Dropping, Unbuilt, stage_of}
 use Rattle.txn_state.specs.Ties.{IsCome, IsTxnOf, under_of, IsLaneOf, IsTied}
 use Rattle.txn_state.specs.States.{reserved_for}
 use Rattle.txn_state.specs.AppendLaws.{newest_image}
@@ -91,6 +91,7 @@ unended_at log x Ending come one runs = come.going.unended refl
 unended_at log x Closing come one runs = absurd (let e : true ≡ false = sym come.over.is_over ∙ runs in cc)
 unended_at log x ClosingEnd come one runs = absurd (let e : true ≡ false = sym come.over.is_over ∙ runs in cc)
 unended_at log x Dropping come one runs = absurd (let e : true ≡ false = sym come.over.is_over ∙ runs in cc)
+unended_at log x Deleting come one runs = come.going.unended refl
 unended_at log x Unbuilt come one runs = absurd come
 
 -- a lane with a record, or that was promised one, whose end isn't stored

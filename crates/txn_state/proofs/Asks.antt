@@ -11,7 +11,7 @@ use Rattle.persist_model.specs.Shape.{heap, IsHeapWord}
 use Rattle.log_laws.proofs.Needs.{has_of_true}
 use Rattle.region_layout.specs.declared.cell.Cell.{Cell}
 use Rattle.region_layout.specs.declared.layout.Layout.{Layout}
-use Rattle.region_layout.specs.Layout.{layout_shape, IsDataWord}
+use Rattle.region_layout.specs.Layout.{layout_shape}
 use Rattle.offset_alloc.specs.declared.Standing.{Standing}
 use Rattle.lane_traits.specs.declared.draft.WordWrite.{WordWrite}
 use Rattle.lane_types.specs.declared.call.Phase.{Phase}
@@ -20,7 +20,7 @@ use Rattle.lane_book.specs.declared.book.Book.{Book}
 use Rattle.lane_book.specs.declared.lane.Lane.{Lane}
 use Rattle.lane_book.specs.declared.lane.Doing.{Doing}
 use Rattle.lane_book.specs.FacesOf.{lane_at, is_of}
-use Rattle.lane_book.specs.Books.{IsBook}
+use Rattle.lane_book.specs.Books.{IsBook, ends as ends_call}
 use Rattle.lane_book.specs.Refusals.{is_mine, block_in}
 use Rattle.log_keeper.specs.declared.keeper.LogKeeper.{LogKeeper}
 use Rattle.log_keeper.specs.Logged.{Keeping}
@@ -39,17 +39,20 @@ use Rattle.txn_laws.proofs.Asking.{asks_keep}
 use Rattle.txn_laws.proofs.Rooms.{asks_are_roomy, fewer_are_roomy}
 use Rattle.txn_laws.proofs.Storing.{among_push}
 use Rattle.txn_state.specs.declared.parts.TheConstants.{FIRST, END, CLOSE, CLOSE_END}
-use Rattle.txn_state.specs.Stages.{Stage, Between, Leaving, Naming, Securing, Opening, Ending, Closing, ClosingEnd, Dropping, stage_at, stage_of, is_commit}
-use Rattle.txn_state.specs.Ties.{plain_write, plain_entry, AreCellsOf, is_lanes, IsCome, IsBetween, IsTxnOf, IsLaneOf, WaitsToAppend, waits, under_of}
-use Rattle.txn_state.specs.Owing.{Needs, needs_at, records_noted, OwesEnough}
+use Rattle.txn_state.specs.Stages.{Stage, Between, Leaving, Naming, Storing, Deleting, Securing, Opening, Ending, Closing, ClosingEnd, Dropping, stage_at, stage_of, is_commit}
+use Rattle.txn_state.specs.Ties.{plain_write, plain_entry, AreCellsOf, is_lanes, IsCome, IsBetween, IsTxnOf, IsLaneOf, IsWrittenWord, TakesNext, AreGiftsOf, HasGiven, due_by, WaitsToAppend, waits, under_of}
+use Rattle.txn_state.specs.Owing.{Needs, needs_at, append_most, records_noted, OwesEnough}
 use Rattle.txn_state.specs.States.{is_joining, HasNoEntry, AreEntries, reserved_for, IsStateOf}
 use Rattle.txn_state.specs.Changes.{GoesTo}
-use Rattle.txn_state.specs.QuietLaws.{HasSameRecords, AsksWrite, HasRoomForAsk, WritesAreAsked, ending_needs, AsksEnd, EndsAreAsked}
+use Rattle.txn_state.specs.QuietLaws.{HasSameRecords, HasRoomForAsk, WritesAreAsked, ending_needs, AsksEnd, EndsAreAsked}
 use Rattle.txn_state.proofs.Sums.{sums_few}
 use Rattle.txn_state.proofs.Lanes.{lane_sum_same, roomy_less, entries_go, entries_stay}
 use Rattle.txn_state.proofs.Steps.{numbers_stay, goes_on, beside_with, apart_own, held_with, own_with}
 use Rattle.txn_state.proofs.Resting.{resting_of}
-use Rattle.txn_state.proofs.SameTransaction.{is_lanes_same, pending_same, owes_with, no_gates, same_slots}
+use Rattle.txn_state.proofs.StageSteps.{no_take, due_none, ends_by}
+use Rattle.txn_state.proofs.HeapSteps.{written_heap}
+use Rattle.txn_state.proofs.SameTransaction.{pending_same, owes_with, no_gates, same_slots}
+use Rattle.txn_state.proofs.Given.{given_same, no_gifts, own_word, deletes_none}
 
 -- ---- between its calls
 
@@ -60,7 +63,7 @@ no_commit_stage false false true d is = let e : Closing ≡ Between = is in cc
 no_commit_stage false false false true is = let e : ClosingEnd ≡ Between = is in cc
 no_commit_stage false false false false is = let e : Dropping ≡ Between = is in cc
 
-between_no_commit : (phase : Phase) (recorded : Bool) (part : ℕ) (doing : Doing) → stage_at phase recorded part doing ≡ Between → is_commit doing ≡ false
+pub between_no_commit : (phase : Phase) (recorded : Bool) (part : ℕ) (doing : Doing) → stage_at phase recorded part doing ≡ Between → is_commit doing ≡ false
 between_no_commit phase recorded part Doing.Nothing is = refl
 between_no_commit phase recorded part (Doing.Begin set) is = refl
 between_no_commit phase recorded part (Doing.Read a) is = refl
@@ -121,8 +124,8 @@ module _ {E : Type 0} (layout : Layout) (start : Words) (book later : Book E) (k
   was : IsLaneOf layout book.blocks state.s.log (newest_log state.w.keeping.ledger) nothing (l % layout.partitions) before x
   was = subst (λ u. IsLaneOf layout book.blocks state.s.log (newest_log state.w.keeping.ledger) u (l % layout.partitions) before x) come.rests (state.tied.each l inside)
 
-  mine_of_write : (w : WordWrite) → IsDataWord (layout_shape layout) w.address → is_mine book.blocks before (block_in layout w.address) ≡ true → IsMine x w.address
-  mine_of_write w data_word own = was.words w.address ∙ word_of_lane layout book.blocks before w.address data_word.0 own
+  mine_of_write : (w : WordWrite) → IsHeapWord (layout_shape layout) w.address → is_mine book.blocks before (block_in layout w.address) ≡ true → IsMine x w.address
+  mine_of_write w inside own = own_word layout book.blocks before.held before.gives.items before.gates.items x.gifts x.words w.address was.given (word_of_lane layout book.blocks before w.address inside own)
 
   writes_there : x.writes ++ map plain_write more ≡ map plain_write lane.writes.items
   writes_there = ap (λ ws. ws ++ map plain_write more) was.txn.writes ∙ sym (map-append plain_write before.writes.items more) ∙ ap (map plain_write) (sym writes)
@@ -133,8 +136,6 @@ module _ {E : Type 0} (layout : Layout) (start : Words) (book later : Book E) (k
     here = was.txn.here;
     writes = writes_there;
     stored = was.txn.stored ∙ sym same.stored;
-    gifts = was.txn.gifts;
-    gives = same.gives ∙ was.txn.gives;
     zeroed = was.txn.zeroed;
     commits = sym commits_is;
     updates = subst (λ cells. AreCellsOf (reverse cells) x.updates) (sym same.updates) was.txn.updates;
@@ -146,13 +147,20 @@ module _ {E : Type 0} (layout : Layout) (start : Words) (book later : Book E) (k
   }
 
   lane_there : IsCome state.s.log nothing y (stage_of lane) → ((e : Entry E) → lane.entry ≡ Some e → plain_entry e ≡ entry_of y) →
-      ((w : WordWrite) → IsAmong lane.writes.items w → IsDataWord (layout_shape layout) w.address) → (stage_of lane ≡ Naming → WaitsToAppend lane) →
+      ((w : WordWrite) → IsAmong lane.writes.items w → IsWrittenWord (layout_shape layout) w.address) → TakesNext layout lane → due_by lane.doing ≡ 0 → (ends_call lane.doing ≡ true → lane.gives.items ≡ []) →
+      (stage_of lane ≡ Naming → WaitsToAppend lane) →
       IsLaneOf layout book.blocks state.s.log (newest_log state.w.keeping.ledger) nothing (l % layout.partitions) lane y
-  lane_there at entry data_words naming = record {
+  lane_there at entry written_words taking none_due ungiven naming = record {
     txn = txn_there entry;
     come = at;
-    words = λ a. was.words a ∙ sym (is_lanes_same layout book.blocks before lane a same.held same.gives);
-    data_words = data_words;
+    given = given_same layout book.blocks before.held lane.held before.gives.items lane.gives.items before.gates.items lane.gates.items x.gifts x.gifts x.words x.words same.held same.gives same.gates
+        refl refl was.given;
+    counts = ap length same.gives ∙ (was.counts ∙ ap (λ n. length x.gifts + n)
+        (due_none before.phase before.has_records before.part before.doing Between between (λ e. (let off : Between ≡ Deleting = e in cc)) ∙ sym none_due));
+    deleting = deletes_none layout nothing lane none_due;
+    ends_ungiven = ungiven;
+    written_words = written_words;
+    taking = taking;
     naming = λ is all. naming is;
     recorded = λ one on. same.has_records ∙ was.recorded one on;
     begun = λ on. was.begun (sym same.has_records ∙ on);
@@ -229,10 +237,25 @@ module _ {E : Type 0} (layout : Layout) (start : Words) (book later : Book E) (k
       ap (λ t. length (gates_in t false state.w.keeping.ledger)) (was.txn.number ∙ sym same.transaction) ∙
       ap (λ (k : Keeping). length (gates_in lane.transaction false k.ledger)) state.tied.keeping
 
--- ---- a write
+-- ---- a write, or a take
+
+-- The lane's call is to write one word more of its own, for which it owes enough.
+pub record AsksWord {E : Type 0} (layout : Layout) (book : Book E) (l : ℕ) (write : WordWrite) (lane : Lane E) : Type 0 where
+  pub between : stage_of (lane_at book l) ≡ Between
+  pub naming : stage_of lane ≡ Naming
+  pub same : HasSameRecords (lane_at book l) lane
+  pub writes : lane.writes.items ≡ (lane_at book l).writes.items ++ write ∷ []
+  pub entry : lane.entry ≡ None
+  pub is_no_commit : is_commit lane.doing ≡ false
+  pub word : IsWrittenWord (layout_shape layout) write.address
+  pub taking : TakesNext layout lane
+  pub own : is_mine book.blocks (lane_at book l) (block_in layout write.address) ≡ true
+  pub waits : WaitsToAppend lane
+  pub owes_events : append_most (layout_shape layout) + 1 ≤ lane.owed_events
+  pub owes_record : 1 ≤ lane.owed_records
 
 module _ {E : Type 0} (layout : Layout) (start : Words) (book later : Book E) (keeper : LogKeeper) (region : Region) (spare events l : ℕ) (write : WordWrite) (lane : Lane E)
-    (asks : AsksWrite layout book l write lane) (room : HasRoomForAsk layout book later region l) (goes : GoesTo book later l lane) (kept : IsBook later)
+    (asks : AsksWord layout book l write lane) (room : HasRoomForAsk layout book later region l) (goes : GoesTo book later l lane) (kept : IsBook later)
     (state : IsStateOf layout start book keeper region spare events) where
   abbrev z : Txn
   z = asked (plain_write write ∷ []) false (txn_at state.w.lanes l)
@@ -267,27 +290,42 @@ module _ {E : Type 0} (layout : Layout) (start : Words) (book later : Book E) (k
     under_way = waits refl;
   })
 
-  asks_write : IsStateOf layout start later keeper region spare events
-  asks_write = goes_there layout start book later keeper region spare events l lane asks.between asks.same (write ∷ []) false asks.writes asks.is_no_commit goes kept state room_for entries_asked
+  pub asks_word : IsStateOf layout start later keeper region spare events
+  asks_word = goes_there layout start book later keeper region spare events l lane asks.between asks.same (write ∷ []) false asks.writes asks.is_no_commit goes kept state room_for entries_asked
       (λ v m. elim m [
         | inl e ↦ subst (λ (u : Write). IsMine (txn_at state.w.lanes l) u.address) (sym e)
-            (mine_of_write layout start book later keeper region spare events l lane asks.between asks.same (write ∷ []) false asks.writes asks.is_no_commit goes kept state write asks.data_word asks.own)
+            (mine_of_write layout start book later keeper region spare events l lane asks.between asks.same (write ∷ []) false asks.writes asks.is_no_commit goes kept state write (written_heap (layout_shape layout) write.address asks.word) asks.own)
         | inr none ↦ absurd none
       ])
       (lane_there layout start book later keeper region spare events l lane asks.between asks.same (write ∷ []) false asks.writes asks.is_no_commit goes kept state naming_now
-      (λ e some. (let off : None ≡ Some e = sym asks.entry ∙ some in cc)) words_are (λ is. asks.waits))
+      (λ e some. (let off : None ≡ Some e = sym asks.entry ∙ some in cc)) words_are asks.taking
+      (due_none lane.phase lane.has_records lane.part lane.doing Naming asks.naming (λ e. (let off : Naming ≡ Deleting = e in cc)))
+      (λ on. absurd (let off : false ≡ true = sym (ends_by lane.phase lane.has_records lane.part lane.doing Naming asks.naming) ∙ on in cc)) (λ is. asks.waits))
       (owes_with (layout_shape layout) state.chains later keeper state.w l lane nothing z Naming (subst (λ n. l < n) (sym state.tied.lanes) goes.lanes.inside) goes.lanes.here asks.naming going.rests
       asks.owes_events asks.owes_record (no_gates keeper.slots.items (l % layout.partitions)))
     where
-      words_are : (w : WordWrite) → IsAmong lane.writes.items w → IsDataWord (layout_shape layout) w.address
+      words_are : (w : WordWrite) → IsAmong lane.writes.items w → IsWrittenWord (layout_shape layout) w.address
       words_are w m = elim (among_push (lane_at book l).writes.items write w (subst (λ ws. IsAmong ws w) asks.writes m)) [
-        | inl k ↦ (state.tied.each l (subst (λ n. l < n) (sym state.tied.lanes) goes.lanes.inside)).data_words w k
-        | inr e ↦ subst (λ (u : WordWrite). IsDataWord (layout_shape layout) u.address) (sym e) asks.data_word
+        | inl k ↦ (state.tied.each l (subst (λ n. l < n) (sym state.tied.lanes) goes.lanes.inside)).written_words w k
+        | inr e ↦ subst (λ (u : WordWrite). IsWrittenWord (layout_shape layout) u.address) (sym e) asks.word
       ]
 
 pub writes_are_asked : {E : Type 0} → WritesAreAsked E
 writes_are_asked layout start book later keeper region spare events l write lane asks room goes kept state =
-    asks_write layout start book later keeper region spare events l write lane asks room goes kept state
+    asks_word layout start book later keeper region spare events l write lane (record {
+      between = asks.between;
+      naming = asks.naming;
+      same = asks.same;
+      writes = asks.writes;
+      entry = asks.entry;
+      is_no_commit = asks.is_no_commit;
+      word = inl asks.data_word;
+      taking = λ s k call. absurd (asks.is_no_take s k call);
+      own = asks.own;
+      waits = asks.waits;
+      owes_events = asks.owes_events;
+      owes_record = asks.owes_record;
+    }) room goes kept state
 
 -- ---- an end
 
@@ -322,19 +360,23 @@ module _ {E : Type 0} (layout : Layout) (start : Words) (book later : Book E) (k
     at : stage_of lane ≡ stage
     far : IsCome state.s.log nothing ends stage
     no_naming : stage ≢ Naming
+    no_storing : stage ≢ Storing
+    no_deleting : stage ≢ Deleting
     events_are : (needs_at (layout_shape layout) (l % layout.partitions) (records_noted state.w ends.number) (length (state.chains (l % layout.partitions))) nothing ends stage).events ≤ lane.owed_events
     records_are : (needs_at (layout_shape layout) (l % layout.partitions) (records_noted state.w ends.number) (length (state.chains (l % layout.partitions))) nothing ends stage).records ≤ lane.owed_records
     lists_are : HasRoomIn keeper.slots.items (l % layout.partitions)
         (needs_at (layout_shape layout) (l % layout.partitions) (records_noted state.w ends.number) (length (state.chains (l % layout.partitions))) nothing ends stage).gates
 
   -- what it wants by the ask is what it wants by its stage
-  owes_by : (stage : Stage) → (c : Bool) → commits ≡ c → stage_of lane ≡ stage → IsCome state.s.log nothing ends stage → stage ≢ Naming →
+  owes_by : (stage : Stage) → (c : Bool) → commits ≡ c → stage_of lane ≡ stage → IsCome state.s.log nothing ends stage → stage ≢ Naming → stage ≢ Storing → stage ≢ Deleting →
       ending_needs (layout_shape layout) (records_noted state.w ends.number) (length ends.updates) c ≡
       needs_at (layout_shape layout) (l % layout.partitions) (records_noted state.w ends.number) (length (state.chains (l % layout.partitions))) nothing ends stage → ComesTo stage
-  owes_by stage c is at far no_naming same = record {
+  owes_by stage c is at far no_naming no_storing no_deleting same = record {
     at = at;
     far = far;
     no_naming = no_naming;
+    no_storing = no_storing;
+    no_deleting = no_deleting;
     events_are = subst (λ (x : Needs). x.events ≤ lane.owed_events) wanted asks.owes.0;
     records_are = subst (λ (x : Needs). x.records ≤ lane.owed_records) wanted asks.owes.1;
     lists_are = subst (λ (x : Needs). HasRoomIn keeper.slots.items (l % layout.partitions) x.gates) wanted asks.owes.2;
@@ -351,14 +393,14 @@ module _ {E : Type 0} (layout : Layout) (start : Words) (book later : Book E) (k
       wanted = (λ i. ending_needs (layout_shape layout) (records_same i) (updates_same i) (is i)) ∙ same
 
   comes_to : (recorded c : Bool) → lane.has_records ≡ recorded → commits ≡ c → (stage : Stage) × ComesTo stage
-  comes_to true true on is = (Securing, owes_by Securing true is (asks.ends ∙ stage_is) between_now (λ e. (let f : Securing ≡ Naming = e in cc)) refl)
+  comes_to true true on is = (Securing, owes_by Securing true is (asks.ends ∙ stage_is) between_now (λ e. (let f : Securing ≡ Naming = e in cc)) (λ e. (let f : Securing ≡ Storing = e in cc)) (λ e. (let f : Securing ≡ Deleting = e in cc)) refl)
     where
       stage_is : (if lane.has_records then (if commits then Securing else Opening) else Leaving) ≡ Securing
       stage_is = λ i. if on i then (if is i then Securing else Opening) else Leaving
   comes_to true false on is = (
     Opening,
     owes_by Opening false is (asks.ends ∙ stage_is) (record { going = between_now.going; written = between_now.written; under_way = waits refl })
-        (λ e. (let f : Opening ≡ Naming = e in cc)) refl,
+        (λ e. (let f : Opening ≡ Naming = e in cc)) (λ e. (let f : Opening ≡ Storing = e in cc)) (λ e. (let f : Opening ≡ Deleting = e in cc)) refl,
   )
     where
       stage_is : (if lane.has_records then (if commits then Securing else Opening) else Leaving) ≡ Opening
@@ -373,6 +415,8 @@ module _ {E : Type 0} (layout : Layout) (start : Words) (book later : Book E) (k
         no_record = no_record_of layout start book later keeper region spare events l lane asks.between asks.same [] commits writes_same asks.commits_is goes kept state off;
       };
       no_naming = λ e. (let f : Leaving ≡ Naming = e in cc);
+      no_storing = λ e. (let f : Leaving ≡ Storing = e in cc);
+      no_deleting = λ e. (let f : Leaving ≡ Deleting = e in cc);
       events_are = omega arith;
       records_are = omega arith;
       lists_are = no_gates keeper.slots.items (l % layout.partitions);
@@ -413,8 +457,15 @@ module _ {E : Type 0} (layout : Layout) (start : Words) (book later : Book E) (k
       number : ends.number ≡ lane.transaction
       number = was_txn.number ∙ sym asks.same.transaction
 
+      was_given : HasGiven layout book.blocks (lane_at book l).held (lane_at book l).gives.items (lane_at book l).gates.items (txn_at state.w.lanes l).gifts (txn_at state.w.lanes l).words
+      was_given = (was layout start book later keeper region spare events l lane asks.between asks.same [] commits writes_same asks.commits_is goes kept state).given
+
+      none_given_there : (txn_at state.w.lanes l).gifts ≡ []
+      none_given_there = no_gifts (layout_shape layout) (lane_at book l).gates.items (txn_at state.w.lanes l).gifts
+          (subst (λ gs. AreGiftsOf (layout_shape layout) gs (lane_at book l).gates.items (txn_at state.w.lanes l).gifts) (sym asks.same.gives ∙ asks.no_gives) was_given.gifts_are)
+
       written_all : ends.writes ++ map zero_of ends.gifts ≡ map plain_write lane.writes.items
-      written_all = ap (λ gs. ends.writes ++ map zero_of gs) was_txn.gifts ∙ append-nil ends.writes ∙
+      written_all = ap (λ gs. ends.writes ++ map zero_of gs) none_given_there ∙ append-nil ends.writes ∙
           writes_there layout start book later keeper region spare events l lane asks.between asks.same [] commits writes_same asks.commits_is goes kept state
 
   asks_end : (to : (stage : Stage) × ComesTo stage) → IsStateOf layout start later keeper region spare events
@@ -422,7 +473,9 @@ module _ {E : Type 0} (layout : Layout) (start : Words) (book later : Book E) (k
       (roomy_less layout book later region less state.roomy) (entries_ended commits refl) (λ v m. absurd m)
       (lane_there layout start book later keeper region spare events l lane asks.between asks.same [] commits writes_same asks.commits_is goes kept state
       (subst (IsCome state.s.log nothing ends) (sym to.1.at) to.1.far) entry_there
-      (λ w m. (state.tied.each l inside_now).data_words w (subst (λ ws. IsAmong ws w) asks.writes m)) (λ is. absurd (to.1.no_naming (sym to.1.at ∙ is))))
+      (λ w m. (state.tied.each l inside_now).written_words w (subst (λ ws. IsAmong ws w) asks.writes m))
+      (λ s k call. absurd (no_take lane.phase lane.has_records lane.part lane.doing to.0 s k call to.1.at to.1.no_naming to.1.no_storing))
+      (due_none lane.phase lane.has_records lane.part lane.doing to.0 to.1.at to.1.no_deleting) (λ on. asks.no_gives) (λ is. absurd (to.1.no_naming (sym to.1.at ∙ is))))
       (owes_with (layout_shape layout) state.chains later keeper state.w l lane nothing ends to.0 inside_now goes.lanes.here to.1.at now.rests to.1.events_are to.1.records_are to.1.lists_are)
     where
       inside_now : l < length state.w.lanes

@@ -5,7 +5,7 @@ use Rattle.std.specs.List.{filter, list_any}
 use Rattle.std.proofs.lemmas.Bool.Decides.{nat_tests}
 use Rattle.std.proofs.lemmas.Bool.{ltb-true}
 use Rattle.persist_model.specs.Region.{Words, Region}
-use Rattle.persist_model.specs.Records.{IsAmong}
+use Rattle.persist_model.specs.Records.{IsAmong, Log}
 use Rattle.persist_model.specs.Need.{has_of}
 use Rattle.persist_model.specs.Shape.{heap, IsHeapWord}
 use Rattle.log_laws.proofs.MoveRooms.{some_of}
@@ -15,6 +15,7 @@ use Rattle.offset_alloc.specs.declared.Standing.{Standing}
 use Rattle.lane_types.specs.Heaps.{has_bit, names_in}
 use Rattle.lane_book.specs.declared.book.Book.{Book}
 use Rattle.lane_book.specs.declared.lane.Lane.{Lane}
+use Rattle.lane_book.specs.declared.lane.Doing.{Doing}
 use Rattle.lane_book.specs.FacesOf.{lane_at, is_of}
 use Rattle.lane_book.specs.Lanes.{begun_lane}
 use Rattle.lane_book.specs.Books.{IsBook}
@@ -22,7 +23,7 @@ use Rattle.lane_book.specs.Refusals.{owner_number, is_mine, block_in}
 use Rattle.lane_book.specs.Reserved.{reserved_by}
 use Rattle.log_keeper.specs.declared.keeper.LogKeeper.{LogKeeper}
 use Rattle.log_keeper.specs.Ledger.{newest_log}
-use Rattle.history_laws.specs.UnderWay.{nothing}
+use Rattle.history_laws.specs.UnderWay.{nothing, UnderWay}
 use Rattle.txn_laws.specs.Txns.{Txn, idle, txn_at, with_txn}
 use Rattle.txn_laws.specs.Owners.{IsMine, IsNobodys}
 use Rattle.txn_laws.specs.Worlds.{with_lane}
@@ -32,8 +33,8 @@ use Rattle.txn_laws.proofs.Finding.{idle_none}
 use Rattle.txn_laws.proofs.Lanes.{with_here}
 use Rattle.txn_laws.proofs.Beginning.{begins_keep as begins_there}
 use Rattle.txn_laws.proofs.NeedsRest.{newest_known}
-use Rattle.txn_state.specs.Stages.{Between, Naming}
-use Rattle.txn_state.specs.Ties.{plain_write, plain_entry, is_lanes, IsCome, IsLaneOf, under_of}
+use Rattle.txn_state.specs.Stages.{Free, Between, Naming, Deleting}
+use Rattle.txn_state.specs.Ties.{plain_write, plain_entry, is_lanes, IsCome, IsLaneOf, under_of, due_by}
 use Rattle.txn_state.specs.Numbers.{pending, IsNumbered}
 use Rattle.txn_state.specs.States.{is_joining, AreEntries, IsStateOf}
 use Rattle.txn_state.specs.Changes.{HasLane}
@@ -41,6 +42,10 @@ use Rattle.txn_state.specs.QuietLaws.{MayBegin as MayTake, BeginsKeep}
 use Rattle.txn_state.proofs.Lanes.{by_lane, lane_sum, lane_sum_same, lane_sum_less, reserved_less, roomy_less, HasItsEntry, its_entry, entries_go}
 use Rattle.txn_state.proofs.Steps.{goes_on, beside_with, held_with, txn_past, own_with}
 use Rattle.txn_state.proofs.SameTransaction.{owes_of, no_gates, same_slots}
+use Rattle.txn_state.proofs.Given.{StandsFor, stands_for, gates_counted, none_given, deletes_none}
+use Rattle.txn_state.proofs.StageSteps.{due_none}
+use Rattle.txn_state.specs.Seen.{noticed}
+use Rattle.std.proofs.Math.Nat.{zero-add}
 
 -- ---- whose a block is
 
@@ -79,7 +84,17 @@ lanes_word layout blocks lane a on =
     above : (m n : ℕ) → not (nat_lt m n) ≡ true → n ≤ m
     above m n h = grind (arith, nat_tests, h)
 
+-- whose words are, by the block
+pub lane_stands : {E : Type 0} (layout : Layout) (blocks : List Standing) (log newest : Log) (u : UnderWay) (p : ℕ) (lane : Lane E) (x : Txn) (a : ℕ) → IsLaneOf layout blocks log newest u p lane x →
+    IsMine x a → StandsFor blocks lane.held (block_in layout a)
+lane_stands layout blocks log newest u p lane x a of mine = stands_for layout blocks lane.held lane.gives.items lane.gates.items (noticed (layout_shape layout) p u x).gifts x.words a of.given
+    (mine_of blocks lane (block_in layout a)) mine
+
 -- ---- numbers of lists
+
+length_none : {A : Type 0} (xs : List A) → length xs ≡ 0 → xs ≡ []
+length_none [] e = refl
+length_none (x ∷ xs) e = absurd (omega (arith, e))
 
 no_writes : {A B : Type 0} (f : A → B) (xs : List A) → [] ≡ map f xs → xs ≡ []
 no_writes f [] e = refl
@@ -89,7 +104,7 @@ off_of : (b : Bool) → (b ≡ true → ⊥) → b ≡ false
 off_of true never = absurd (never refl)
 off_of false never = refl
 
-lt_or_ge : (k n : ℕ) → (k < n) ⊎ (n ≤ k)
+pub lt_or_ge : (k n : ℕ) → (k < n) ⊎ (n ≤ k)
 lt_or_ge k zero = inr (omega arith)
 lt_or_ge zero (suc n) = inl (omega arith)
 lt_or_ge (suc k) (suc n) = elim (lt_or_ge k n) [ inl lt ↦ inl (omega (arith, lt)) | inr le ↦ inr (omega (arith, le)) ]
@@ -128,7 +143,10 @@ module _ {E : Type 0} (layout : Layout) (start : Words) (book later : Book E) (k
   unrecorded on = let one : 1 ≤ 0 = was.begun on in omega (arith, one)
 
   no_gives : before.gives.items ≡ []
-  no_gives = was.txn.gives
+  no_gives = length_none before.gives.items (was.counts ∙ zero-add (due_by before.doing) ∙ due_none before.phase before.has_records before.part before.doing Free may.free (λ e. (let off : Free ≡ Deleting = e in cc)))
+
+  none_gated : before.gates.items ≡ []
+  none_gated = length_none before.gates.items (gates_counted (layout_shape layout) before.gives.items before.gates.items [] was.given.gifts_are)
 
   empty : before.writes.items ≡ []
   empty = no_writes plain_write before.writes.items was.txn.writes
@@ -149,8 +167,6 @@ module _ {E : Type 0} (layout : Layout) (start : Words) (book later : Book E) (k
       here = λ one. refl;
       writes = was.txn.writes;
       stored = was.txn.stored;
-      gifts = refl;
-      gives = was.txn.gives;
       zeroed = refl;
       commits = refl;
       updates = was.txn.updates;
@@ -165,8 +181,12 @@ module _ {E : Type 0} (layout : Layout) (start : Words) (book later : Book E) (k
       going = record { some = state.numbered.some; runs = refl; unended = λ is. refl };
       written = record { stored_all = refl; updates_all = refl; unrolled = refl };
     };
-    words = λ a. refl;
-    data_words = λ w m. absurd (subst (λ ws. IsAmong ws w) empty m);
+    given = none_given layout book.blocks lane.held lane.gives.items lane.gates.items (is_lanes layout book.blocks lane) no_gives none_gated (λ a. refl);
+    counts = ap length no_gives;
+    deleting = deletes_none layout nothing lane refl;
+    ends_ungiven = λ on. absurd (let off : false ≡ true = on in cc);
+    written_words = λ w m. absurd (subst (λ ws. IsAmong ws w) empty m);
+    taking = λ s k call. (let off : Doing.Nothing ≡ Doing.Take s k = call in cc);
     naming = λ naming at. (let off : Between ≡ Naming = naming in cc);
     recorded = λ one on. absurd (unknown on);
     begun = λ recorded. absurd (unrecorded recorded);
@@ -175,19 +195,23 @@ module _ {E : Type 0} (layout : Layout) (start : Words) (book later : Book E) (k
 
   -- ---- its words are nobody's
 
-  lane_has : (k a : ℕ) → k < length state.w.lanes → IsMine (txn_at state.w.lanes k) a → is_mine book.blocks (lane_at book k) (block_in layout a) ≡ true
-  lane_has k a lt mine = (lanes_word layout book.blocks (lane_at book k) a (sym ((state.tied.each k lt).words a) ∙ mine)).1
+  lane_has : (k a : ℕ) → k < length state.w.lanes → IsMine (txn_at state.w.lanes k) a → StandsFor book.blocks (lane_at book k).held (block_in layout a)
+  lane_has k a lt mine = lane_stands layout book.blocks state.s.log (newest_log state.w.keeping.ledger) (under_of (layout_shape layout) state.w k) (k % layout.partitions) (lane_at book k)
+      (txn_at state.w.lanes k) a (state.tied.each k lt) mine
 
   nobodys : (a : ℕ) → is_lanes layout book.blocks lane a ≡ true → IsNobodys state.w.lanes a
   nobodys a new k mine = elim (lt_or_ge k (length state.w.lanes)) [
     | inl lt ↦ (
         let mine_now = mine_of book.blocks lane (block_in layout a) (lanes_word layout book.blocks lane a new).1 in
-        let theirs = mine_of book.blocks (lane_at book k) (block_in layout a) (lane_has k a lt mine) in
-        let same : Some (Standing.Owned mine_now.0) ≡ Some (Standing.Owned theirs.0) = sym mine_now.1 ∙ theirs.1 in
-        let one : mine_now.0 ≡ theirs.0 = cc in
-        let loose : has_bit (lane_at book k).held mine_now.0 ≡ false = may.loose mine_now.0 (state.is_book.structures (block_in layout a) mine_now.0 mine_now.1) mine_now.2 k in
-        let off : false ≡ true = sym loose ∙ ap (λ s. has_bit (lane_at book k).held s) one ∙ theirs.2 in
-        cc)
+        elim (lane_has k a lt mine) [
+          | inl pending ↦ (let off : Some (Standing.Owned mine_now.0) ≡ Some Standing.Pending = sym mine_now.1 ∙ pending in cc)
+          | inr theirs ↦ (
+              let same : Some (Standing.Owned mine_now.0) ≡ Some (Standing.Owned theirs.0) = sym mine_now.1 ∙ theirs.1 in
+              let one : mine_now.0 ≡ theirs.0 = cc in
+              let loose : has_bit (lane_at book k).held mine_now.0 ≡ false = may.loose mine_now.0 (state.is_book.structures (block_in layout a) mine_now.0 mine_now.1) mine_now.2 k in
+              let off : false ≡ true = sym loose ∙ ap (λ s. has_bit (lane_at book k).held s) one ∙ theirs.2 in
+              cc)
+        ])
     | inr le ↦ absurd (idle_none a (subst (λ x. IsMine x a) (txn_past state.w.lanes k le) mine))
   ]
 

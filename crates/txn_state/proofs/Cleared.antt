@@ -31,6 +31,8 @@ use Rattle.txn_state.proofs.StageSteps.{EndsCall, call_at}
 use Rattle.txn_state.proofs.HeapSteps.{owes_of, come_here}
 use Rattle.txn_state.proofs.PartsOver.{IsPartOver, group_over, group_log, group_chains, removal_over, removal_log, removal_shortens}
 use Rattle.txn_state.proofs.ClosingSteps.{leaves_state}
+use Rattle.txn_state.proofs.Given.{ends_no_gifts, closes_ends}
+use Rattle.txn_state.proofs.StageSteps.{ends_told}
 
 -- ---- a group is over
 
@@ -108,7 +110,8 @@ module _ {E : Type 0} (layout : Layout) (start : Words) (book : Book E) (keeper 
       under = sym under_now ∙ is
 
       no_gifts : (txn_at before.lanes (before.keeping.holder q)).gifts ≡ []
-      no_gifts = subst (λ h. (txn_at before.lanes h).gifts ≡ []) (sym holder_now) mine_now.txn.gifts
+      no_gifts = subst (λ h. (txn_at before.lanes h).gifts ≡ []) (sym holder_now) (ends_no_gifts layout book.blocks state.s.log (newest_log before.keeping.ledger) (under_of shape_now before l) q lane x mine_now
+          (ends_told lane.phase lane.has_records lane.part lane.doing ∙ closes_ends state.s.log (under_of shape_now before l) x (stage_of lane) gates ends n mine_now.come is))
 
       none_zeroed : (txn_at before.lanes (before.keeping.holder q)).zeroed ≡ 0
       none_zeroed = subst (λ h. (txn_at before.lanes h).zeroed ≡ 0) (sym holder_now) mine_now.txn.zeroed

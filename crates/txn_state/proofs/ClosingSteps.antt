@@ -250,6 +250,7 @@ module _ {E : Type 0} (layout : Layout) (start : Words) (book later : Book E) (k
                 updates = refl;
                 stored = refl;
                 gives = refl;
+                gates = refl;
                 records = refl;
                 rolled = refl;
                 ended = refl;

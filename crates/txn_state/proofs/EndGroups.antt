@@ -21,7 +21,7 @@ use Rattle.lane_book.specs.FacesOf.{lane_at}
 use Rattle.lane_types.specs.declared.call.Phase.{Phase}
 use Rattle.log_keeper.specs.declared.keeper.LogKeeper.{LogKeeper}
 use Rattle.log_keeper.specs.Parts.{rests, appends as adds, closes as shuts, takes_back as drops_deletions, drops as takes_out, Running, plan_of, CanRun, IsListedGate}
-use Rattle.log_keeper.specs.Ledger.{Settled, Noted, AreNewestFirst, left_open}
+use Rattle.log_keeper.specs.Ledger.{Settled, Noted, AreNewestFirst, left_open, newest_log}
 use Rattle.log_keeper.specs.Listing.{is_chosen, gates_in}
 use Rattle.log_keeper.specs.Logged.{Keeping}
 use Rattle.log_keeper.specs.Making.{made_part}
@@ -50,6 +50,8 @@ use Rattle.txn_state.proofs.HeapSteps.{owes_of, come_here}
 use Rattle.txn_state.proofs.PartsOver.{settled_or_not, settled_among, group_closing, group_can}
 use Rattle.txn_state.proofs.Cleared.{IsGroupOver, holder_now, under_now, one_event, last_event, mine_now, group_done}
 use Rattle.txn_state.proofs.NextParts.{next_state}
+use Rattle.txn_state.proofs.Given.{ends_no_gifts}
+use Rattle.txn_state.proofs.StageSteps.{ends_by}
 
 -- ---- the gates of a transaction's ends
 
@@ -328,7 +330,9 @@ module _ {E : Type 0} (layout : Layout) (start : Words) (book : Book E) (keeper 
   pub second_group : IsEndGroup the_shape first_over.over.base first_over.over.state (first_over.over.chains_behind the_part) the_part the_txn
       (gates_in the_txn.number true (made_part the_shape the_part state.w.keeping).ledger)
   second_group = end_group the_shape first_over.over.base first_over.over.state first_over.over.chains_behind start behind_world (region_made state.w.keeping the_part e region) first_over.over.world l the_part
-      state.s first_gates first_groups first_closing first_over.log_is ends_alone (mine_now layout start book keeper region behind spare left events made l e state m last_one in_book).txn.gifts
+      state.s first_gates first_groups first_closing first_over.log_is ends_alone (ends_no_gifts layout book.blocks state.s.log (newest_log state.w.keeping.ledger) (under_of the_shape state.w l) the_part (lane_at book l) the_txn
+      (mine_now layout start book keeper region behind spare left events made l e state m last_one in_book)
+      (ends_by (lane_at book l).phase (lane_at book l).has_records (lane_at book l).part (lane_at book l).doing Closing at))
       (mine_now layout start book keeper region behind spare left events made l e state m last_one in_book).txn.zeroed end_left
 
   -- the same with the gates as the keeper lists them
@@ -356,7 +360,7 @@ closings_go_on layout start book later keeper kept region behind spare left even
     (call_at (lane_at book l).phase (lane_at book l).has_records (lane_at book l).part (lane_at book l).doing Closing at refl) in
     next_state layout start book later keeper kept region behind spare left events made l e state m last first.over
     (closes [] (gates_in (lane_at book l).transaction true (made_in layout keeper (l % layout.partitions)).ledger) 0) (λ none. cc) (λ place r added. cc) refl
-    (omega (arith, plan)) second.can second.fits refl CLOSE_END ClosingEnd stage.0 (λ off. cc) closing.over.is_over stage.1
+    (omega (arith, plan)) second.can second.fits refl CLOSE_END ClosingEnd stage.0 (λ off. cc) (λ off. cc) closing.over.is_over stage.1
     (ap (λ u. noticed (layout_shape layout) (l % layout.partitions) u (txn_at state.w.lanes l)) closing.under_way) refl
     (record {
       over = closing.over;

@@ -67,6 +67,8 @@ use Rattle.txn_state.proofs.Rebuilding.{Owes, events_paid, records_owed, unpaid_
 use Rattle.txn_state.proofs.Moving.{HasSameBook, lane_as, appended_of}
 use Rattle.txn_state.proofs.Going as going
 use Rattle.txn_state.proofs.Settling as settling
+use Rattle.txn_state.proofs.Given.{ends_no_gifts}
+use Rattle.txn_state.proofs.StageSteps.{ends_by}
 
 -- ---- with fewer wants
 
@@ -264,7 +266,8 @@ module _ (E : Type 0) (layout : Layout) (start : Words) (book : Book E) (keeper 
     number = fits.number;
     here = fits.here;
     is_over = refl;
-    zeroed_all = λ commits. was.txn.zeroed ∙ sym (ap length was.txn.gifts);
+    zeroed_all = λ commits. was.txn.zeroed ∙ sym (ap length (ends_no_gifts layout book.blocks st.s.log (newest_log st.w.keeping.ledger) (appends adding n) p (lane_at book l) (txn_at st.w.lanes l) was
+        (ends_by (lane_at book l).phase (lane_at book l).has_records (lane_at book l).part (lane_at book l).doing Ending at)));
     fenced_all = come.fenced;
     own = λ r among on. ((of_listed r among on).0 ∙ sym was.txn.number, no_check r among);
     first = λ none r among of no_end. (
@@ -393,7 +396,7 @@ module _ (E : Type 0) (layout : Layout) (start : Words) (book : Book E) (keeper 
         (subst (λ (log : Log). IsLaneOf layout book.blocks state_there.log log (closes gates [] 0) p here z) (sym newest_is)
         (lane_as E layout book.blocks st.s.log state_there.log (newest_log st.w.keeping.ledger) (appends adding n) (closes gates [] 0) p (txn_at st.w.lanes l) z (lane_at book l) here Closing was
         (record { number = refl; part = refl; words = refl; writes = refl; stored = refl; zeroed = refl; commits = refl; ended = refl; fenced = refl }) refl
-        (λ off. (let e : true ≡ false = off in cc)) same (sym (ap (λ (q : Txn). q.updates) seen)) (sym (ap (λ (q : Txn). q.rolled) seen)) was.txn.linked was.txn.point stage (λ e. cc)
+        (λ off. (let e : true ≡ false = off in cc)) same (sym (ap (λ (q : Txn). q.updates) seen)) (sym (ap (λ (q : Txn). q.rolled) seen)) was.txn.linked was.txn.point (sym (ap (λ (q : Txn). q.gifts) seen)) stage (λ e. cc) (λ e. cc)
         (record { over = record { some = come.going.some; is_over = refl; fenced = come.fenced }; gates = gates; made = 0; under_way = refl }))))
       where
         seen : noticed (layout_shape layout) p (appends adding n) (txn_at st.w.lanes l) ≡ txn_at st.w.lanes l
@@ -446,7 +449,7 @@ pub undone_ends_settle : (E : Type 0) → UndoneEndsSettle E
 undone_ends_settle E layout start book later keeper kept region behind spare left events made l e m are at aborts goes is_book keeps st =
     closing_state E layout start book keeper kept region behind spare left events made l e m st are found.0 found.1 found.2 at (subst (λ (u : UnderWay). IsEndingIt u (txn_at st.w.lanes l)) found.2 come) found.3 keeps
     later (moved CLOSE (paid_event (lane_at book l)))
-    (record { transaction = refl; held = refl; writes = refl; updates = refl; stored = refl; gives = refl; has_records = refl; rolled = refl; ended = refl; committing = refl; entry = λ e has. has })
+    (record { transaction = refl; held = refl; writes = refl; updates = refl; stored = refl; gives = refl; has_records = refl; rolled = refl; ended = refl; committing = refl; takes = λ s k call. call; due = refl; ending = refl; gates = refl; entry = λ e has. has })
     stage refl refl goes.lanes
     (settling.history_there E layout start book keeper region behind spare left events made l e m st are found.0 found.1 found.2
     ∙ undone_history found.0.added (txn_at st.w.lanes l) st.w.history (subst (λ (b : Bool). IsEnding b found.0.added) (commits_is ∙ aborts) found.3)
@@ -511,6 +514,10 @@ commit_ends_settle E layout start book later keeper kept region behind spare lef
       rolled = refl;
       ended = refl;
       committing = refl;
+      takes = λ s k call. call;
+      due = refl;
+      ending = refl;
+      gates = refl;
       entry = λ e none. (let no : None ≡ Some e = none in cc);
     })
     stage refl refl joins.lanes

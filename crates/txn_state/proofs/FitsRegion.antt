@@ -24,7 +24,7 @@ use Rattle.log_keeper.specs.Slots.{part_with, run_of_slot}
 use Rattle.log_keeper.proofs.PlanSizes.{plans_are_short, parts_fit_layouts, events_are_inside}
 use Rattle.history_laws.specs.UnderWay.{record_of_adding, UnderWay, nothing, appends, closes, takes_back, drops, run_of}
 use Rattle.txn_laws.specs.Txns.{Txn, txn_at}
-use Rattle.txn_state.specs.Stages.{Stage, Free, Between, Leaving, Naming, Storing, Securing, Opening, Undoing, TakingBack, Keeping as Keeps, Ending, Closing, ClosingEnd, Dropping, Unbuilt, stage_of}
+use Rattle.txn_state.specs.Stages.{Stage, Free, Between, Leaving, Naming, Storing, Securing, Opening, Undoing, TakingBack, Keeping as Keeps, Ending, Closing, ClosingEnd, Dropping, Unbuilt, stage_of, Deleting}
 use Rattle.txn_state.specs.Ties.{under_of, IsAppending, waits, appends_it, IsCome}
 use Rattle.txn_state.specs.States.{IsStateOf}
 use Rattle.txn_state.specs.ReadLaws.{RunsFit, HasNextEvent, HoldersGoOn}
@@ -102,6 +102,7 @@ come_one log u x Ending come = append_one u come.under_way
 come_one log u x Closing come = subst IsOneGroup (sym come.under_way) (inr refl)
 come_one log u x ClosingEnd come = subst IsOneGroup (sym come.under_way) (inl refl)
 come_one log u x Dropping come = subst IsOneGroup (sym come.under_way) tt
+come_one log u x Deleting come = append_one u come.under_way
 come_one log u x Unbuilt come = absurd come
 
 group_most : (gates : List ℕ) → group_events gates ≤ length gates + 1

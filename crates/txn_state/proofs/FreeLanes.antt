@@ -1,5 +1,5 @@
 -- Lanes without a transaction.
-use Rattle.std.proofs.Common.{◌≡◌, ℕ, ◌+◌, ◌*◌, ◌-◌, ◌^◌, ◌==◌, Bool, true, false, not, nat_lt, ◌&&◌, List, [], map, reverse, None, refl, sym, ap, ◌∙◌, subst, arith}
+use Rattle.std.proofs.Common.{◌≡◌, ℕ, ◌+◌, ◌*◌, ◌-◌, ◌^◌, ◌==◌, Bool, true, false, not, nat_lt, ◌&&◌, List, [], map, reverse, None, refl, sym, ap, ◌∙◌, subst, arith, length, zero-add}
 use Rattle.std.proofs.Math.Nat.{zero-div}
 use Rattle.persist_model.specs.Records.{Log, IsAmong}
 use Rattle.persist_model.specs.Shape.{heap}
@@ -11,8 +11,10 @@ use Rattle.lane_book.specs.declared.lane.Lane.{Lane}
 use Rattle.lane_book.specs.Refusals.{owner_seen, block_in}
 use Rattle.history_laws.specs.UnderWay.{UnderWay, nothing}
 use Rattle.txn_laws.specs.Txns.{idle}
-use Rattle.txn_state.specs.Stages.{Free, Naming, stage_of, is_commit}
-use Rattle.txn_state.specs.Ties.{plain_write, AreCellsOf, is_lanes, IsCome, IsLaneOf}
+use Rattle.txn_state.specs.Stages.{Free, Naming, Storing, Deleting, stage_of, is_commit}
+use Rattle.txn_state.specs.Ties.{plain_write, AreCellsOf, is_lanes, IsCome, IsLaneOf, due_by}
+use Rattle.txn_state.proofs.StageSteps.{no_take, due_none}
+use Rattle.txn_state.proofs.Given.{none_given, deletes_none}
 
 -- it is free, and nothing is left of a transaction
 pub record IsFreeLane {E : Type 0} (lane : Lane E) : Type 0 where
@@ -24,6 +26,7 @@ pub record IsFreeLane {E : Type 0} (lane : Lane E) : Type 0 where
   pub updates : lane.updates.items ≡ []
   pub stored : lane.stored ≡ 0
   pub gives : lane.gives.items ≡ []
+  pub gates : lane.gates.items ≡ []
   pub records : lane.has_records ≡ false
   pub rolled : lane.rolled ≡ false
   pub ended : lane.ended ≡ false
@@ -55,8 +58,6 @@ free_lane layout blocks log newest u p lane is rests = subst (λ u. IsLaneOf lay
     here = λ one. absurd (omega (arith, one));
     writes = sym (ap (map plain_write) is.writes);
     stored = sym is.stored;
-    gifts = refl;
-    gives = is.gives;
     zeroed = refl;
     commits = sym is.commits;
     updates = subst (λ cells. AreCellsOf (reverse cells) []) (sym is.updates) tt;
@@ -67,8 +68,12 @@ free_lane layout blocks log newest u p lane is rests = subst (λ u. IsLaneOf lay
     entry = λ e some. (let off = sym is.entry ∙ some in cc);
   };
   come = subst (IsCome log nothing idle) (sym is.free) (refl, refl);
-  words = λ a. sym (no_words layout blocks lane a is.held);
-  data_words = λ w m. absurd (subst (λ ws. IsAmong ws w) is.writes m);
+  given = none_given layout blocks lane.held lane.gives.items lane.gates.items (λ a. false) is.gives is.gates (λ a. sym (no_words layout blocks lane a is.held));
+  counts = ap length is.gives ∙ (sym (due_none lane.phase lane.has_records lane.part lane.doing Free is.free (λ e. (let off : Free ≡ Deleting = e in cc))) ∙ sym (zero-add (due_by lane.doing)));
+  deleting = deletes_none layout nothing lane (due_none lane.phase lane.has_records lane.part lane.doing Free is.free (λ e. (let off : Free ≡ Deleting = e in cc)));
+  ends_ungiven = λ on. is.gives;
+  written_words = λ w m. absurd (subst (λ ws. IsAmong ws w) is.writes m);
+  taking = λ s k call. absurd (no_take lane.phase lane.has_records lane.part lane.doing Free s k call is.free (λ e. (let off : Free ≡ Naming = e in cc)) (λ e. (let off : Free ≡ Storing = e in cc)));
   naming = λ naming at. (let off : Free ≡ Naming = sym is.free ∙ naming in cc);
   recorded = λ one on. absurd (omega (arith, one));
   begun = λ recorded. (let off = sym is.records ∙ recorded in cc);

@@ -3,7 +3,7 @@ use Rattle.std.proofs.Common.{◌≡◌, ◌≢◌, ◌⊎◌, inl, inr, ℕ, su
 use Rattle.persist_model.specs.declared.event.Event.{Event}
 use Rattle.persist_model.specs.Region.{Words, Region}
 use Rattle.persist_model.specs.Records.{Log, Record, IsAmong, Has, IsOf, IsEnd}
-use Rattle.persist_model.specs.Shape.{Shape}
+use Rattle.persist_model.specs.Shape.{Shape, block}
 use Rattle.region_layout.specs.declared.layout.Layout.{Layout}
 use Rattle.region_layout.specs.declared.cell.Cell.{Cell}
 use Rattle.region_layout.specs.Layout.{layout_shape}
@@ -17,10 +17,10 @@ use Rattle.plan_records.proofs.Passing.{inserted_out, inserted_in, inserted_has}
 use Rattle.lane_book.specs.declared.book.Book.{Book}
 use Rattle.lane_book.specs.declared.lane.Lane.{Lane}
 use Rattle.lane_book.specs.declared.lane.Doing.{Doing}
-use Rattle.lane_book.specs.FacesOf.{lane_at}
-use Rattle.lane_book.specs.Books.{IsBook}
+use Rattle.lane_book.specs.FacesOf.{lane_at, front}
+use Rattle.lane_book.specs.Books.{IsBook, ends}
 use Rattle.lane_book.specs.Lanes.{moved}
-use Rattle.lane_book.specs.Appends.{with_update, with_rollback, with_compensation, with_end}
+use Rattle.lane_book.specs.Appends.{with_update, with_rollback, with_compensation, with_end, with_deletion}
 use Rattle.log_keeper.specs.declared.keeper.LogKeeper.{LogKeeper}
 use Rattle.log_keeper.specs.Keeper.{keeping_of, free_places}
 use Rattle.log_keeper.specs.Parts.{Running, appends as adds, plan_of}
@@ -31,29 +31,31 @@ use Rattle.log_keeper.proofs.Newest.{newest_logs_made}
 use Rattle.log_keeper.proofs.Made.{over_not, over_yes}
 use Rattle.history_laws.specs.Histories.{fold}
 use Rattle.history_laws.specs.UnderWay.{Adding, record_of_adding, UnderWay, nothing, appends, run_of}
-use Rattle.txn_laws.specs.Txns.{Txn, txn_at}
+use Rattle.txn_laws.specs.Txns.{Txn, txn_at, Gift}
 use Rattle.txn_laws.specs.NextRecords.{is_end, ended_by, IsAppendOf}
 use Rattle.txn_laws.specs.PartsOf.{Fits}
 use Rattle.txn_laws.specs.Going.{further, txn_further, gone_on}
 use Rattle.txn_laws.specs.Rooms.{IsRoomy, stores_gate, taken_in}
 use Rattle.txn_laws.specs.Worlds.{World}
 use Rattle.txn_laws.proofs.Rooms.{parts_are_roomy}
-use Rattle.txn_state.specs.Stages.{Stage, Free, Between, Leaving, Naming, Storing, Securing, Opening, Undoing, TakingBack, Keeping, Ending, Closing, ClosingEnd, Dropping, Unbuilt, stage_of, is_commit}
+use Rattle.txn_state.specs.Stages.{Stage, Free, Between, Leaving, Naming, Storing, Deleting, Securing, Opening, Undoing, TakingBack, Keeping, Ending, Closing, ClosingEnd, Dropping, Unbuilt, stage_of, is_commit, stage_at}
 use Rattle.txn_state.specs.Seen.{is_gate_stored, booked, noticed}
-use Rattle.txn_state.specs.Ties.{plain_write, plain_entry, AreCellsOf, IsUpdating, IsRollingBack, IsCompensating, IsEnding, appends_it, IsNaming, IsOpening, IsUndoing, IsEndingIt, IsCome, WaitsToAppend, under_of, IsLaneOf}
+use Rattle.txn_state.specs.Ties.{plain_write, plain_entry, AreCellsOf, IsUpdating, IsRollingBack, IsCompensating, IsEnding, appends_it, IsNaming, IsOpening, IsUndoing, IsEndingIt, IsCome, WaitsToAppend, under_of, IsLaneOf, due_by, HasGiven, DeletesNext, AreGiftsOf, IsDeleting, IsGiving}
 use Rattle.txn_state.specs.Owing.{needs_at, records_noted}
 use Rattle.txn_state.specs.States.{is_joining, IsStateOf, reserved_for}
 use Rattle.txn_state.specs.Changes.{GoesTo, IsKept, paid_event}
-use Rattle.txn_state.specs.AppendLaws.{IsMade, AreLeft, made_in, Notices, update, rollback, compensation, end, LetsGoOne, GatesAreStored}
+use Rattle.txn_state.specs.AppendLaws.{IsMade, AreLeft, made_in, Notices, update, rollback, compensation, end, LetsGoOne, GatesAreStored, DeletionsAreStored}
 use Rattle.txn_state.proofs.Making.{adds_same, beside_changed, region_is, left_there, keeping_there}
 use Rattle.txn_state.proofs.Staying.{numbered_or_free}
 use Rattle.txn_state.proofs.Lanes.{its_entry, same_entry, joining_same, entries_stay, world_book}
 use Rattle.txn_state.proofs.Likeness.{IsOneLess, come_further, needs_further}
-use Rattle.txn_state.proofs.StageSteps.{EndsCall, commit, abort, call_at}
-use Rattle.txn_state.proofs.Named.{naming_recorded, adding_of, kind_under, no_checkpoint, AddsUpdate, adds_update, AddsRollback, adds_rollback, AddsCompensation, adds_compensation, AddsEnd, adds_end, updates_counted, cells_more, cells_less}
+use Rattle.txn_state.proofs.StageSteps.{EndsCall, commit, abort, call_at, due_none}
+use Rattle.txn_state.proofs.Named.{naming_recorded, adding_of, kind_under, no_checkpoint, AddsUpdate, adds_update, AddsRollback, adds_rollback, AddsCompensation, adds_compensation, AddsEnd, adds_end, updates_counted, cells_more, cells_less, AddsDeletion, adds_deletion}
 use Rattle.txn_state.proofs.Rebuilding.{Owes, events_paid, records_owed, numbered_there, rebuilt}
-use Rattle.txn_state.proofs.SameTransaction.{is_lanes_same, pending_same}
+use Rattle.txn_state.proofs.SameTransaction.{takes_same, pending_same}
 use Rattle.txn_state.proofs.Going as going
+use Rattle.txn_state.proofs.Given.{given_same, deletes_none, gifts_more, gates_counted, last_at, last_given}
+use Rattle.std.specs.Prelude.{slice_get, Some}
 
 -- ---- the lane
 
@@ -70,11 +72,15 @@ pub record IsBooked {E : Type 0} (lane later : Lane E) : Type 0 where
   pub entry : later.entry ≡ lane.entry
   pub entered : later.entered ≡ lane.entered
   pub committing : is_commit later.doing ≡ is_commit lane.doing
+  pub due : due_by later.doing ≡ due_by lane.doing
+  pub ending : ends later.doing ≡ ends lane.doing
+  pub gives_same : (k : ℕ) → later.doing ≡ Doing.Give k → lane.doing ≡ Doing.Give k
+  pub takes : (s k : ℕ) → later.doing ≡ Doing.Take s k → lane.doing ≡ Doing.Take s k
   pub owed_events : later.owed_events ≡ lane.owed_events - 1
   pub owed_records : later.owed_records ≡ lane.owed_records
 
 booked_as : (E : Type 0) (lane later : Lane E) → stage_of (moved later.part later) ≡ stage_of lane →
-    later ≡ record lane { updates = later.updates; has_records = later.has_records; promised = later.promised; rolled = later.rolled; ended = later.ended; owed_events = lane.owed_events - 1 } →
+    later ≡ record lane { updates = later.updates; has_records = later.has_records; promised = later.promised; rolled = later.rolled; ended = later.ended; gates = later.gates; owed_events = lane.owed_events - 1 } →
     IsBooked lane (moved later.part later)
 booked_as E lane later stage is = record {
   stage = stage;
@@ -88,16 +94,26 @@ booked_as E lane later stage is = record {
   entry = ap (λ (z : Lane E). z.entry) is;
   entered = ap (λ (z : Lane E). z.entered) is;
   committing = ap (λ (z : Lane E). is_commit z.doing) is;
+  due = ap (λ (z : Lane E). due_by z.doing) is;
+  ending = ap (λ (z : Lane E). ends z.doing) is;
+  gives_same = λ k call. sym (ap (λ (z : Lane E). z.doing) is) ∙ call;
+  takes = λ s k call. sym (ap (λ (z : Lane E). z.doing) is) ∙ call;
   owed_events = ap (λ (z : Lane E). z.owed_events) is;
   owed_records = ap (λ (z : Lane E). z.owed_records) is;
 }
 
-pub booked_lane : (E : Type 0) (c : Cell) (lane later : Lane E) → Notices (paid_event lane) c later → IsBooked lane (moved later.part later)
-booked_lane E c lane _ (update at) =
+-- the lane behind the store of a gate at this address, a deletion's too
+pub data NoticesIn {E : Type 0} (gate : ℕ) (lane : Lane E) (c : Cell) : Lane E → Type 0 where
+  known : (later : Lane E) → Notices (paid_event lane) c later → NoticesIn gate lane c later
+  deletion : (k : ℕ) (before : List ℕ) → stage_of lane ≡ Deleting → lane.doing ≡ Doing.Give k → lane.gives.items ≡ before ++ k ∷ [] → NoticesIn gate lane c (with_deletion gate (paid_event lane))
+
+pub booked_lane : (E : Type 0) (gate : ℕ) (c : Cell) (lane later : Lane E) → NoticesIn gate lane c later → IsBooked lane (moved later.part later)
+booked_lane E gate c lane _ (known _ (update at)) =
     booked_as E lane (with_update c (paid_event lane)) (naming_recorded lane.phase lane.has_records lane.part lane.doing at ∙ sym at) refl
-booked_lane E c lane _ (rollback at) = booked_as E lane (with_rollback (paid_event lane)) refl refl
-booked_lane E c lane _ (compensation at) = booked_as E lane (with_compensation (paid_event lane)) refl refl
-booked_lane E c lane _ (end at) = booked_as E lane (with_end (paid_event lane)) refl refl
+booked_lane E gate c lane _ (known _ (rollback at)) = booked_as E lane (with_rollback (paid_event lane)) refl refl
+booked_lane E gate c lane _ (known _ (compensation at)) = booked_as E lane (with_compensation (paid_event lane)) refl refl
+booked_lane E gate c lane _ (known _ (end at)) = booked_as E lane (with_end (paid_event lane)) refl refl
+booked_lane E gate c lane _ (deletion k before at call last) = booked_as E lane (with_deletion gate (paid_event lane)) (ap (stage_at lane.phase true lane.part) call ∙ sym (ap (stage_at lane.phase lane.has_records lane.part) call)) refl
 
 has_record : (rec : Bool) (doing : Doing) (stage : Stage) → EndsCall rec doing stage → rec ≡ true
 has_record rec doing stage (commit on is has) = on
@@ -148,19 +164,18 @@ module _ (E : Type 0) (layout : Layout) (blocks : List Standing) (log newest : L
   one_number = elim (numbered_or_free log (appends adding made) x (stage_of lane) is.come) [ inl one ↦ one | inr free ↦ absurd (some_way free.2) ]
 
   -- what no kind changes
-  lane_for : (later : Lane E) → IsBooked lane later → AreCellsOf (reverse later.updates.items) (booked adding.added (record_of_adding adding) y).updates →
+  lane_for : (later : Lane E) → IsBooked lane later → HasGiven layout blocks later.held later.gives.items later.gates.items (booked adding.added (record_of_adding adding) y).gifts y.words →
+      DeletesNext layout (appends adding (suc made)) later → AreCellsOf (reverse later.updates.items) (booked adding.added (record_of_adding adding) y).updates →
       (booked adding.added (record_of_adding adding) y).rolled ≡ later.rolled → y.ended ≡ later.ended → IsCome log (appends adding (suc made)) y (stage_of lane) →
       (stage_of later ≡ Naming → length later.updates.items ≡ later.stored → WaitsToAppend later) → later.has_records ≡ true →
       (lane.has_records ≡ later.has_records) ⊎ Has (λ q. IsOf x.number q × (IsEnd q → ⊥)) (inserted (record_of_adding adding) newest) →
       IsLaneOf layout blocks log (inserted (record_of_adding adding) newest) (appends adding (suc made)) p later y
-  lane_for later b updates rolled ended come naming recorded some = let t = is.txn in record {
+  lane_for later b given deleting updates rolled ended come naming recorded some = let t = is.txn in record {
     txn = record {
       number = t.number ∙ sym b.transaction;
       here = t.here;
       writes = t.writes ∙ ap (map plain_write) (sym b.writes);
       stored = t.stored ∙ sym b.stored;
-      gifts = t.gifts;
-      gives = b.gives ∙ t.gives;
       zeroed = t.zeroed;
       commits = t.commits ∙ sym b.committing;
       updates = subst (λ (z : Txn). AreCellsOf (reverse later.updates.items) z.updates) (sym now_noticed) updates;
@@ -171,8 +186,12 @@ module _ (E : Type 0) (layout : Layout) (blocks : List Standing) (log newest : L
       entry = λ e has. t.entry e (sym b.entry ∙ has);
     };
     come = subst (IsCome log (appends adding (suc made)) y) (sym b.stage) come;
-    words = λ a. is.words a ∙ sym (is_lanes_same layout blocks lane later a b.held b.gives);
-    data_words = λ w among. is.data_words w (subst (λ ws. IsAmong ws w) b.writes among);
+    given = subst (λ (z : Txn). HasGiven layout blocks later.held later.gives.items later.gates.items z.gifts y.words) (sym now_noticed) given;
+    counts = ap length b.gives ∙ (is.counts ∙ ap (λ n. length x.gifts + n) (sym b.due));
+    deleting = deleting;
+    ends_ungiven = λ on. b.gives ∙ is.ends_ungiven (sym b.ending ∙ on);
+    written_words = λ w among. is.written_words w (subst (λ ws. IsAmong ws w) b.writes among);
+    taking = takes_same layout lane later b.writes b.stored b.takes is.taking;
     naming = naming;
     recorded = λ one has. recorded;
     begun = λ on. one_number;
@@ -182,9 +201,21 @@ module _ (E : Type 0) (layout : Layout) (blocks : List Standing) (log newest : L
     ];
   }
 
+  -- what no kind but a deletion changes
+  given_plain : (later : Lane E) → IsBooked lane later → later.gates.items ≡ lane.gates.items → (booked adding.added (record_of_adding adding) y).gifts ≡ x.gifts →
+      HasGiven layout blocks later.held later.gives.items later.gates.items (booked adding.added (record_of_adding adding) y).gifts y.words
+  given_plain later b gates gifts = given_same layout blocks lane.held later.held lane.gives.items later.gives.items lane.gates.items later.gates.items
+      (noticed (layout_shape layout) p (appends adding made) x).gifts (booked adding.added (record_of_adding adding) y).gifts x.words y.words b.held b.gives gates
+      (gifts ∙ sym (ap (λ (z : Txn). z.gifts) was_noticed)) refl is.given
+
+  none_due : (later : Lane E) → IsBooked lane later → (stage : Stage) → stage_of lane ≡ stage → stage ≢ Deleting → DeletesNext layout (appends adding (suc made)) later
+  none_due later b stage at other = deletes_none layout (appends adding (suc made)) later (b.due ∙ due_none lane.phase lane.has_records lane.part lane.doing stage at other)
+
   own_update : stage_of lane ≡ Naming → (later : Lane E) → later ≡ moved lane.part (with_update c (paid_event lane)) → IsBooked lane later →
       IsLaneOf layout blocks log (inserted (record_of_adding adding) newest) (appends adding (suc made)) p later y
   own_update at later same b = lane_for later b
+      (given_plain later b (ap (λ (z : Lane E). z.gates.items) same) (ap (λ (z : Txn). z.gifts) (k.books (record_of_adding adding) y)))
+      (none_due later b Naming at (λ e. (let off : Naming ≡ Deleting = e in cc)))
       (subst (λ (z : Lane E). AreCellsOf (reverse z.updates.items) (booked adding.added (record_of_adding adding) y).updates) (sym same)
       (subst (λ (z : Txn). AreCellsOf (reverse (lane.updates.items ++ c ∷ [])) z.updates) (sym (k.books (record_of_adding adding) y))
       (cells_more lane.updates.items x.updates c (record_of_adding adding) cell_is cells_were)))
@@ -215,6 +246,8 @@ module _ (E : Type 0) (layout : Layout) (blocks : List Standing) (log newest : L
   own_rollback : stage_of lane ≡ Opening → (later : Lane E) → later ≡ moved lane.part (with_rollback (paid_event lane)) → IsBooked lane later →
       IsLaneOf layout blocks log (inserted (record_of_adding adding) newest) (appends adding (suc made)) p later y
   own_rollback at later same b = lane_for later b
+      (given_plain later b (ap (λ (z : Lane E). z.gates.items) same) (ap (λ (z : Txn). z.gifts) (k.books (record_of_adding adding) y)))
+      (none_due later b Opening at (λ e. (let off : Opening ≡ Deleting = e in cc)))
       (subst (λ (z : Lane E). AreCellsOf (reverse z.updates.items) (booked adding.added (record_of_adding adding) y).updates) (sym same)
       (subst (λ (z : Txn). AreCellsOf (reverse lane.updates.items) z.updates) (sym (k.books (record_of_adding adding) y)) cells_were))
       (ap (λ (z : Txn). z.rolled) (k.books (record_of_adding adding) y) ∙ sym (ap (λ (z : Lane E). z.rolled) same))
@@ -233,6 +266,8 @@ module _ (E : Type 0) (layout : Layout) (blocks : List Standing) (log newest : L
   own_compensation : stage_of lane ≡ Undoing → (later : Lane E) → later ≡ moved lane.part (with_compensation (paid_event lane)) → IsBooked lane later →
       IsLaneOf layout blocks log (inserted (record_of_adding adding) newest) (appends adding (suc made)) p later y
   own_compensation at later same b = lane_for later b
+      (given_plain later b (ap (λ (z : Lane E). z.gates.items) same) (ap (λ (z : Txn). z.gifts) (k.books (record_of_adding adding) y)))
+      (none_due later b Undoing at (λ e. (let off : Undoing ≡ Deleting = e in cc)))
       (subst (λ (z : Lane E). AreCellsOf (reverse z.updates.items) (booked adding.added (record_of_adding adding) y).updates) (sym same)
       (subst (λ (z : Txn). AreCellsOf (reverse (take (length lane.updates.items - 1) lane.updates.items)) z.updates) (sym (k.books (record_of_adding adding) y))
       (cells_less lane.updates.items x.updates cells_were)))
@@ -252,6 +287,8 @@ module _ (E : Type 0) (layout : Layout) (blocks : List Standing) (log newest : L
   own_end : stage_of lane ≡ Ending → (later : Lane E) → later ≡ moved lane.part (with_end (paid_event lane)) → IsBooked lane later →
       IsLaneOf layout blocks log (inserted (record_of_adding adding) newest) (appends adding (suc made)) p later y
   own_end at later same b = lane_for later b
+      (given_plain later b (ap (λ (z : Lane E). z.gates.items) same) (ap (λ (z : Txn). z.gifts) (k.books (record_of_adding adding) y)))
+      (none_due later b Ending at (λ e. (let off : Ending ≡ Deleting = e in cc)))
       (subst (λ (z : Lane E). AreCellsOf (reverse z.updates.items) (booked adding.added (record_of_adding adding) y).updates) (sym same)
       (subst (λ (z : Txn). AreCellsOf (reverse lane.updates.items) z.updates) (sym (k.books (record_of_adding adding) y)) cells_were))
       (ap (λ (z : Txn). z.rolled) (k.books (record_of_adding adding) y) ∙ rolled_was ∙ sym (ap (λ (z : Lane E). z.rolled) same))
@@ -275,12 +312,72 @@ module _ (E : Type 0) (layout : Layout) (blocks : List Standing) (log newest : L
       k : AddsEnd adding.added
       k = adds_end x.commits adding.added (kind_under (IsEnding x.commits) adding made come.under_way)
 
-  pub own_lane : (later : Lane E) → Notices (paid_event lane) c later → IsLaneOf layout blocks log (inserted (record_of_adding adding) newest) (appends adding (suc made)) p (moved later.part later) y
-  own_lane _ (update at) = own_update at (moved lane.part (with_update c (paid_event lane))) refl (booked_lane E c lane (with_update c (paid_event lane)) (update at))
-  own_lane _ (rollback at) = own_rollback at (moved lane.part (with_rollback (paid_event lane))) refl (booked_lane E c lane (with_rollback (paid_event lane)) (rollback at))
-  own_lane _ (compensation at) =
-      own_compensation at (moved lane.part (with_compensation (paid_event lane))) refl (booked_lane E c lane (with_compensation (paid_event lane)) (compensation at))
-  own_lane _ (end at) = own_end at (moved lane.part (with_end (paid_event lane))) refl (booked_lane E c lane (with_end (paid_event lane)) (end at))
+  -- the gift of a deletion
+  abbrev gift : Gift
+  gift = record { word = (record_of_adding adding).word; gate = (record_of_adding adding).at }
+
+  own_deletion : (k : ℕ) (front_is : List ℕ) → stage_of lane ≡ Deleting → lane.doing ≡ Doing.Give k → lane.gives.items ≡ front_is ++ k ∷ [] → (later : Lane E) →
+      later ≡ moved lane.part (with_deletion (record_of_adding adding).at (paid_event lane)) → IsBooked lane later →
+      IsLaneOf layout blocks log (inserted (record_of_adding adding) newest) (appends adding (suc made)) p later y
+  own_deletion k front_is at call last later same b = lane_for later b
+      (given_same layout blocks lane.held later.held lane.gives.items later.gives.items (lane.gates.items ++ (record_of_adding adding).at ∷ []) later.gates.items
+      (x.gifts ++ gift ∷ []) (booked adding.added (record_of_adding adding) y).gifts x.words y.words b.held b.gives (ap (λ (z : Lane E). z.gates.items) same)
+      (ap (λ (z : Txn). z.gifts) (kind_is.books (record_of_adding adding) y)) refl (record {
+        gifts_are = gifts_more (layout_shape layout) lane.gives.items lane.gates.items x.gifts (record_of_adding adding).at k gift at_last (is.deleting k call).0 refl was_gifts;
+        each = is.given.each;
+        words_are = is.given.words_are;
+      }))
+      (λ j other. (named j (b.gives_same j other), λ long. absurd (no_more long)))
+      (subst (λ (z : Lane E). AreCellsOf (reverse z.updates.items) (booked adding.added (record_of_adding adding) y).updates) (sym same)
+      (subst (λ (z : Txn). AreCellsOf (reverse lane.updates.items) z.updates) (sym (kind_is.books (record_of_adding adding) y)) cells_were))
+      (ap (λ (z : Txn). z.rolled) (kind_is.books (record_of_adding adding) y) ∙ rolled_was ∙ sym (ap (λ (z : Lane E). z.rolled) same))
+      (ended_no kind_is.no_end ∙ is.txn.ended ∙ sym (ap (λ (z : Lane E). z.ended) same))
+      (subst (λ b. IsCome log (appends adding (suc made)) (record x { ended = b }) (stage_of lane)) (sym (ended_no kind_is.no_end)) come_on)
+      (λ stage long. absurd (let no : Deleting ≡ Naming = sym at ∙ sym b.stage ∙ stage in cc))
+      (ap (λ (z : Lane E). z.has_records) same)
+      (inr (inserted_has (λ q. IsOf x.number q × (IsEnd q → ⊥)) (record_of_adding adding) newest ((of, no_checkpoint adding.added), no_end)))
+    where
+      come : IsGiving (appends adding made) x
+      come = subst (IsCome log (appends adding made) x) at is.come
+
+      kind_is : AddsDeletion adding.added
+      kind_is = adds_deletion adding.added (kind_under IsDeleting adding made come.under_way)
+
+      no_end : IsEnd (record_of_adding adding) → ⊥
+      no_end e = let kind = kind_is.kind in omega (arith, e, kind)
+
+      was_gifts : AreGiftsOf (layout_shape layout) lane.gives.items lane.gates.items x.gifts
+      was_gifts = subst (λ (z : Txn). AreGiftsOf (layout_shape layout) lane.gives.items lane.gates.items z.gifts) was_noticed is.given.gifts_are
+
+      due_one : due_by lane.doing ≡ 1
+      due_one = ap due_by call
+
+      counted : length lane.gates.items + 1 ≡ length lane.gives.items
+      counted = let gates = gates_counted (layout_shape layout) lane.gives.items lane.gates.items x.gifts was_gifts in let gives = is.counts in let due = due_one in omega (arith, gates, gives, due)
+
+      at_last : slice_get lane.gives.items (length lane.gates.items) ≡ Some k
+      at_last = ap (λ (xs : List ℕ). slice_get xs (length lane.gates.items)) last ∙ last_at front_is k (length lane.gates.items)
+          (let long = ap length last ∙ length-append front_is (k ∷ []) in let count = counted in omega (arith, long, count))
+
+      named : (j : ℕ) → lane.doing ≡ Doing.Give j → (record_of_adding adding).word ≡ block (layout_shape layout) j
+      named j other = (is.deleting j other).0
+
+      no_more : length later.gates.items + 1 ≡ length later.gives.items → ⊥
+      no_more long =
+          let gates = ap (λ (z : Lane E). length z.gates.items) same ∙ length-append lane.gates.items ((record_of_adding adding).at ∷ []) in
+          let gives = ap length b.gives in
+          let count = counted in
+          omega (arith, long, gates, gives, count)
+
+  pub own_lane : (later : Lane E) → NoticesIn (record_of_adding adding).at lane c later →
+      IsLaneOf layout blocks log (inserted (record_of_adding adding) newest) (appends adding (suc made)) p (moved later.part later) y
+  own_lane _ (known _ (update at)) = own_update at (moved lane.part (with_update c (paid_event lane))) refl (booked_lane E 0 c lane (with_update c (paid_event lane)) (known _ (update at)))
+  own_lane _ (known _ (rollback at)) = own_rollback at (moved lane.part (with_rollback (paid_event lane))) refl (booked_lane E 0 c lane (with_rollback (paid_event lane)) (known _ (rollback at)))
+  own_lane _ (known _ (compensation at)) =
+      own_compensation at (moved lane.part (with_compensation (paid_event lane))) refl (booked_lane E 0 c lane (with_compensation (paid_event lane)) (known _ (compensation at)))
+  own_lane _ (known _ (end at)) = own_end at (moved lane.part (with_end (paid_event lane))) refl (booked_lane E 0 c lane (with_end (paid_event lane)) (known _ (end at)))
+  own_lane _ (deletion k front_is at call last) = own_deletion k front_is at call last (moved lane.part (with_deletion (record_of_adding adding).at (paid_event lane))) refl
+      (booked_lane E (record_of_adding adding).at c lane (with_deletion (record_of_adding adding).at (paid_event lane)) (deletion k front_is at call last))
 
 -- ---- what it wants
 
@@ -300,6 +397,7 @@ needs_ended shape p n c u x b Ending = refl
 needs_ended shape p n c u x b Closing = refl
 needs_ended shape p n c u x b ClosingEnd = refl
 needs_ended shape p n c u x b Dropping = refl
+needs_ended shape p n c u x b Deleting = refl
 needs_ended shape p n c u x b Unbuilt = refl
 
 taken_most : (here stores : Bool) → (if here && stores then 1 else 0) ≤ (if here then 1 else 0)
@@ -311,7 +409,7 @@ taken_most false stores = omega arith
 
 module _ (E : Type 0) (layout : Layout) (start : Words) (book later : Book E) (keeper kept : LogKeeper) (region behind : Region) (spare left events made l : ℕ) (e : Event) (place : Place) (c : Cell)
     (lane : Lane E) (m : IsMade layout keeper region behind l e spare left events made) (are : AreLeft layout keeper (l % layout.partitions) 2)
-    (part_is : ((keeping_of keeper).runs (l % layout.partitions)).part ≡ adds place (record_of (place_address place) c)) (notices : Notices (paid_event (lane_at book l)) c lane)
+    (part_is : ((keeping_of keeper).runs (l % layout.partitions)).part ≡ adds place (record_of (place_address place) c)) (notices : NoticesIn (place_address place) (lane_at book l) c lane)
     (lets : LetsGoOne layout book later (l % layout.partitions)) (goes : GoesTo book later l (moved lane.part lane)) (is_book : IsBook later)
     (keeps : IsKept keeper kept (made_in layout keeper (l % layout.partitions))) (st : IsStateOf layout start book keeper region spare events) where
   abbrev p : ℕ
@@ -374,10 +472,11 @@ module _ (E : Type 0) (layout : Layout) (start : Words) (book later : Book E) (k
       (own_lane E layout book.blocks st.s.log (newest_log st.w.keeping.ledger) p found.0 found.1 c (txn_at st.w.lanes l) (lane_at book l) whole
       (subst (λ (r : Record). record_of r.at c ≡ r) (sym found.3) refl) fits.of fits.ended_is
       (subst (λ (u : UnderWay). IsLaneOf layout book.blocks st.s.log (newest_log st.w.keeping.ledger) u p (lane_at book l) (txn_at st.w.lanes l)) found.2
-      (going.was_here E layout start book keeper region behind spare left events made l e m st)) lane notices)))
+      (going.was_here E layout start book keeper region behind spare left events made l e m st)) lane
+      (subst (λ g. NoticesIn g (lane_at book l) c lane) (sym (ap (λ (r : Record). r.at) found.3)) notices))))
 
   b : IsBooked (lane_at book l) (moved lane.part lane)
-  b = booked_lane E c (lane_at book l) lane notices
+  b = booked_lane E (place_address place) c (lane_at book l) lane notices
 
   abbrev noted : ℕ
   noted = records_noted st.w (txn_at st.w.lanes l).number
@@ -455,4 +554,9 @@ module _ (E : Type 0) (layout : Layout) (start : Words) (book later : Book E) (k
 
 pub gates_are_stored : (E : Type 0) → GatesAreStored E
 gates_are_stored E layout start book later keeper kept region behind spare left events made l e place c lane m are part_is notices lets goes is_book keeps st =
-    state_stored E layout start book later keeper kept region behind spare left events made l e place c lane m are part_is notices lets goes is_book keeps st
+    state_stored E layout start book later keeper kept region behind spare left events made l e place c lane m are part_is (known lane notices) lets goes is_book keeps st
+
+pub deletions_are_stored : (E : Type 0) → DeletionsAreStored E
+deletions_are_stored E layout start book later keeper kept region behind spare left events made l k e place c m are part_is at call lets goes is_book keeps st =
+    state_stored E layout start book later keeper kept region behind spare left events made l e place c (with_deletion (place_address place) (paid_event (lane_at book l))) m are part_is
+    (deletion k (front 1 (lane_at book l).gives.items) at call (last_given (length book.history.items) (lane_at book l) k call (st.is_book.kept l))) lets goes is_book keeps st

@@ -11,14 +11,16 @@ use Rattle.persist_model.specs.Region.{Words, Region, after}
 use Rattle.persist_model.specs.Progress.{Write, write, latest}
 use Rattle.persist_model.specs.Records.{Record, Log}
 use Rattle.persist_model.specs.Standing.{IsLatest}
-use Rattle.persist_model.specs.Shape.{Shape}
+use Rattle.persist_model.specs.Shape.{Shape, IsHeapWord}
 use Rattle.persist_model.specs.State.{State}
 use Rattle.log_laws.specs.Moves.{IsChangeBy}
 use Rattle.region_layout.specs.declared.layout.Layout.{Layout}
 use Rattle.region_layout.specs.declared.cell.Cell.{Cell}
 use Rattle.region_layout.specs.Layout.{layout_shape}
 use Rattle.lane_traits.specs.declared.draft.WordWrite.{WordWrite}
-use Rattle.lane_types.specs.declared.call.Reply.TheVariants as Reply
+use Rattle.lane_types.specs.declared.call.Reply.{Reply}
+use Rattle.lane_types.specs.declared.call.Phase.{Phase}
+use Rattle.lane_types.specs.Faces.{phase_after}
 use Rattle.lane_book.specs.declared.lane.Lane.{Lane}
 use Rattle.lane_book.specs.declared.lane.Doing.TheVariants as Doing
 use Rattle.lane_book.specs.declared.book.Book.{Book}
@@ -44,21 +46,22 @@ use Rattle.txn_laws.proofs.Lanes.{with_here}
 use Rattle.txn_laws.proofs.Rooms.{heap_events_are_roomy}
 use Rattle.txn_laws.proofs.Storing.{writes_are_stored as stores_world, writes_are_taken_back as takes_back_world, fences_keep as fences_world, among_got}
 use Rattle.txn_state.specs.declared.parts.TheConstants.{UNDO, KEEP, END}
-use Rattle.txn_state.specs.Seen.{under_by}
-use Rattle.txn_state.specs.Stages.{Stage, Between, Naming, Storing, Securing, Undoing, TakingBack, Keeping, Ending, stage_at, stage_of, is_commit}
-use Rattle.txn_state.specs.Ties.{plain_write, AreCellsOf, IsTxnOf, IsGoingOn, IsBetween as IsBetweenCalls, IsStoring, IsTakingBack, IsKeeping, IsEndingIt, waits, IsCome, under_of, IsLaneOf, AreHeld}
+use Rattle.txn_state.specs.Seen.{under_by, noticed}
+use Rattle.txn_state.specs.Stages.{Stage, Between, Naming, Storing, Deleting, Securing, Undoing, TakingBack, Keeping, Ending, idle_stage, stage_at, stage_of, is_commit}
+use Rattle.txn_state.specs.Ties.{plain_write, owned, IsWrittenWord, AreCellsOf, IsTxnOf, IsGoingOn, IsBetween as IsBetweenCalls, IsStoring, IsTakingBack, IsKeeping, IsEndingIt, waits, IsCome, under_of, IsLaneOf, AreHeld, HasGiven}
 use Rattle.txn_state.specs.Owing.{append_most, ending_left, undoing_left, needs_at, records_noted, OwesEnough}
 use Rattle.txn_state.specs.Numbers.{pending}
 use Rattle.txn_state.specs.States.{IsStateOf, reserved_for}
 use Rattle.txn_state.specs.Changes.{GoesTo, paid_event}
 use Rattle.txn_state.specs.AppendLaws.{undo_part}
-use Rattle.txn_state.specs.HeapLaws.{WritesAreStored, WordsAreTakenBack, FencesKeep}
+use Rattle.txn_state.specs.HeapLaws.{WritesAreStored, TakesAreStored, WordsAreTakenBack, FencesKeep}
 use Rattle.txn_state.proofs.Steps.{beside_with, held_with}
 use Rattle.txn_state.proofs.SameTransaction.{same_slots}
 use Rattle.txn_state.proofs.LaneSteps.{PaysEvent, steps_on}
 use Rattle.txn_state.proofs.Lanes.{reserved_less, roomy_less}
 use Rattle.txn_state.proofs.Making.{under_held}
-use Rattle.txn_state.proofs.StageSteps.{call_at, stage_of_call, commits_it, aborts_it, storing_no_commit}
+use Rattle.txn_state.proofs.StageSteps.{call_at, stage_of_call, commits_it, aborts_it, storing_no_commit, due_none}
+use Rattle.txn_state.proofs.Given.{deletes_none}
 
 -- ---- what a lane owes, of plain values
 
@@ -177,6 +180,11 @@ write_of : {E : Type 0} (shape : Shape) (p n k : ℕ) (lane : Lane E) (x : Txn) 
     slice_get x.writes n ≡ Some (write w.address w.value)
 write_of shape p n k lane x w t same got = ap (λ (ws : List Write). slice_get ws n) t.writes ∙ slice_get-map plain_write lane.writes.items n ∙ ap (option_map plain_write) (ap (slice_get lane.writes.items) (sym same) ∙ got)
 
+-- it is of a word of the heap
+pub written_heap : (shape : Shape) (a : ℕ) → IsWrittenWord shape a → IsHeapWord shape a
+written_heap shape a (inl data_word) = data_word.0
+written_heap shape a (inr plain) = let is = plain.3 in let below = plain.2 in (omega (arith, is), omega (arith, is, below))
+
 -- ---- a fence
 
 fenced_txn : {E : Type 0} (shape : Shape) (p part : ℕ) (lane : Lane E) (x : Txn) → IsTxnOf shape p lane nothing x → IsTxnOf shape p (moved part (paid_event lane)) nothing (with_fence x)
@@ -185,8 +193,6 @@ fenced_txn shape p part lane x t = record {
   here = t.here;
   writes = t.writes;
   stored = t.stored;
-  gifts = t.gifts;
-  gives = t.gives;
   zeroed = t.zeroed;
   commits = t.commits;
   updates = t.updates;
@@ -280,8 +286,13 @@ fence_step layout start book later keeper region spare events l few inside state
     txn = fenced_txn (layout_shape layout) (l % layout.partitions) END (lane_at book l) (txn_at state.w.lanes l)
         (txn_rests (layout_shape layout) (l % layout.partitions) (lane_at book l) (under_of (layout_shape layout) state.w l) (txn_at state.w.lanes l) none mine.txn);
     come = subst (IsCome state.s.log nothing (with_fence (txn_at state.w.lanes l))) (sym fenced.stage) fenced.ending;
-    words = mine.words;
-    data_words = mine.data_words;
+    given = subst (λ u. HasGiven layout book.blocks (lane_at book l).held (lane_at book l).gives.items (lane_at book l).gates.items
+        (noticed (layout_shape layout) (l % layout.partitions) u (txn_at state.w.lanes l)).gifts (txn_at state.w.lanes l).words) none mine.given;
+    counts = mine.counts;
+    deleting = λ k call. (tt, (mine.deleting k call).1);
+    ends_ungiven = mine.ends_ungiven;
+    written_words = mine.written_words;
+    taking = mine.taking;
     naming = λ e. absurd (let f : Ending ≡ Naming = sym fenced.stage ∙ e in cc);
     recorded = mine.recorded;
     begun = mine.begun;
@@ -318,6 +329,10 @@ module _ {E : Type 0} (layout : Layout) (start : Words) (book : Book E) (keeper 
 
     pub txn_resting : IsTxnOf (layout_shape layout) (l % layout.partitions) (lane_at book l) nothing (txn_at state.w.lanes l)
     txn_resting = txn_rests (layout_shape layout) (l % layout.partitions) (lane_at book l) (under_of (layout_shape layout) state.w l) (txn_at state.w.lanes l) none lane_here.txn
+
+    pub given_resting : HasGiven layout book.blocks (lane_at book l).held (lane_at book l).gives.items (lane_at book l).gates.items (txn_at state.w.lanes l).gifts (txn_at state.w.lanes l).words
+    given_resting = subst (λ u. HasGiven layout book.blocks (lane_at book l).held (lane_at book l).gives.items (lane_at book l).gates.items
+        (noticed (layout_shape layout) (l % layout.partitions) u (txn_at state.w.lanes l)).gifts (txn_at state.w.lanes l).words) none lane_here.given
 
     pub owes_resting : OwesIt (layout_shape layout) (l % layout.partitions) (records_noted state.w (txn_at state.w.lanes l).number) (length (state.chains (l % layout.partitions))) nothing
         (txn_at state.w.lanes l) stage (lane_at book l) keeper.slots.items
@@ -386,18 +401,16 @@ one_apart n k some = omega (arith, some)
 
 -- ---- the store of a write
 
-abbrev answered : {E : Type 0} → Lane E → Lane E
-answered lane = closed Reply.Written (stored_one (paid_event lane))
+abbrev answered : {E : Type 0} → Reply → Lane E → Lane E
+answered reply lane = closed reply (stored_one (paid_event lane))
 
-stored_txn : {E : Type 0} (shape : Shape) (p : ℕ) (lane : Lane E) (x : Txn) → is_commit lane.doing ≡ false → IsTxnOf shape p lane nothing x →
-    IsTxnOf shape p (answered lane) nothing (with_stored (x.stored + 1) x)
-stored_txn shape p lane x off t = record {
+stored_txn : {E : Type 0} (shape : Shape) (p : ℕ) (reply : Reply) (lane : Lane E) (x : Txn) → is_commit lane.doing ≡ false → IsTxnOf shape p lane nothing x →
+    IsTxnOf shape p (answered reply lane) nothing (with_stored (x.stored + 1) x)
+stored_txn shape p reply lane x off t = record {
   number = t.number;
   here = t.here;
   writes = t.writes;
   stored = ap (λ n. n + 1) t.stored;
-  gifts = t.gifts;
-  gives = t.gives;
   zeroed = t.zeroed;
   commits = t.commits ∙ off;
   updates = t.updates;
@@ -409,16 +422,16 @@ stored_txn shape p lane x off t = record {
 }
 
 -- the cells that a lane reserves, of plain values
-abbrev cells_of : Bool → Bool → ℕ → ℕ → ℕ
+abbrev pub cells_of : Bool → Bool → ℕ → ℕ → ℕ
 cells_of recorded ended promised undo = promised + (if (recorded || not (promised == 0)) && not ended then undo else 0)
 
 -- without promised cells it reserves no more
-reserves_less : (recorded ended : Bool) (promised undo : ℕ) → cells_of recorded ended 0 undo ≤ cells_of recorded ended promised undo
+pub reserves_less : (recorded ended : Bool) (promised undo : ℕ) → cells_of recorded ended 0 undo ≤ cells_of recorded ended promised undo
 reserves_less true true promised undo = omega arith
 reserves_less true false promised undo = omega arith
 reserves_less false ended promised undo = omega arith
 
-pending_same : (b : Bool) (c m : ℕ) → b ≡ false → c + m ≤ c + (if b then 0 else m)
+pub pending_same : (b : Bool) (c m : ℕ) → b ≡ false → c + m ≤ c + (if b then 0 else m)
 pending_same b c m off = let same : (if b then 0 else m) ≡ m = ap (λ d. if d then 0 else m) off in omega (arith, same)
 
 module _ {E : Type 0} (layout : Layout) (start : Words) (book : Book E) (keeper : LogKeeper) (region : Region) (spare events l : ℕ) (few : l < 17) (inside : l < length book.lanes.items)
@@ -483,35 +496,43 @@ module _ {E : Type 0} (layout : Layout) (start : Words) (book : Book E) (keeper 
       written = record { stored_all = storing.last_waits; updates_all = storing.updates_all; unrolled = storing.unrolled };
     }
 
-    pub store_step : IsHeapStep layout start book keeper region spare events l (PStore wr.address wr.value) state more (answered lane_now) Between
-    store_step = record {
-      in_heap = (mine.data_words wr (among_got lane_now.writes.items lane_now.stored wr got)).0;
-      world = stores_world shape_here state.base state.s state.chains start state.w region l wr.address wr.value storing.going.runs next (between_parts still) state.world;
-      number = refl;
-      rests = still;
-      stage_is = refl;
-      mine = record {
-        txn = stored_txn shape_here part_here lane_now x_here no_commit this_txn;
-        come = between;
-        words = mine.words;
-        data_words = mine.data_words;
-        naming = λ e. absurd (let f : Between ≡ Naming = e in cc);
-        recorded = mine.recorded;
-        begun = mine.begun;
-        has_some = mine.has_some;
-      };
-      owes = record { events = omega arith; records = owed.records; lists = owed.lists };
-      pays = record {
-        events_less = less_one 0 lane_now.owed_events owed.events;
-        records_less = le_same lane_now.owed_records;
-        reserves = reserves_less lane_now.has_records lane_now.ended lane_now.promised (undo_cells lane_now);
-        entry = inr (record { no_commit = refl; no_entry = record { unentered = refl; none = (state.is_book.entries.others l no_commit).none } });
-        numbers = record {
-          begun = refl;
-          commits = pending_same lane_now.entered lane_now.commits (if lane_now.transaction == 0 then 0 else 1) (state.is_book.entries.others l no_commit).unentered;
+    module _ (reply : Reply) (stays : phase_after reply ≡ Phase.In) where
+      its_stage : stage_of (answered reply lane_now) ≡ Between
+      its_stage = ap idle_stage stays
+
+      pub store_step : IsHeapStep layout start book keeper region spare events l (PStore wr.address wr.value) state more (answered reply lane_now) Between
+      store_step = record {
+        in_heap = written_heap shape_here wr.address (mine.written_words wr (among_got lane_now.writes.items lane_now.stored wr got));
+        world = stores_world shape_here state.base state.s state.chains start state.w region l wr.address wr.value storing.going.runs next (between_parts still) state.world;
+        number = refl;
+        rests = still;
+        stage_is = its_stage;
+        mine = record {
+          txn = stored_txn shape_here part_here reply lane_now x_here no_commit this_txn;
+          come = subst (IsCome state.s.log nothing more) (sym its_stage) between;
+          given = given_resting layout start book keeper region spare events l inside state Storing at still;
+          counts = mine.counts ∙ ap (λ n. length x_here.gifts + n) (due_none lane_now.phase lane_now.has_records lane_now.part lane_now.doing Storing at (λ e. (let off : Storing ≡ Deleting = e in cc)));
+          deleting = deletes_none layout nothing (answered reply lane_now) refl;
+          ends_ungiven = λ on. absurd (let off : false ≡ true = on in cc);
+          written_words = mine.written_words;
+          taking = λ s k call. absurd (let f : Doing.Nothing ≡ Doing.Take s k = call in cc);
+          naming = λ e. absurd (let f : Between ≡ Naming = sym its_stage ∙ e in cc);
+          recorded = mine.recorded;
+          begun = mine.begun;
+          has_some = mine.has_some;
         };
-      };
-    }
+        owes = record { events = omega arith; records = owed.records; lists = owed.lists };
+        pays = record {
+          events_less = less_one 0 lane_now.owed_events owed.events;
+          records_less = le_same lane_now.owed_records;
+          reserves = reserves_less lane_now.has_records lane_now.ended lane_now.promised (undo_cells lane_now);
+          entry = inr (record { no_commit = refl; no_entry = record { unentered = refl; none = (state.is_book.entries.others l no_commit).none } });
+          numbers = record {
+            begun = refl;
+            commits = pending_same lane_now.entered lane_now.commits (if lane_now.transaction == 0 then 0 else 1) (state.is_book.entries.others l no_commit).unentered;
+          };
+        };
+      }
 
   -- ---- a word is taken back
 
@@ -559,8 +580,6 @@ module _ {E : Type 0} (layout : Layout) (start : Words) (book : Book E) (keeper 
       here = its_txn.here;
       writes = its_txn.writes;
       stored = sym last_one;
-      gifts = its_txn.gifts;
-      gives = its_txn.gives;
       zeroed = its_txn.zeroed;
       commits = its_txn.commits;
       updates = its_txn.updates;
@@ -575,7 +594,7 @@ module _ {E : Type 0} (layout : Layout) (start : Words) (book : Book E) (keeper 
         OwesIt shape_here part_here noted_here chain_here nothing fewer stage next_lane keeper.slots.items →
         IsHeapStep layout start book keeper region spare events l (PStore wr.address r.after) state fewer next_lane stage
     back_step stage stage_is other come owes = record {
-      in_heap = (its_lane.data_words wr (among_got lane_now.writes.items (lane_now.stored - 1) wr got)).0;
+      in_heap = written_heap shape_here wr.address (its_lane.written_words wr (among_got lane_now.writes.items (lane_now.stored - 1) wr got));
       world = takes_back_world shape_here state.base state.s state.chains start state.w region l wr.address r.after wr.value taking.going.runs taking.one_more
           (write_of shape_here part_here (length x_here.updates) (lane_now.stored - 1) lane_now x_here wr its_txn last_one got) value_is (between_parts quiet) state.world;
       number = refl;
@@ -584,8 +603,12 @@ module _ {E : Type 0} (layout : Layout) (start : Words) (book : Book E) (keeper 
       mine = record {
         txn = taken_txn;
         come = subst (IsCome state.s.log nothing fewer) (sym stage_is) come;
-        words = its_lane.words;
-        data_words = its_lane.data_words;
+        given = given_resting layout start book keeper region spare events l inside state TakingBack at quiet;
+        counts = its_lane.counts;
+        deleting = λ k call. (tt, (its_lane.deleting k call).1);
+        ends_ungiven = its_lane.ends_ungiven;
+        written_words = its_lane.written_words;
+        taking = λ s k call. absurd (let f : Doing.Abort ≡ Doing.Take s k = sym aborts.1 ∙ call in cc);
         naming = λ e. absurd (other (sym stage_is ∙ e));
         recorded = its_lane.recorded;
         begun = its_lane.begun;
@@ -651,8 +674,16 @@ pub writes_are_stored : {E : Type 0} → WritesAreStored E
 writes_are_stored layout start book later keeper region behind spare left events made l wr is at got goes kept state =
     subst (λ r. IsStateOf layout start later keeper r left made) (sym is.cells)
     (state_behind layout start book later keeper region spare left events made l (PStore wr.address wr.value) state
-    (with_stored ((txn_at state.w.lanes l).stored + 1) (txn_at state.w.lanes l)) (answered (lane_at book l)) Between goes kept is.places is.counted
-    (store_step layout start book keeper region spare events l is.inside goes.lanes.inside state wr at got))
+    (with_stored ((txn_at state.w.lanes l).stored + 1) (txn_at state.w.lanes l)) (answered Reply.Written (lane_at book l)) Between goes kept is.places is.counted
+    (store_step layout start book keeper region spare events l is.inside goes.lanes.inside state wr at got Reply.Written refl))
+
+pub takes_are_stored : {E : Type 0} → TakesAreStored E
+takes_are_stored layout start book later keeper region behind spare left events made l s k is at call goes kept state =
+    subst (λ r. IsStateOf layout start later keeper r left made) (sym is.cells)
+    (state_behind layout start book later keeper region spare left events made l (PStore (owned layout s k).address (owned layout s k).value) state
+    (with_stored ((txn_at state.w.lanes l).stored + 1) (txn_at state.w.lanes l)) (answered (Reply.Block k) (lane_at book l)) Between goes kept is.places is.counted
+    (store_step layout start book keeper region spare events l is.inside goes.lanes.inside state (owned layout s k) at
+    ((state.tied.each l (subst (λ n. l < n) (sym state.tied.lanes) goes.lanes.inside)).taking s k call) (Reply.Block k) refl))
 
 pub words_are_taken_back : {E : Type 0} → WordsAreTakenBack E
 words_are_taken_back layout start book later keeper region behind spare left events made l wr r is at got latest_is goes kept state =

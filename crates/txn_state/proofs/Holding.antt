@@ -17,7 +17,7 @@ use Rattle.log_keeper.specs.Parts.{Running, plan_of}
 use Rattle.history_laws.specs.UnderWay.{UnderWay, nothing, closes, drops, run_of}
 use Rattle.txn_laws.specs.Txns.{Txn, txn_at}
 use Rattle.txn_laws.specs.Worlds.{World}
-use Rattle.txn_state.specs.Stages.{Stage, Free, Between, Leaving, Naming, Storing, Securing, Opening, Undoing, TakingBack, Keeping as Keeps, Ending, Closing, ClosingEnd, Dropping, Unbuilt}
+use Rattle.txn_state.specs.Stages.{Stage, Free, Between, Leaving, Naming, Storing, Securing, Opening, Undoing, TakingBack, Keeping as Keeps, Ending, Closing, ClosingEnd, Dropping, Unbuilt, Deleting}
 use Rattle.txn_state.specs.Ties.{under_of, IsCome, IsLaneOf}
 use Rattle.txn_state.specs.Owing.{events_left}
 use Rattle.txn_state.specs.States.{IsStateOf}
@@ -52,6 +52,7 @@ clears_some log u x Ending on come is = cc
 clears_some log u x Closing on come is = let e : closes come.gates [] come.made ≡ nothing = sym come.under_way ∙ is in cc
 clears_some log u x ClosingEnd on come is = let e : closes [] come.ends come.made ≡ nothing = sym come.under_way ∙ is in cc
 clears_some log u x Dropping on come is = let e : drops come.removed come.made ≡ nothing = sym come.under_way ∙ is in cc
+clears_some log u x Deleting on come is = cc
 clears_some log u x Unbuilt on come is = absurd come
 
 -- an event is left of what is under way

@@ -13,7 +13,7 @@ use Rattle.lane_book.specs.declared.lane.Lane.{Lane}
 use Rattle.lane_book.specs.declared.lane.Doing.{Doing}
 use Rattle.lane_book.specs.FacesOf.{lane_at, is_of}
 use Rattle.lane_book.specs.Lanes.{left, entered_lane}
-use Rattle.lane_book.specs.Books.{IsBook}
+use Rattle.lane_book.specs.Books.{IsBook, ends}
 use Rattle.lane_book.proofs.Faces.{filter_last}
 use Rattle.log_keeper.specs.declared.keeper.LogKeeper.{LogKeeper}
 use Rattle.log_keeper.specs.Ledger.{newest_log}
@@ -35,6 +35,7 @@ use Rattle.txn_state.proofs.Steps.{numbers_stay, goes_on, beside_with, beside_hi
 use Rattle.txn_state.proofs.Resting.{resting_of}
 use Rattle.txn_state.proofs.SameTransaction.{owes_with, no_gates, same_slots}
 use Rattle.txn_state.proofs.FreeLanes.{IsFreeLane, free_lane}
+use Rattle.txn_state.proofs.Given.{ends_no_gifts}
 
 pub left_aborted : {E : Type 0} (lane : Lane E) → IsFreeLane (left Reply.Aborted lane)
 left_aborted lane = record {
@@ -46,6 +47,7 @@ left_aborted lane = record {
   updates = refl;
   stored = refl;
   gives = refl;
+  gates = refl;
   records = refl;
   rolled = refl;
   ended = refl;
@@ -62,6 +64,7 @@ left_committed lane = record {
   updates = refl;
   stored = refl;
   gives = refl;
+  gates = refl;
   records = refl;
   rolled = refl;
   ended = refl;
@@ -141,7 +144,7 @@ module _ {E : Type 0} (layout : Layout) (start : Words) (book later : Book E) (k
     lane = left Reply.Committed (entered_lane (lane_at book l))
 
     no_writes_there : (plain_entry e).writes ≡ []
-    no_writes_there = ap (λ z. z.writes) (was.txn.entry e entry) ∙ (λ i. come.unwritten i ++ map zero_of (was.txn.gifts i))
+    no_writes_there = ap (λ z. z.writes) (was.txn.entry e entry) ∙ (λ i. come.unwritten i ++ map zero_of (ends_no_gifts layout book.blocks state.s.log (newest_log state.w.keeping.ledger) (under_of (layout_shape layout) state.w l) (l % layout.partitions) (lane_at book l) (txn_at state.w.lanes l) was (ap ends commits) i))
 
     not_entered : (b : Bool) → before.entered ≡ b → before.entered ≡ false
     not_entered false is = is

@@ -4,6 +4,8 @@ pub mod Staying
 pub mod Lanes
 pub mod Rebuilding
 pub mod Likeness
+pub mod Given
+pub mod Gives
 pub mod Going
 pub mod PartsGoing
 pub mod LaneSteps
@@ -23,6 +25,8 @@ pub mod EndsSettling
 pub mod Begins
 pub mod Resting
 pub mod Asks
+pub mod BlocksGo
+pub mod Takes
 pub mod Leaves
 pub mod PartsOver
 pub mod ClosingSteps

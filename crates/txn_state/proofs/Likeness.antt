@@ -4,10 +4,11 @@ use Rattle.persist_model.specs.Records.{Log, IsAmong}
 use Rattle.persist_model.specs.Shape.{Shape}
 use Rattle.region_layout.specs.declared.layout.Layout.{Layout}
 use Rattle.region_layout.specs.declared.cell.Cell.{Cell}
-use Rattle.region_layout.specs.Layout.{layout_shape, IsDataWord}
+use Rattle.region_layout.specs.Layout.{layout_shape}
 use Rattle.offset_alloc.specs.declared.Standing.{Standing}
 use Rattle.lane_traits.specs.declared.draft.WordWrite.{WordWrite}
 use Rattle.lane_book.specs.declared.lane.Lane.{Lane}
+use Rattle.lane_book.specs.declared.lane.Doing.{Doing}
 use Rattle.lane_book.specs.Stocked.{Stocked}
 use Rattle.lane_book.specs.Lanes.{has_room}
 use Rattle.bucket_log.specs.Appends.{region_append}
@@ -17,11 +18,13 @@ use Rattle.history_laws.specs.UnderWay.{Added, Adding, record_of_adding, UnderWa
 use Rattle.txn_laws.specs.Txns.{Txn}
 use Rattle.txn_laws.specs.NextRecords.{is_end, ended_by}
 use Rattle.txn_laws.specs.Going.{further, txn_further}
-use Rattle.txn_state.specs.Stages.{Stage, Free, Between, Leaving, Naming, Storing, Securing, Opening, Undoing, TakingBack, Keeping, Ending, Closing, ClosingEnd, Dropping, Unbuilt, stage_of, is_commit}
+use Rattle.txn_state.specs.Stages.{Stage, Free, Between, Leaving, Naming, Storing, Deleting, Securing, Opening, Undoing, TakingBack, Keeping, Ending, Closing, ClosingEnd, Dropping, Unbuilt, stage_of, is_commit}
 use Rattle.txn_state.specs.Seen.{booked, noticed}
-use Rattle.txn_state.specs.Ties.{plain_write, AreCellsOf, IsAppending, waits, appends_it, IsGoingOn, IsCome, IsLaneOf}
+use Rattle.txn_state.specs.Ties.{plain_write, IsWrittenWord, AreCellsOf, IsAppending, waits, appends_it, IsGoingOn, IsCome, IsLaneOf, due_by}
 use Rattle.txn_state.specs.Owing.{Needs, append_left, needs_at}
-use Rattle.txn_state.proofs.SameTransaction.{is_lanes_same}
+use Rattle.txn_state.proofs.SameTransaction.{takes_same}
+use Rattle.txn_state.proofs.Given.{given_same, deletes_same}
+use Rattle.lane_book.specs.Books.{ends}
 
 -- ---- a lane with the same transaction
 
@@ -40,6 +43,12 @@ pub record IsLike {E : Type 0} (lane later : Lane E) : Type 0 where
   pub ended : later.ended ≡ lane.ended
   pub entry : later.entry ≡ lane.entry
   pub committing : is_commit later.doing ≡ is_commit lane.doing
+  pub due : due_by later.doing ≡ due_by lane.doing
+  pub gives_same : (k : ℕ) → later.doing ≡ Doing.Give k → lane.doing ≡ Doing.Give k
+  pub ending : ends later.doing ≡ ends lane.doing
+  pub gates : later.gates.items ≡ lane.gates.items
+  pub gates_wait : due_by lane.doing ≡ 1 → later.gates ≡ lane.gates
+  pub takes : (s k : ℕ) → later.doing ≡ Doing.Take s k → lane.doing ≡ Doing.Take s k
   pub promised : later.promised ≡ lane.promised
 
 pub like_lane : (E : Type 0) (layout : Layout) (blocks : List Standing) (log newest : Log) (u : UnderWay) (p : ℕ) (lane later : Lane E) (x : Txn) → IsLike lane later →
@@ -50,8 +59,6 @@ like_lane E layout blocks log newest u p lane later x like is = let t = is.txn i
     here = t.here;
     writes = t.writes ∙ ap (map plain_write) (sym like.writes);
     stored = t.stored ∙ sym like.stored;
-    gifts = t.gifts;
-    gives = like.gives ∙ t.gives;
     zeroed = t.zeroed;
     commits = t.commits ∙ sym like.committing;
     updates = subst (λ (cells : List Cell). AreCellsOf (reverse cells) (noticed (layout_shape layout) p u x).updates) (sym like.updates) t.updates;
@@ -62,8 +69,13 @@ like_lane E layout blocks log newest u p lane later x like is = let t = is.txn i
     entry = λ e some. t.entry e (sym like.entry ∙ some);
   };
   come = subst (IsCome log u x) (sym like.stage) is.come;
-  words = λ a. is.words a ∙ sym (is_lanes_same layout blocks lane later a like.held like.gives);
-  data_words = subst (λ (writes : List WordWrite). (w : WordWrite) → IsAmong writes w → IsDataWord (layout_shape layout) w.address) (sym like.writes) is.data_words;
+  given = given_same layout blocks lane.held later.held lane.gives.items later.gives.items lane.gates.items later.gates.items (noticed (layout_shape layout) p u x).gifts
+      (noticed (layout_shape layout) p u x).gifts x.words x.words like.held like.gives like.gates refl refl is.given;
+  counts = ap length like.gives ∙ (is.counts ∙ ap (λ n. length x.gifts + n) (sym like.due));
+  deleting = deletes_same layout u lane later like.gives_same like.gates like.gives like.promised like.gates_wait is.deleting;
+  ends_ungiven = λ on. like.gives ∙ is.ends_ungiven (sym like.ending ∙ on);
+  written_words = subst (λ (writes : List WordWrite). (w : WordWrite) → IsAmong writes w → IsWrittenWord (layout_shape layout) w.address) (sym like.writes) is.written_words;
+  taking = takes_same layout lane later like.writes like.stored like.takes is.taking;
   naming = λ stage long. (
       let at : stage_of lane ≡ Naming = sym like.stage ∙ stage in
       let old = is.naming at (ap length (sym like.updates) ∙ long ∙ like.stored) in record {
@@ -134,6 +146,7 @@ come_further log u x ClosingEnd busy come = record {
   all_listed = come.all_listed;
 }
 come_further log u x Dropping busy come = record { over = come.over; no_record = come.no_record; removed = come.removed; made = suc come.made; under_way = ap further come.under_way }
+come_further log u x Deleting busy come = record { going = going_further u x busy come.going; written = come.written; under_way = appending_further _ u busy come.under_way }
 come_further log u x Unbuilt busy come = come
 
 -- the gate of an append's record isn't stored yet, nor with the next event
@@ -222,4 +235,6 @@ needs_further shape p n c log u x ClosingEnd busy more come =
 needs_further shape p n c log u x Dropping busy more come =
     subst (λ v. IsOneLess (needs_at shape p n c v x Dropping) (needs_at shape p n c (further v) x Dropping)) (sym come.under_way)
     (let lt : HasEventIn shape p (drops come.removed come.made) = subst (HasEventIn shape p) come.under_way more in record { events = omega (arith, lt); records = refl; gates = refl })
+needs_further shape p n c log u x Deleting busy more come =
+    less_by shape p n c x _ u Deleting busy come.under_way more (λ adding made less. record { events = omega (arith, less); records = refl; gates = refl })
 needs_further shape p n c log u x Unbuilt busy more come = absurd come

@@ -1,5 +1,5 @@
 -- A lane that comes to another stage, with a record settled.
-use Rattle.std.proofs.Common.{◌≡◌, ◌≢◌, ℕ, ◌+◌, ◌≤◌, Bool, true, false, List, [], ◌∷◌, ◌++◌, length, map, reverse, refl, sym, ap, ◌∙◌, subst, arith}
+use Rattle.std.proofs.Common.{◌≡◌, ◌≢◌, ℕ, ◌+◌, ◌≤◌, true, false, List, [], ◌∷◌, ◌++◌, length, map, reverse, refl, sym, ap, ◌∙◌, subst, arith}
 use Rattle.std.specs.Prelude.{Some}
 use Rattle.persist_model.specs.Records.{Log, Record, IsAmong, Has, IsOf, IsEnd}
 use Rattle.persist_model.specs.Need.{rest, has_of}
@@ -13,15 +13,19 @@ use Rattle.offset_alloc.specs.declared.Standing.{Standing}
 use Rattle.lane_traits.specs.declared.draft.WordWrite.{WordWrite}
 use Rattle.lane_types.specs.declared.face.Entry.{Entry}
 use Rattle.lane_book.specs.declared.lane.Lane.{Lane}
+use Rattle.lane_book.specs.declared.lane.Doing.{Doing}
 use Rattle.history_laws.specs.UnderWay.{Added, an_update, a_deletion, a_rollback, a_compensation, an_undone_end, a_commit_end, cell_of, UnderWay, nothing, appends, Adding}
 use Rattle.txn_laws.specs.Txns.{Txn, zero_of, entry_of}
 use Rattle.txn_laws.specs.NextRecords.{ComesNext, IsNextUpdate, is_end}
 use Rattle.txn_laws.specs.Settled.{txn_behind}
-use Rattle.txn_state.specs.Stages.{Stage, Naming, stage_of, is_commit}
+use Rattle.txn_state.specs.Stages.{Stage, Naming, Deleting, stage_of, is_commit}
 use Rattle.txn_state.specs.Seen.{booked, noticed}
-use Rattle.txn_state.specs.Ties.{plain_write, AreCellsOf, top_of, AreLinked, IsUpdating, IsCompensating, IsAppending, waits, appends_it, IsCome, IsLaneOf}
-use Rattle.txn_state.proofs.SameTransaction.{is_lanes_same}
+use Rattle.txn_state.specs.Ties.{plain_write, AreCellsOf, top_of, AreLinked, IsUpdating, IsCompensating, IsAppending, waits, appends_it, IsCome, IsLaneOf, due_by}
+use Rattle.txn_state.proofs.SameTransaction.{takes_same}
 use Rattle.txn_state.proofs.Settling.{KeepsTxn}
+use Rattle.txn_state.proofs.Given.{given_same, deletes_none}
+use Rattle.txn_state.proofs.StageSteps.{due_none}
+use Rattle.lane_book.specs.Books.{ends}
 
 -- what the book keeps of the transaction beside the stage
 pub record HasSameBook {E : Type 0} (lane later : Lane E) : Type 0 where
@@ -35,6 +39,10 @@ pub record HasSameBook {E : Type 0} (lane later : Lane E) : Type 0 where
   pub rolled : later.rolled ≡ lane.rolled
   pub ended : later.ended ≡ lane.ended
   pub committing : is_commit later.doing ≡ is_commit lane.doing
+  pub due : due_by later.doing ≡ due_by lane.doing
+  pub ending : ends later.doing ≡ ends lane.doing
+  pub gates : later.gates.items ≡ lane.gates.items
+  pub takes : (s k : ℕ) → later.doing ≡ Doing.Take s k → lane.doing ≡ Doing.Take s k
   pub entry : (e : Entry E) → later.entry ≡ Some e → lane.entry ≡ Some e
 
 entry_same : (x z : Txn) → KeepsTxn x z → z.gifts ≡ x.gifts → entry_of z ≡ entry_of x
@@ -43,15 +51,14 @@ entry_same x z keeps gifts i = record { transaction = keeps.number i; writes = k
 pub lane_as : (E : Type 0) (layout : Layout) (blocks : List Standing) (log after newest : Log) (u v : UnderWay) (p : ℕ) (x z : Txn) (lane later : Lane E) (stage : Stage) →
     IsLaneOf layout blocks log newest u p lane x → KeepsTxn x z → z.gifts ≡ x.gifts → (z.over ≡ false → x.over ≡ false) → HasSameBook lane later →
     (noticed (layout_shape layout) p v z).updates ≡ (noticed (layout_shape layout) p u x).updates → (noticed (layout_shape layout) p v z).rolled ≡ (noticed (layout_shape layout) p u x).rolled →
-    AreLinked z.updates → z.point ≡ top_of z.updates → stage_of later ≡ stage → stage ≢ Naming → IsCome after v z stage → IsLaneOf layout blocks after newest v p later z
-lane_as E layout blocks log after newest u v p x z lane later stage is keeps gifts over same updates rolled linked point at other come = let t = is.txn in record {
+    AreLinked z.updates → z.point ≡ top_of z.updates → (noticed (layout_shape layout) p v z).gifts ≡ (noticed (layout_shape layout) p u x).gifts → stage_of later ≡ stage → stage ≢ Naming → stage ≢ Deleting → IsCome after v z stage →
+    IsLaneOf layout blocks after newest v p later z
+lane_as E layout blocks log after newest u v p x z lane later stage is keeps gifts over same updates rolled linked point noticed_gifts at other undeleted come = let t = is.txn in record {
   txn = record {
     number = keeps.number ∙ t.number ∙ sym same.transaction;
     here = λ one. keeps.part ∙ t.here (subst (λ k. 1 ≤ k) keeps.number one);
     writes = keeps.writes ∙ t.writes ∙ ap (map plain_write) (sym same.writes);
     stored = keeps.stored ∙ t.stored ∙ sym same.stored;
-    gifts = gifts ∙ t.gifts;
-    gives = same.gives ∙ t.gives;
     zeroed = keeps.zeroed ∙ t.zeroed;
     commits = keeps.commits ∙ t.commits ∙ sym same.committing;
     updates = subst (λ (cells : List Cell). AreCellsOf (reverse cells) (noticed (layout_shape layout) p v z).updates) (sym same.updates)
@@ -63,8 +70,13 @@ lane_as E layout blocks log after newest u v p x z lane later stage is keeps gif
     entry = λ e has. t.entry e (same.entry e has) ∙ sym (entry_same x z keeps gifts);
   };
   come = subst (IsCome after v z) (sym at) come;
-  words = λ a. ap (λ (f : ℕ → Bool). f a) keeps.words ∙ is.words a ∙ sym (is_lanes_same layout blocks lane later a same.held same.gives);
-  data_words = λ w among. is.data_words w (subst (λ (ws : List WordWrite). IsAmong ws w) same.writes among);
+  given = given_same layout blocks lane.held later.held lane.gives.items later.gives.items lane.gates.items later.gates.items (noticed (layout_shape layout) p u x).gifts
+      (noticed (layout_shape layout) p v z).gifts x.words z.words same.held same.gives same.gates noticed_gifts keeps.words is.given;
+  counts = ap length same.gives ∙ (is.counts ∙ (λ i. length (sym gifts i) + sym same.due i));
+  deleting = deletes_none layout v later (due_none later.phase later.has_records later.part later.doing stage at undeleted);
+  ends_ungiven = λ on. same.gives ∙ is.ends_ungiven (sym same.ending ∙ on);
+  written_words = λ w among. is.written_words w (subst (λ (ws : List WordWrite). IsAmong ws w) same.writes among);
+  taking = takes_same layout lane later same.writes same.stored same.takes is.taking;
   naming = λ on long. absurd (other (sym at ∙ on));
   recorded = λ one has. same.has_records ∙ is.recorded (subst (λ k. 1 ≤ k) keeps.number one) (subst (λ k. has_of k newest ≡ true) keeps.number has);
   begun = λ on. subst (λ k. 1 ≤ k) (sym keeps.number) (is.begun (sym same.has_records ∙ on));

@@ -1,7 +1,7 @@
 -- A lane that appends: its call, its kind of record, and how many updates it has.
 use Rattle.std.proofs.Common.{◌≡◌, ◌≢◌, ℕ, suc, ◌-◌, Bool, true, false, List, [], ◌∷◌, ◌++◌, length, take, reverse, length-append, refl, sym, ap, ◌∙◌, subst, arith}
 use Rattle.std.proofs.lemmas.List.{reverse-append, reverse-reverse, length-reverse}
-use Rattle.persist_model.specs.Kinds.{UPDATE, CHECKPOINT}
+use Rattle.persist_model.specs.Kinds.{UPDATE, CHECKPOINT, DELETION}
 use Rattle.persist_model.specs.Records.{Record}
 use Rattle.persist_model.specs.Need.{rest}
 use Rattle.region_layout.specs.declared.cell.Cell.{Cell}
@@ -14,9 +14,9 @@ use Rattle.history_laws.specs.UnderWay.{Added, an_update, a_deletion, a_rollback
 use Rattle.txn_laws.specs.Txns.{Txn}
 use Rattle.txn_laws.specs.NextRecords.{is_end}
 use Rattle.txn_state.specs.declared.parts.TheConstants.{STORE}
-use Rattle.txn_state.specs.Stages.{Stage, Free, Between, Leaving, Naming, Storing, Unbuilt, idle_stage, commit_stage, abort_stage, stage_at}
+use Rattle.txn_state.specs.Stages.{Stage, Free, Between, Leaving, Naming, Storing, Deleting, Unbuilt, idle_stage, commit_stage, abort_stage, stage_at}
 use Rattle.txn_state.specs.Seen.{booked}
-use Rattle.txn_state.specs.Ties.{AreCellsOf, IsUpdating, IsRollingBack, IsCompensating, IsEnding, IsAppending, waits, appends_it}
+use Rattle.txn_state.specs.Ties.{AreCellsOf, IsUpdating, IsDeleting, IsRollingBack, IsCompensating, IsEnding, IsAppending, waits, appends_it}
 use Rattle.txn_state.proofs.StageSteps.{commit_cases, abort_cases}
 
 -- ---- a write's call
@@ -33,31 +33,29 @@ idle_unlike Phase.Out = refl
 idle_unlike Phase.In = refl
 idle_unlike Phase.Calling = refl
 
--- a lane that names a word is in a write
-pub naming_write : (phase : Phase) (rec : Bool) (part : ℕ) (doing : Doing) → stage_at phase rec part doing ≡ Naming → (a : ℕ) × (v : ℕ) × (doing ≡ Doing.Write a v)
-naming_write phase rec part Doing.Nothing e = unlike (idle_stage phase) (idle_unlike phase) e
-naming_write phase rec part (Doing.Begin set) e = unlike Free refl e
-naming_write phase rec part (Doing.Read a) e = unlike Between refl e
-naming_write phase rec part (Doing.Write a v) e = (a, v, refl)
-naming_write phase rec part (Doing.Take s block) e = unlike Unbuilt refl e
-naming_write phase rec part (Doing.Give block) e = unlike Unbuilt refl e
-naming_write phase true part Doing.Commit e = unlike (commit_stage part) (commit_cases (λ st. is_naming st ≡ false) part refl refl refl refl refl) e
-naming_write phase false part Doing.Commit e = unlike Leaving refl e
-naming_write phase true part Doing.Abort e = unlike (abort_stage part) (abort_cases (λ st. is_naming st ≡ false) part refl refl refl refl refl refl refl refl) e
-naming_write phase false part Doing.Abort e = unlike Leaving refl e
-naming_write phase rec part Doing.Checkpoint e = unlike Free refl e
-naming_write phase rec part (Doing.Batch n) e = unlike Unbuilt refl e
-naming_write phase rec part Doing.Savepoint e = unlike Unbuilt refl e
-naming_write phase rec part (Doing.RollbackTo n) e = unlike Unbuilt refl e
+-- A lane that names a word is in a write or a take: so it is too with a record, and at the part of its store it stores.
+pub naming_goes : (phase : Phase) (rec : Bool) (part : ℕ) (doing : Doing) → stage_at phase rec part doing ≡ Naming → (stage_at phase true part doing ≡ Naming) × (stage_at phase rec STORE doing ≡ Storing)
+naming_goes phase rec part Doing.Nothing e = unlike (idle_stage phase) (idle_unlike phase) e
+naming_goes phase rec part (Doing.Begin set) e = unlike Free refl e
+naming_goes phase rec part (Doing.Read a) e = unlike Between refl e
+naming_goes phase rec part (Doing.Write a v) e = (e, refl)
+naming_goes phase rec part (Doing.Take s block) e = (e, refl)
+naming_goes phase rec part (Doing.Give block) e = unlike Deleting refl e
+naming_goes phase true part Doing.Commit e = unlike (commit_stage part) (commit_cases (λ st. is_naming st ≡ false) part refl refl refl refl refl) e
+naming_goes phase false part Doing.Commit e = unlike Leaving refl e
+naming_goes phase true part Doing.Abort e = unlike (abort_stage part) (abort_cases (λ st. is_naming st ≡ false) part refl refl refl refl refl refl refl refl) e
+naming_goes phase false part Doing.Abort e = unlike Leaving refl e
+naming_goes phase rec part Doing.Checkpoint e = unlike Free refl e
+naming_goes phase rec part (Doing.Batch n) e = unlike Unbuilt refl e
+naming_goes phase rec part Doing.Savepoint e = unlike Unbuilt refl e
+naming_goes phase rec part (Doing.RollbackTo n) e = unlike Unbuilt refl e
 
 -- whether it has a record
 pub naming_recorded : (phase : Phase) (rec : Bool) (part : ℕ) (doing : Doing) → stage_at phase rec part doing ≡ Naming → stage_at phase true part doing ≡ Naming
-naming_recorded phase rec part doing e =
-    let call = naming_write phase rec part doing e in
-    ap (stage_at phase true part) call.2 ∙ sym (ap (stage_at phase rec part) call.2) ∙ e
+naming_recorded phase rec part doing e = (naming_goes phase rec part doing e).0
 
 pub naming_stores : (phase : Phase) (rec : Bool) (part : ℕ) (doing : Doing) → stage_at phase rec part doing ≡ Naming → stage_at phase rec STORE doing ≡ Storing
-naming_stores phase rec part doing e = let call = naming_write phase rec part doing e in ap (stage_at phase rec STORE) call.2
+naming_stores phase rec part doing e = (naming_goes phase rec part doing e).1
 
 -- ---- the kinds
 
@@ -98,6 +96,19 @@ adds_update (a_rollback t) k = absurd k
 adds_update (a_compensation u cell) k = absurd k
 adds_update (an_undone_end t) k = absurd k
 adds_update (a_commit_end t) k = absurd k
+
+pub record AddsDeletion (added : Added) : Type 0 where
+  pub no_end : is_end added ≡ false
+  pub kind : (cell_of added).kind ≡ DELETION
+  pub books : (r : Record) (x : Txn) → booked added r x ≡ record x { gifts = x.gifts ++ record { word = r.word; gate = r.at } ∷ [] }
+
+pub adds_deletion : (added : Added) → IsDeleting added → AddsDeletion added
+adds_deletion (an_update u) k = absurd k
+adds_deletion (a_deletion g) k = record { no_end = refl; kind = refl; books = λ r x. refl }
+adds_deletion (a_rollback t) k = absurd k
+adds_deletion (a_compensation u cell) k = absurd k
+adds_deletion (an_undone_end t) k = absurd k
+adds_deletion (a_commit_end t) k = absurd k
 
 pub record AddsRollback (added : Added) : Type 0 where
   pub no_end : is_end added ≡ false

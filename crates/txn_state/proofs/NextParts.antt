@@ -49,8 +49,8 @@ use Rattle.txn_laws.proofs.Asking.{parts_begin}
 use Rattle.txn_laws.proofs.Rooms.{AreFilled, newest_stand, filled_after}
 use Rattle.txn_state.specs.declared.parts.TheConstants.{DROP}
 use Rattle.txn_state.specs.Seen.{noticed}
-use Rattle.txn_state.specs.Stages.{Stage, Naming, Dropping, stage_at, stage_of}
-use Rattle.txn_state.specs.Ties.{AreCellsOf, IsTxnOf, IsCome, under_of, IsLaneOf}
+use Rattle.txn_state.specs.Stages.{Stage, Naming, Dropping, stage_at, stage_of, Deleting}
+use Rattle.txn_state.specs.Ties.{AreCellsOf, IsTxnOf, IsCome, under_of, IsLaneOf, HasGiven}
 use Rattle.txn_state.specs.Owing.{REMOVAL_EVENTS, records_noted}
 use Rattle.txn_state.specs.Numbers.{unpaid, pending}
 use Rattle.txn_state.specs.States.{IsStateOf}
@@ -59,11 +59,12 @@ use Rattle.txn_state.specs.AppendLaws.{newest_image, IsMade, AreLeft, made_in}
 use Rattle.txn_state.specs.ClosingLaws.{IsRemovalRead, RemovalsBegin}
 use Rattle.txn_state.proofs.Sums.{sums_same}
 use Rattle.txn_state.proofs.Making.{test_same, test_other, under_held, IsChangedIn, held_changed, held_by_lane, made_holder, made_elsewhere, made_ends, part_inside, holder_is, lane_inside, others_off, region_is, left_there}
-use Rattle.txn_state.proofs.StageSteps.{EndsCall, commit, abort, stage_of_call}
+use Rattle.txn_state.proofs.StageSteps.{EndsCall, commit, abort, stage_of_call, due_none}
 use Rattle.txn_state.proofs.HeapSteps.{OwesIt, owes_to, le_same, less_one}
 use Rattle.txn_state.proofs.PartsOver.{IsPartOver}
 use Rattle.txn_state.proofs.ClosingSteps.{part_behind}
 use Rattle.txn_state.proofs.Cleared.{IsCleared, cleared}
+use Rattle.txn_state.proofs.Given.{deletes_none}
 
 -- ---- the lane
 
@@ -75,8 +76,6 @@ moved_txn shape p part lane u next x was is t = record {
   here = t.here;
   writes = t.writes;
   stored = t.stored;
-  gifts = t.gifts;
-  gives = t.gives;
   zeroed = t.zeroed;
   commits = t.commits;
   updates = subst (λ (z : Txn). AreCellsOf (reverse lane.updates.items) z.updates) (was ∙ sym is) t.updates;
@@ -182,12 +181,12 @@ module _ {E : Type 0} (layout : Layout) (start : Words) (book later : Book E) (k
       | inr ne ↦ ap unpaid (changed.unders q ne.1)
     ])
 
-    pub next_state : (part : ℕ) (stage : Stage) → stage_of (moved part (paid_event (lane_at book l))) ≡ stage → stage ≢ Naming → x.over ≡ true → (lane_at book l).has_records ≡ true →
+    pub next_state : (part : ℕ) (stage : Stage) → stage_of (moved part (paid_event (lane_at book l))) ≡ stage → stage ≢ Naming → stage ≢ Deleting → x.over ≡ true → (lane_at book l).has_records ≡ true →
         noticed its_shape p (under_of its_shape was l) x ≡ x → noticed its_shape p next x ≡ x → IsCome over.state.log next x stage →
         OwesIt its_shape p (records_noted begun_world x.number) (length (over.chains_behind p)) next x stage (moved part (paid_event (lane_at book l))) kept.slots.items → 1 ≤ (lane_at book l).owed_events →
         GoesTo book later l (moved part (paid_event (lane_at book l))) → IsBook later → IsKept keeper kept (begun_in p its_next (made_in layout keeper p).ledger (made_in layout keeper p)) →
         IsStateOf layout start later kept behind left made
-    next_state part stage stage_is other is_over recorded unnoticed next_unnoticed come owes some goes is_book is =
+    next_state part stage stage_is other undeleted is_over recorded unnoticed next_unnoticed come owes some goes is_book is =
         part_behind layout start book later keeper kept region behind spare left events made l e (begun_in p its_next (made_in layout keeper p).ledger (made_in layout keeper p)) state m
         (moved part (paid_event (lane_at book l))) goes is_book is over begun_world (record {
           changed = changed;
@@ -201,8 +200,13 @@ module _ {E : Type 0} (layout : Layout) (start : Words) (book later : Book E) (k
           mine = subst (λ u. IsLaneOf layout book.blocks over.state.log (newest_log made_keeping.ledger) u p (moved part (paid_event (lane_at book l))) x) (sym under_next) (record {
             txn = moved_txn its_shape p part (lane_at book l) (under_of its_shape was l) next x unnoticed next_unnoticed mine.txn;
             come = subst (IsCome over.state.log next x) (sym stage_is) come;
-            words = mine.words;
-            data_words = mine.data_words;
+            given = subst (λ (z : Txn). HasGiven layout book.blocks (lane_at book l).held (lane_at book l).gives.items (lane_at book l).gates.items z.gifts x.words) (unnoticed ∙ sym next_unnoticed) mine.given;
+            counts = mine.counts;
+            deleting = deletes_none layout next (moved part (paid_event (lane_at book l)))
+                (due_none (lane_at book l).phase (lane_at book l).has_records part (lane_at book l).doing stage stage_is undeleted);
+            ends_ungiven = mine.ends_ungiven;
+            written_words = mine.written_words;
+            taking = mine.taking;
             naming = λ at. absurd (other (sym stage_is ∙ at));
             recorded = λ one has. recorded;
             begun = mine.begun;
@@ -285,7 +289,7 @@ removals_begin {E} layout start book later keeper kept region behind spare left 
     (region_made state.w.keeping (l % layout.partitions) e region) (l % layout.partitions)
     (p_inside layout start book later keeper kept region behind spare left events made l e state m last c.over (drops r 0))
     (rests_there layout start book later keeper kept region behind spare left events made l e state m last c.over (drops r 0)) c.over.world.log.logged filled r read_there)
-    tt refl DROP Dropping stage.0 (λ e. cc) c.now.is_over stage.1 c.unnoticed refl
+    tt refl DROP Dropping stage.0 (λ e. cc) (λ e. cc) c.now.is_over stage.1 c.unnoticed refl
     (record { over = c.now; no_record = c.none; removed = r; made = 0; under_way = refl })
     (record {
       events = drop_events (length (c.over.chains_behind (l % layout.partitions))) (lane_at book l).owed_events some c.owed;

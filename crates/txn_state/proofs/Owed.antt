@@ -9,11 +9,11 @@ use Rattle.lane_book.specs.declared.book.Book.{Book}
 use Rattle.lane_book.specs.FacesOf.{lane_at}
 use Rattle.log_keeper.specs.declared.keeper.LogKeeper.{LogKeeper}
 use Rattle.log_keeper.specs.Keeper.{keeping_of, free_places}
-use Rattle.history_laws.specs.UnderWay.{UnderWay, nothing}
+use Rattle.history_laws.specs.UnderWay.{UnderWay, nothing, appends}
 use Rattle.txn_laws.specs.Txns.{Txn, txn_at}
-use Rattle.txn_state.specs.Stages.{Stage, Free, Between, Leaving, Naming, Storing, Securing, Opening, Undoing, TakingBack, Keeping, Ending, Closing, ClosingEnd, Dropping, Unbuilt, stage_of}
-use Rattle.txn_state.specs.Ties.{under_of, IsCome}
-use Rattle.txn_state.specs.Owing.{needs_at, records_noted, events_left}
+use Rattle.txn_state.specs.Stages.{Stage, Free, Between, Leaving, Naming, Storing, Deleting, Securing, Opening, Undoing, TakingBack, Keeping, Ending, Closing, ClosingEnd, Dropping, Unbuilt, stage_of}
+use Rattle.txn_state.specs.Ties.{under_of, IsCome, waits, appends_it}
+use Rattle.txn_state.specs.Owing.{needs_at, records_noted, events_left, append_left}
 use Rattle.txn_state.specs.States.{IsStateOf}
 use Rattle.txn_state.specs.ReadLaws.{makes_events, appends_in, clears_in, HoldersAreBusy, EventsAreOwed, RecordsAreOwed}
 use Rattle.txn_state.proofs.Sums.{summand_within}
@@ -37,6 +37,11 @@ events_wanted shape log p n c u x Ending on more come = omega arith
 events_wanted shape log p n c u x Closing on more come = omega arith
 events_wanted shape log p n c u x ClosingEnd on more come = let one = more (clears_some log u x ClosingEnd refl come) in omega (arith, one)
 events_wanted shape log p n c u x Dropping on more come = let one = more (clears_some log u x Dropping refl come) in omega (arith, one)
+events_wanted shape log p n c u x Deleting on more come = elim come.under_way [
+  | waits none ↦ subst (λ v. 1 ≤ append_left shape p v) (sym none) (omega arith)
+  | appends_it adding made is kind ↦ (let one = more (λ none. (let e : appends adding made ≡ nothing = sym is ∙ none in cc)) in
+      subst (λ v. 1 ≤ append_left shape p v) (sym is) (subst (λ v. 1 ≤ events_left shape p v) is one))
+]
 events_wanted shape log p n c u x Unbuilt on more come = absurd come
 
 records_wanted : (shape : Shape) (p n c : ℕ) (u : UnderWay) (x : Txn) (stage : Stage) → appends_in stage ≡ true → u ≡ nothing → 1 ≤ (needs_at shape p n c u x stage).records
@@ -57,6 +62,7 @@ records_wanted shape p n c u x stage on none = subst (λ v. 1 ≤ (needs_at shap
     by Closing on = cc
     by ClosingEnd on = cc
     by Dropping on = cc
+    by Deleting on = omega arith
     by Unbuilt on = cc
 
 -- ---- is there

@@ -25,14 +25,14 @@ use Rattle.history_laws.specs.Histories.{fold}
 use Rattle.history_laws.specs.UnderWay.{UnderWay, nothing, appends, closes, takes_back, drops, run_of, record_of_adding}
 use Rattle.bucket_log.specs.declared.append.Place.{Place}
 use Rattle.bucket_log.specs.Appends.{region_append}
-use Rattle.txn_laws.specs.Txns.{Txn, txn_at}
+use Rattle.txn_laws.specs.Txns.{Txn, txn_at, Gift}
 use Rattle.txn_laws.specs.PartsOf.{Fits}
 use Rattle.txn_laws.specs.Going.{further, gone_on}
 use Rattle.txn_laws.specs.Rooms.{IsRoomy, is_append, stores_gate, taken_in}
 use Rattle.txn_laws.specs.Worlds.{World}
 use Rattle.txn_laws.proofs.Rooms.{parts_are_roomy}
 use Rattle.txn_state.specs.Stages.{stage_of}
-use Rattle.txn_state.specs.Ties.{plain_entry, AreCellsOf, under_of, IsLaneOf}
+use Rattle.txn_state.specs.Ties.{plain_entry, AreCellsOf, under_of, IsLaneOf, HasGiven}
 use Rattle.txn_state.specs.Owing.{needs_at, records_noted}
 use Rattle.txn_state.specs.States.{is_joining, IsStateOf, reserved_for}
 use Rattle.txn_state.specs.Changes.{GoesTo, IsKept, paid_event}
@@ -44,6 +44,7 @@ use Rattle.txn_state.proofs.Likeness.{IsLike, like_lane, IsOneLess, WaitsYet, co
 use Rattle.txn_state.proofs.Rebuilding.{Owes, events_paid, records_owed, numbered_there, rebuilt}
 use Rattle.txn_state.proofs.SameTransaction.{pending_same}
 use Rattle.txn_state.proofs.Going as going
+use Rattle.txn_state.proofs.Given.{block_further}
 
 -- where the next event doesn't store the gate, it isn't stored behind it
 waits_of : (shape : Shape) (s : State) (h : Words) (p n : ℕ) (x : Txn) (u : UnderWay) → (run_of u).made + (n + 2) ≡ length (plan_of shape p (run_of u).part) →
@@ -69,8 +70,6 @@ lane_further E layout blocks log newest u p lane x busy waits is = let t = is.tx
     here = t.here;
     writes = t.writes;
     stored = t.stored;
-    gifts = t.gifts;
-    gives = t.gives;
     zeroed = t.zeroed;
     commits = t.commits;
     updates = subst (λ (y : Txn). AreCellsOf (reverse lane.updates.items) y.updates) (sym (noticed_waits (layout_shape layout) p x u waits)) t.updates;
@@ -81,8 +80,12 @@ lane_further E layout blocks log newest u p lane x busy waits is = let t = is.tx
     entry = t.entry;
   };
   come = come_further log u x (stage_of lane) busy is.come;
-  words = is.words;
-  data_words = is.data_words;
+  given = subst (λ (gs : List Gift). HasGiven layout blocks lane.held lane.gives.items lane.gates.items gs x.words) (sym (ap (λ (y : Txn). y.gifts) (noticed_waits (layout_shape layout) p x u waits))) is.given;
+  counts = is.counts;
+  deleting = λ k call. (block_further layout k u (is.deleting k call).0, (is.deleting k call).1);
+  ends_ungiven = is.ends_ungiven;
+  written_words = is.written_words;
+  taking = is.taking;
   naming = is.naming;
   recorded = is.recorded;
   begun = is.begun;
@@ -104,6 +107,12 @@ like_of E lane later same = record {
   ended = same.ended;
   entry = same.entry;
   committing = same.committing;
+  takes = same.takes;
+  due = same.due;
+  gives_same = same.gives_same;
+  ending = same.ending;
+  gates = same.gates;
+  gates_wait = same.gates_wait;
   promised = same.promised;
 }
 

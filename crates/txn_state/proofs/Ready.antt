@@ -36,7 +36,7 @@ use Rattle.txn_laws.specs.NextRecords.{is_end, ended_by}
 use Rattle.txn_laws.specs.PartsOf.{Fits}
 use Rattle.txn_laws.specs.AreTransactions.{IsGoing}
 use Rattle.txn_state.specs.declared.parts.TheConstants.{FIRST, STORE, END, CLOSE, CLOSE_END}
-use Rattle.txn_state.specs.Stages.{Stage, Free, Between, Leaving, Naming, Storing, Securing, Opening, Undoing, TakingBack, Keeping, Ending, Closing, ClosingEnd, Dropping, Unbuilt, stage_at, stage_of, end_stage, commit_stage, write_stage}
+use Rattle.txn_state.specs.Stages.{Stage, Free, Between, Leaving, Naming, Storing, Deleting, Securing, Opening, Undoing, TakingBack, Keeping, Ending, Closing, ClosingEnd, Dropping, Unbuilt, stage_at, stage_of, end_stage, commit_stage, write_stage}
 use Rattle.txn_state.specs.Seen.{noticed, booked}
 use Rattle.txn_state.specs.Ties.{plain_write, under_of, IsAppending, waits, appends_it, IsCome, IsNaming, IsStoring, IsOpening, IsUndoing, IsTakingBack, IsEndingIt, IsLaneOf, WaitsToAppend}
 use Rattle.txn_state.specs.States.{IsStateOf}
@@ -90,6 +90,7 @@ is_taking_back Ending = false
 is_taking_back Closing = false
 is_taking_back ClosingEnd = false
 is_taking_back Dropping = false
+is_taking_back Deleting = false
 is_taking_back Unbuilt = false
 
 end_takes_none : (part : ℕ) → is_taking_back (end_stage part) ≡ false
@@ -124,7 +125,7 @@ stored_within lane Phase.Calling recorded part Doing.Nothing on about = cc
 stored_within lane phase recorded part (Doing.Begin set) on about = cc
 stored_within lane phase recorded part (Doing.Read a) on about = cc
 stored_within lane phase recorded part (Doing.Write a v) on about = let off = write_takes_none part in let e : true ≡ false = sym on ∙ off in cc
-stored_within lane phase recorded part (Doing.Take s block) on about = cc
+stored_within lane phase recorded part (Doing.Take s block) on about = let off = write_takes_none part in let e : true ≡ false = sym on ∙ off in cc
 stored_within lane phase recorded part (Doing.Give block) on about = cc
 stored_within lane phase true part Doing.Commit on about = let off = commit_takes_none part in let e : true ≡ false = sym on ∙ off in cc
 stored_within lane phase false part Doing.Commit on about = cc
@@ -282,7 +283,7 @@ module _ {E : Type 0} (layout : Layout) (start : Words) (book : Book E) (keeper 
   write_at : (n : ℕ) → n < length (lane_at book l).writes.items → HasWrite layout (lane_at book l) n (get_or (lane_at book l).writes.items n no_write)
   write_at n below = record {
     write = slice_get-get_or lane.writes.items n no_write below;
-    data_word = of.data_words (get_or lane.writes.items n no_write) (among_got lane.writes.items n no_write below);
+    written_word = of.written_words (get_or lane.writes.items n no_write) (among_got lane.writes.items n no_write below);
   }
 
   last_write : (txn_at st.w.lanes l).stored + 1 ≡ length (txn_at st.w.lanes l).writes → (w : WordWrite) × HasWrite layout (lane_at book l) (lane_at book l).stored w

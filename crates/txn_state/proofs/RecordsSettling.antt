@@ -1,5 +1,5 @@
 -- The last event of the append of an update, a rollback record or a compensation: the latch is let go, and the call goes on.
-use Rattle.std.proofs.Common.{◌≡◌, ◌≢◌, inl, inr, ℕ, zero, suc, ◌+◌, ◌-◌, ◌*◌, ◌%◌, ◌<◌, ◌≤◌, Bool, true, false, if◌then◌else◌, List, ◌∷◌, length, map, refl, sym, ap, ◌∙◌, subst, arith}
+use Rattle.std.proofs.Common.{◌≡◌, ◌≢◌, inl, inr, ℕ, zero, suc, ◌+◌, ◌-◌, ◌*◌, ◌%◌, ◌<◌, ◌≤◌, Bool, true, false, if◌then◌else◌, List, ◌∷◌, length, map, refl, sym, ap, ◌∙◌, subst, arith, ◌==◌, [], ◌++◌, Some, None, length-append, reverse}
 use Rattle.std.proofs.lemmas.Bool.Decides.{eqb_tells}
 use Rattle.persist_model.specs.declared.event.Event.{Event}
 use Rattle.persist_model.specs.Region.{Words, Region}
@@ -16,7 +16,7 @@ use Rattle.lane_book.specs.declared.lane.Lane.{Lane}
 use Rattle.lane_book.specs.declared.lane.Doing.TheVariants as Doing
 use Rattle.lane_book.specs.FacesOf.{lane_at}
 use Rattle.lane_book.specs.Books.{IsBook}
-use Rattle.lane_book.specs.Lanes.{moved}
+use Rattle.lane_book.specs.Lanes.{moved, closed}
 use Rattle.log_keeper.specs.declared.keeper.LogKeeper.{LogKeeper}
 use Rattle.log_keeper.specs.Keeper.{free_places}
 use Rattle.log_keeper.specs.Ledger.{newest_log}
@@ -25,32 +25,36 @@ use Rattle.log_keeper.specs.Logged.{latched}
 use Rattle.log_keeper.specs.Parts.{Running}
 use Rattle.history_laws.specs.Histories.{Entry, fold}
 use Rattle.history_laws.specs.UnderWay.{Added, an_update, a_deletion, a_rollback, a_compensation, an_undone_end, a_commit_end, Adding, record_of_adding, UnderWay, nothing, appends}
-use Rattle.txn_laws.specs.Txns.{Txn, txn_at}
+use Rattle.txn_laws.specs.Txns.{Txn, txn_at, Gift}
 use Rattle.txn_laws.specs.NextRecords.{is_end, IsAppendOf}
 use Rattle.txn_laws.specs.Settled.{txn_behind, history_behind}
 use Rattle.txn_laws.specs.Rooms.{sum_below}
 use Rattle.txn_laws.specs.Worlds.{World, IsWorldAt}
 use Rattle.txn_laws.proofs.Asking.{latches_keep}
 use Rattle.txn_state.specs.declared.parts.TheConstants.{STORE, UNDO, KEEP}
-use Rattle.txn_state.specs.Stages.{Stage, Naming, Storing, Opening, Undoing, TakingBack, Keeping, abort_stage, stage_of}
+use Rattle.txn_state.specs.Stages.{Stage, Naming, Storing, Opening, Undoing, TakingBack, Keeping, abort_stage, stage_of, Deleting, Between, is_commit}
 use Rattle.txn_state.specs.Seen.{booked, noticed}
-use Rattle.txn_state.specs.Ties.{plain_entry, IsUpdating, IsRollingBack, IsCompensating, waits, IsNaming, IsOpening, IsUndoing, IsCome, under_of, IsLaneOf}
+use Rattle.txn_state.specs.Ties.{plain_entry, IsUpdating, IsRollingBack, IsCompensating, waits, IsNaming, IsOpening, IsUndoing, IsCome, under_of, IsLaneOf, IsDeleting, IsGiving, HasGiven, due_by, AreCellsOf}
 use Rattle.txn_state.specs.Owing.{append_left, undoing_left, ending_left, append_most, needs_at, records_noted}
-use Rattle.txn_state.specs.Numbers.{unpaid}
-use Rattle.txn_state.specs.States.{IsStateOf, reserved_for}
+use Rattle.txn_state.specs.Numbers.{unpaid, pending}
+use Rattle.txn_state.specs.States.{IsStateOf, reserved_for, is_joining, HasNoEntry, AreEntries}
 use Rattle.txn_state.specs.Changes.{GoesTo, IsKept, paid_event}
-use Rattle.txn_state.specs.AppendLaws.{IsMade, AreLeft, made_in, undo_part, store_word, undo, take_back, RecordsSettle}
+use Rattle.txn_state.specs.AppendLaws.{IsMade, AreLeft, made_in, undo_part, store_word, undo, take_back, RecordsSettle, GivesAreAnswered}
 use Rattle.txn_state.proofs.Making.{test_same, test_other, under_free, held_changed, held_by_none, IsChangedIn}
-use Rattle.txn_state.proofs.Lanes.{reserved_less, its_entry, same_entry, entries_stay, world_book}
+use Rattle.txn_state.proofs.Lanes.{reserved_less, its_entry, same_entry, entries_stay, world_book, HasItsEntry}
 use Rattle.txn_state.proofs.Likeness.{IsOneLess}
 use Rattle.txn_state.proofs.StageSteps.{call_at, aborts_it, stage_of_call}
-use Rattle.txn_state.proofs.Named.{naming_stores, updates_counted, AddsUpdate, adds_update, AddsRollback, adds_rollback, AddsCompensation, adds_compensation}
+use Rattle.txn_state.proofs.Named.{naming_stores, updates_counted, AddsUpdate, adds_update, AddsRollback, adds_rollback, AddsCompensation, adds_compensation, AddsDeletion, adds_deletion}
 use Rattle.txn_state.proofs.PlanLengths.{append_between}
 use Rattle.txn_state.proofs.Rebuilding.{Owes, events_paid, records_owed, unpaid_sum, numbered_there, rebuilt}
 use Rattle.txn_state.proofs.Moving.{HasSameBook, lane_as, behind_booked, next_update, next_undo, linked_rest, length_rest, none_of, appended_of}
 use Rattle.txn_state.proofs.Going as going
 use Rattle.txn_state.proofs.Settling as settling
 use Rattle.txn_state.proofs.Settling.{KeepsTxn, keeps_txn, owes_step}
+use Rattle.txn_state.proofs.Given.{deletes_none}
+use Rattle.txn_state.proofs.HeapSteps.{reserves_less, pending_same as unentered_pending}
+use Rattle.lane_types.specs.declared.call.Reply.TheVariants as Reply
+use Rattle.lane_book.specs.Reserved.{reserved_by, undo_cells}
 
 history_same : (added : Added) (x : Txn) (history : List Entry) → is_end added ≡ false → history_behind added x history ≡ history
 history_same (an_update u) x history off = refl
@@ -80,12 +84,12 @@ taking_events shape a k u o one more = let less : u - 1 ≡ o = omega (arith, mo
 
 -- ---- the lane
 
--- It comes to this stage, with this part of its plan.
-pub record SettlesTo {E : Type 0} (layout : Layout) (blocks : List Standing) (after newest : Log) (p : ℕ) (adding : Adding) (n : ℕ) (x : Txn) (lane : Lane E) (part : ℕ) : Type 0 where
+-- It comes to this stage, as this lane.
+pub record SettlesTo {E : Type 0} (layout : Layout) (blocks : List Standing) (after newest : Log) (p : ℕ) (adding : Adding) (n : ℕ) (x : Txn) (lane lane_to : Lane E) : Type 0 where
   pub stage : Stage
-  pub stage_is : stage_of (moved part (paid_event lane)) ≡ stage
+  pub stage_is : stage_of lane_to ≡ stage
   pub no_end : is_end adding.added ≡ false
-  pub own : IsLaneOf layout blocks after newest nothing p (moved part (paid_event lane)) (txn_behind adding.added (record_of_adding adding) x)
+  pub own : IsLaneOf layout blocks after newest nothing p lane_to (txn_behind adding.added (record_of_adding adding) x)
   pub less : (k c d : ℕ) → IsOneLess (needs_at (layout_shape layout) p k c (appends adding n) x (stage_of lane))
       (needs_at (layout_shape layout) p k d nothing (txn_behind adding.added (record_of_adding adding) x) stage)
 
@@ -101,6 +105,10 @@ same_book E part lane = record {
   rolled = refl;
   ended = refl;
   committing = refl;
+  takes = λ s k call. call;
+  due = refl;
+  ending = refl;
+  gates = refl;
   entry = λ e has. has;
 }
 
@@ -122,7 +130,7 @@ module _ (E : Type 0) (layout : Layout) (blocks : List Standing) (s : State) (h 
   append_one : append_left (layout_shape layout) p (appends adding n) ≡ 1
   append_one = omega (arith, whole)
 
-  settles_update : stage_of lane ≡ Naming → IsUpdating adding.added → SettlesTo layout blocks after newest p adding n x lane STORE
+  settles_update : stage_of lane ≡ Naming → IsUpdating adding.added → SettlesTo layout blocks after newest p adding n x lane (moved STORE (paid_event lane))
   settles_update at kind = record {
     stage = Storing;
     stage_is = stage;
@@ -131,7 +139,7 @@ module _ (E : Type 0) (layout : Layout) (blocks : List Standing) (s : State) (h 
         (lane_as E layout blocks s.log after newest (appends adding n) nothing p x updated lane (moved STORE (paid_event lane)) Storing is
         (record { number = refl; part = refl; words = refl; writes = refl; stored = refl; zeroed = refl; commits = refl; ended = refl; fenced = refl }) refl (λ o. o) (same_book E STORE lane)
         (sym (ap (λ (q : Txn). q.updates) seen)) (sym (ap (λ (q : Txn). q.rolled) seen))
-        ((next_update (layout_shape layout) s h x (record_of_adding adding) adding.added kind fits.next).point_is ∙ is.txn.point, is.txn.linked) refl stage (λ e. cc) (record {
+        ((next_update (layout_shape layout) s h x (record_of_adding adding) adding.added kind fits.next).point_is ∙ is.txn.point, is.txn.linked) refl (sym (ap (λ (q : Txn). q.gifts) seen)) stage (λ e. cc) (λ e. cc) (record {
           rests = refl;
           going = record { some = come.going.some; runs = come.going.runs; unended = λ e. unended k.no_end };
           last_waits = come.last_waits;
@@ -154,7 +162,7 @@ module _ (E : Type 0) (layout : Layout) (blocks : List Standing) (s : State) (h 
       stage : stage_of (moved STORE (paid_event lane)) ≡ Storing
       stage = naming_stores lane.phase lane.has_records lane.part lane.doing at
 
-  settles_rollback : stage_of lane ≡ Opening → IsRollingBack adding.added → SettlesTo layout blocks after newest p adding n x lane (undo_part lane)
+  settles_rollback : stage_of lane ≡ Opening → IsRollingBack adding.added → SettlesTo layout blocks after newest p adding n x lane (moved (undo_part lane) (paid_event lane))
   settles_rollback at kind = elim (eqb_tells (length lane.updates.items) 0) [
     | inl e ↦ keeps (length_none e.1) (call ∙ ap (λ (b : Bool). abort_stage (if b then KEEP else UNDO)) e.0)
     | inr e ↦ undoes (length_some e.1) (call ∙ ap (λ (b : Bool). abort_stage (if b then KEEP else UNDO)) e.0)
@@ -185,12 +193,12 @@ module _ (E : Type 0) (layout : Layout) (blocks : List Standing) (s : State) (h 
       length_some : length lane.updates.items ≢ 0 → length x.updates ≢ 0
       length_some ne e = ne (counted ∙ e)
 
-      own_as : (stage : Stage) → stage_of (moved (undo_part lane) (paid_event lane)) ≡ stage → stage ≢ Naming → IsCome after nothing rolled_on stage →
+      own_as : (stage : Stage) → stage_of (moved (undo_part lane) (paid_event lane)) ≡ stage → stage ≢ Naming → stage ≢ Deleting → IsCome after nothing rolled_on stage →
           IsLaneOf layout blocks after newest nothing p (moved (undo_part lane) (paid_event lane)) (txn_behind adding.added (record_of_adding adding) x)
-      own_as stage at other come = subst (IsLaneOf layout blocks after newest nothing p (moved (undo_part lane) (paid_event lane))) (sym behind)
+      own_as stage at other undeleted come = subst (IsLaneOf layout blocks after newest nothing p (moved (undo_part lane) (paid_event lane))) (sym behind)
           (lane_as E layout blocks s.log after newest (appends adding n) nothing p x rolled_on lane (moved (undo_part lane) (paid_event lane)) stage is
           (record { number = refl; part = refl; words = refl; writes = refl; stored = refl; zeroed = refl; commits = refl; ended = refl; fenced = refl }) refl (λ o. o) (same_book E (undo_part lane) lane)
-          (sym (ap (λ (q : Txn). q.updates) seen)) (sym (ap (λ (q : Txn). q.rolled) seen)) is.txn.linked is.txn.point at other come)
+          (sym (ap (λ (q : Txn). q.updates) seen)) (sym (ap (λ (q : Txn). q.rolled) seen)) is.txn.linked is.txn.point (sym (ap (λ (q : Txn). q.gifts) seen)) at other undeleted come)
 
       less_as : (stage : Stage) (j c d : ℕ) → IsOneLess (needs_at (layout_shape layout) p j c (appends adding n) x Opening) (needs_at (layout_shape layout) p j d nothing rolled_on stage) →
           IsOneLess (needs_at (layout_shape layout) p j c (appends adding n) x (stage_of lane))
@@ -198,12 +206,12 @@ module _ (E : Type 0) (layout : Layout) (blocks : List Standing) (s : State) (h 
       less_as stage j c d less = subst (λ (q : Txn). IsOneLess (needs_at (layout_shape layout) p j c (appends adding n) x (stage_of lane)) (needs_at (layout_shape layout) p j d nothing q stage)) (sym behind)
           (subst (λ st. IsOneLess (needs_at (layout_shape layout) p j c (appends adding n) x st) (needs_at (layout_shape layout) p j d nothing rolled_on stage)) (sym at) less)
 
-      keeps : length x.updates ≡ 0 → stage_of (moved (undo_part lane) (paid_event lane)) ≡ Keeping → SettlesTo layout blocks after newest p adding n x lane (undo_part lane)
+      keeps : length x.updates ≡ 0 → stage_of (moved (undo_part lane) (paid_event lane)) ≡ Keeping → SettlesTo layout blocks after newest p adding n x lane (moved (undo_part lane) (paid_event lane))
       keeps none stage = record {
         stage = Keeping;
         stage_is = stage;
         no_end = k.no_end;
-        own = own_as Keeping stage (λ e. cc) (record {
+        own = own_as Keeping stage (λ e. cc) (λ e. cc) (record {
           rests = refl;
           going = record { some = come.going.some; runs = come.going.runs; unended = λ e. unended k.no_end };
           rolled = refl;
@@ -217,12 +225,12 @@ module _ (E : Type 0) (layout : Layout) (blocks : List Standing) (s : State) (h 
         });
       }
 
-      undoes : length x.updates ≢ 0 → stage_of (moved (undo_part lane) (paid_event lane)) ≡ Undoing → SettlesTo layout blocks after newest p adding n x lane (undo_part lane)
+      undoes : length x.updates ≢ 0 → stage_of (moved (undo_part lane) (paid_event lane)) ≡ Undoing → SettlesTo layout blocks after newest p adding n x lane (moved (undo_part lane) (paid_event lane))
       undoes some stage = record {
         stage = Undoing;
         stage_is = stage;
         no_end = k.no_end;
-        own = own_as Undoing stage (λ e. cc) (record {
+        own = own_as Undoing stage (λ e. cc) (λ e. cc) (record {
           going = record { some = come.going.some; runs = come.going.runs; unended = λ e. unended k.no_end };
           rolled = refl;
           some = omega (arith, some);
@@ -236,7 +244,7 @@ module _ (E : Type 0) (layout : Layout) (blocks : List Standing) (s : State) (h 
         });
       }
 
-  settles_compensation : stage_of lane ≡ Undoing → IsCompensating adding.added → SettlesTo layout blocks after newest p adding n x lane STORE
+  settles_compensation : stage_of lane ≡ Undoing → IsCompensating adding.added → SettlesTo layout blocks after newest p adding n x lane (moved STORE (paid_event lane))
   settles_compensation at kind = record {
     stage = TakingBack;
     stage_is = stage;
@@ -245,7 +253,7 @@ module _ (E : Type 0) (layout : Layout) (blocks : List Standing) (s : State) (h 
         (lane_as E layout blocks s.log after newest (appends adding n) nothing p x compensated lane (moved STORE (paid_event lane)) TakingBack is
         (record { number = refl; part = refl; words = refl; writes = refl; stored = refl; zeroed = refl; commits = refl; ended = refl; fenced = refl }) refl (λ o. o) (same_book E STORE lane)
         (sym (ap (λ (q : Txn). q.updates) seen)) (sym (ap (λ (q : Txn). q.rolled) seen)) (linked_rest x.updates is.txn.linked)
-        (next_undo (layout_shape layout) s h x (record_of_adding adding) adding.added kind fits.next is.txn.linked) stage (λ e. cc) (record {
+        (next_undo (layout_shape layout) s h x (record_of_adding adding) adding.added kind fits.next is.txn.linked) (sym (ap (λ (q : Txn). q.gifts) seen)) stage (λ e. cc) (λ e. cc) (record {
           rests = refl;
           going = record { some = come.going.some; runs = come.going.runs; unended = λ e. unended k.no_end };
           rolled = come.rolled;
@@ -275,23 +283,100 @@ module _ (E : Type 0) (layout : Layout) (blocks : List Standing) (s : State) (h 
       stage = let aborts = aborts_it lane.has_records lane.doing Undoing refl (call_at lane.phase lane.has_records lane.part lane.doing Undoing at refl) in
           stage_of_call lane.phase lane.has_records STORE lane.doing Doing.Abort aborts.0 aborts.1
 
+  -- a deletion; the give is answered
+  abbrev gift_of : Gift
+  gift_of = record { word = (record_of_adding adding).word; gate = (record_of_adding adding).at }
+
+  abbrev given_on : Txn
+  given_on = record x { gifts = x.gifts ++ gift_of ∷ [] }
+
+  settles_deletion : (k : ℕ) → stage_of lane ≡ Deleting → lane.doing ≡ Doing.Give k → lane.entry ≡ None → IsDeleting adding.added → SettlesTo layout blocks after newest p adding n x lane (closed Reply.Given (paid_event lane))
+  settles_deletion k at call no_entry kind = record {
+    stage = Between;
+    stage_is = refl;
+    no_end = kind_is.no_end;
+    own = subst (IsLaneOf layout blocks after newest nothing p (closed Reply.Given (paid_event lane))) (sym behind) (record {
+      txn = record {
+        number = is.txn.number;
+        here = is.txn.here;
+        writes = is.txn.writes;
+        stored = is.txn.stored;
+        zeroed = is.txn.zeroed;
+        commits = is.txn.commits ∙ ap is_commit call;
+        updates = subst (λ (q : Txn). AreCellsOf (reverse lane.updates.items) q.updates) seen is.txn.updates;
+        rolled = sym (ap (λ (q : Txn). q.rolled) seen) ∙ is.txn.rolled;
+        ended = is.txn.ended;
+        linked = is.txn.linked;
+        point = is.txn.point;
+        entry = λ e some. (let off : None ≡ Some e = sym no_entry ∙ some in cc);
+      };
+      come = record {
+        rests = refl;
+        going = record { some = come.going.some; runs = come.going.runs; unended = λ e. unended kind_is.no_end };
+        written = record { stored_all = come.written.stored_all; updates_all = come.written.updates_all; unrolled = come.written.unrolled };
+      };
+      given = subst (λ (q : Txn). HasGiven layout blocks lane.held lane.gives.items lane.gates.items q.gifts x.words) seen is.given;
+      counts = (let was = is.counts in let due = ap due_by call in let long = length-append x.gifts (gift_of ∷ []) in omega (arith, was, due, long));
+      deleting = deletes_none layout nothing (closed Reply.Given (paid_event lane)) refl;
+      ends_ungiven = λ on. absurd (let off : false ≡ true = on in cc);
+      written_words = is.written_words;
+      taking = λ s j other. absurd (let off : Doing.Nothing ≡ Doing.Take s j = other in cc);
+      naming = λ e long. absurd (let off : Between ≡ Naming = e in cc);
+      recorded = is.recorded;
+      begun = is.begun;
+      has_some = is.has_some;
+    });
+    less = λ j c d. subst (λ st. IsOneLess (needs_at (layout_shape layout) p j c (appends adding n) x st) (needs_at (layout_shape layout) p j d nothing (txn_behind adding.added (record_of_adding adding) x) Between))
+        (sym at) (let one = append_one in record { events = omega (arith, one); records = refl; gates = refl });
+  }
+    where
+      kind_is : AddsDeletion adding.added
+      kind_is = adds_deletion adding.added kind
+
+      seen : noticed (layout_shape layout) p (appends adding n) x ≡ given_on
+      seen = noticed_is ∙ kind_is.books (record_of_adding adding) x
+
+      behind : txn_behind adding.added (record_of_adding adding) x ≡ given_on
+      behind = behind_booked adding.added (record_of_adding adding) x kind_is.no_end ∙ kind_is.books (record_of_adding adding) x
+
+      come : IsGiving (appends adding n) x
+      come = subst (IsCome s.log (appends adding n) x) at is.come
+
 -- ---- the law
 
-module _ (E : Type 0) (layout : Layout) (start : Words) (book later : Book E) (keeper kept : LogKeeper) (region behind : Region) (spare left events made l part : ℕ) (e : Event)
+-- What the lane behind the event has of what doesn't hang on its transaction.
+pub record SettledLane {E : Type 0} (book : Book E) (l : ℕ) (lane_to : Lane E) : Type 0 where
+  pub owed : lane_to.owed_events ≡ (lane_at book l).owed_events - 1
+  pub owed_records : lane_to.owed_records ≡ (lane_at book l).owed_records
+  pub reserved : reserved_by lane_to ≤ reserved_by (lane_at book l)
+  pub begun : lane_to.begun ≡ (lane_at book l).begun
+  pub commits : lane_to.commits + pending lane_to ≤ (lane_at book l).commits + pending (lane_at book l)
+  pub entry : HasItsEntry book.history.items l lane_to
+  pub joining : is_joining lane_to ≤ is_joining (lane_at book l)
+
+moved_settled : {E : Type 0} (book : Book E) (l part : ℕ) → AreEntries book → SettledLane book l (moved part (paid_event (lane_at book l)))
+moved_settled book l part entries = record {
+  owed = refl;
+  owed_records = refl;
+  reserved = omega arith;
+  begun = refl;
+  commits = omega arith;
+  entry = same_entry book.history.items l (lane_at book l) (moved part (paid_event (lane_at book l))) refl refl refl refl (its_entry book l entries);
+  joining = omega arith;
+}
+
+module _ (E : Type 0) (layout : Layout) (start : Words) (book later : Book E) (keeper kept : LogKeeper) (region behind : Region) (spare left events made l : ℕ) (e : Event) (lane_to : Lane E)
     (m : IsMade layout keeper region behind l e spare left events made) (are : AreLeft layout keeper (l % layout.partitions) 1)
-    (goes : GoesTo book later l (moved part (paid_event (lane_at book l)))) (is_book : IsBook later)
+    (goes : GoesTo book later l lane_to) (pays : SettledLane book l lane_to) (is_book : IsBook later)
     (keeps : IsKept keeper kept (latched (l % layout.partitions) 17 (made_in layout keeper (l % layout.partitions)))) (st : IsStateOf layout start book keeper region spare events)
     (adding : Adding) (n : ℕ) (is : st.w.under (l % layout.partitions) ≡ appends adding n)
     (to : SettlesTo layout book.blocks (settling.state_there E layout start book keeper region behind spare left events made l e m st are adding n is).log (newest_log st.w.keeping.ledger)
-    (l % layout.partitions) adding n (txn_at st.w.lanes l) (lane_at book l) part) where
+    (l % layout.partitions) adding n (txn_at st.w.lanes l) (lane_at book l) lane_to) where
   abbrev p : ℕ
   p = l % layout.partitions
 
   abbrev x : Txn
   x = txn_at st.w.lanes l
-
-  abbrev here : Lane E
-  here = moved part (paid_event (lane_at book l))
 
   abbrev y : Txn
   y = txn_behind adding.added (record_of_adding adding) (txn_at st.w.lanes l)
@@ -348,10 +433,10 @@ module _ (E : Type 0) (layout : Layout) (start : Words) (book later : Book E) (k
   newest_is : newest_log v.keeping.ledger ≡ newest_log st.w.keeping.ledger
   newest_is = settling.newest_there E layout start book keeper region behind spare left events made l e m st are adding n is
 
-  own : IsLaneOf layout book.blocks state_there.log (newest_log v.keeping.ledger) (under_of (layout_shape layout) v l) p (moved part (paid_event (lane_at book l))) (txn_at v.lanes l)
-  own = subst (λ (z : Txn). IsLaneOf layout book.blocks state_there.log (newest_log v.keeping.ledger) (under_of (layout_shape layout) v l) p (moved part (paid_event (lane_at book l))) z) (sym txn_is)
-      (subst (λ (u : UnderWay). IsLaneOf layout book.blocks state_there.log (newest_log v.keeping.ledger) u p (moved part (paid_event (lane_at book l))) y) (sym under_none)
-      (subst (λ (log : Log). IsLaneOf layout book.blocks state_there.log log nothing p (moved part (paid_event (lane_at book l))) y) (sym newest_is) to.own))
+  own : IsLaneOf layout book.blocks state_there.log (newest_log v.keeping.ledger) (under_of (layout_shape layout) v l) p lane_to (txn_at v.lanes l)
+  own = subst (λ (z : Txn). IsLaneOf layout book.blocks state_there.log (newest_log v.keeping.ledger) (under_of (layout_shape layout) v l) p lane_to z) (sym txn_is)
+      (subst (λ (u : UnderWay). IsLaneOf layout book.blocks state_there.log (newest_log v.keeping.ledger) u p lane_to y) (sym under_none)
+      (subst (λ (log : Log). IsLaneOf layout book.blocks state_there.log log nothing p lane_to y) (sym newest_is) to.own))
 
   abbrev noted : ℕ
   noted = records_noted st.w (txn_at st.w.lanes l).number
@@ -365,13 +450,13 @@ module _ (E : Type 0) (layout : Layout) (start : Words) (book later : Book E) (k
   owed_here : Owes (layout_shape layout) p noted (length (st.chains p)) (appends adding n) (txn_at st.w.lanes l) keeper (lane_at book l)
   owed_here = settling.owed_here E layout start book keeper region behind spare left events made l e m st are adding n is
 
-  owes_there : Owes (layout_shape layout) p (records_noted v (txn_at v.lanes l).number) (length (chains_there p)) (under_of (layout_shape layout) v l) (txn_at v.lanes l) kept (moved part (paid_event (lane_at book l)))
+  owes_there : Owes (layout_shape layout) p (records_noted v (txn_at v.lanes l).number) (length (chains_there p)) (under_of (layout_shape layout) v l) (txn_at v.lanes l) kept lane_to
   owes_there =
-      subst (λ (z : Txn). Owes (layout_shape layout) p (records_noted v z.number) (length (chains_there p)) (under_of (layout_shape layout) v l) z kept (moved part (paid_event (lane_at book l)))) (sym txn_is)
-      (subst (λ (u : UnderWay). Owes (layout_shape layout) p (records_noted v y.number) (length (chains_there p)) u y kept (moved part (paid_event (lane_at book l)))) (sym under_none)
-      (subst (λ (k : ℕ). Owes (layout_shape layout) p k (length (chains_there p)) nothing y kept (moved part (paid_event (lane_at book l)))) (sym noted_is)
+      subst (λ (z : Txn). Owes (layout_shape layout) p (records_noted v z.number) (length (chains_there p)) (under_of (layout_shape layout) v l) z kept lane_to) (sym txn_is)
+      (subst (λ (u : UnderWay). Owes (layout_shape layout) p (records_noted v y.number) (length (chains_there p)) u y kept lane_to) (sym under_none)
+      (subst (λ (k : ℕ). Owes (layout_shape layout) p k (length (chains_there p)) nothing y kept lane_to) (sym noted_is)
       (owes_step E (layout_shape layout) p noted (length (st.chains p)) (appends adding n) (txn_at st.w.lanes l) noted (length (chains_there p)) nothing y to.stage keeper kept (lane_at book l)
-      (moved part (paid_event (lane_at book l))) (going.has_slot E layout start book keeper region behind spare left events made l e m st) keeps.slots to.stage_is refl refl
+      lane_to (going.has_slot E layout start book keeper region behind spare left events made l e m st) keeps.slots to.stage_is pays.owed pays.owed_records
       (to.less noted (length (st.chains p)) (length (chains_there p))) owed_here)))
 
   one_owed : 1 ≤ (lane_at book l).owed_events
@@ -390,10 +475,10 @@ module _ (E : Type 0) (layout : Layout) (start : Words) (book later : Book E) (k
       omega (arith, old, sum, before, after, long, whole, count)
 
   pub state_settled : IsStateOf layout start later kept behind left made
-  state_settled = rebuilt E layout start book later keeper kept region behind spare left events made l (txn_at st.w.lanes l).number (moved part (paid_event (lane_at book l))) base_there state_there chains_there v st (record {
+  state_settled = rebuilt E layout start book later keeper kept region behind spare left events made l (txn_at st.w.lanes l).number lane_to base_there state_there chains_there v st (record {
     world = world;
     roomy = settling.roomy_there E layout start book keeper region behind spare left events made l e m st are adding n is (reserved_for layout later)
-        (λ q. reserved_less layout book later l (moved part (paid_event (lane_at book l))) goes.lanes (omega arith) q);
+        (λ q. reserved_less layout book later l lane_to goes.lanes pays.reserved q);
     beside = settling.beside E layout start book keeper region behind spare left events made l e m st are adding n is v refl elsewhere (λ q ne. refl) (λ q ne. refl) (λ k ne lt. nobody k lt) refl;
     apart = going.apart E layout start book keeper region behind spare left events made l e m st;
     lanes = goes.lanes;
@@ -408,13 +493,13 @@ module _ (E : Type 0) (layout : Layout) (start : Words) (book later : Book E) (k
         (subst (λ (k : ℕ). (txn_at st.w.lanes l).number < k) (sym goes.next) (st.tied.fresh l));
     no_less = (let same = goes.next in omega (arith, same));
     owes = owes_there;
-    stores = events_paid E book later l spare left (moved part (paid_event (lane_at book l))) goes.lanes (let one = one_owed in omega (arith, one)) m.places st.owing.stores;
-    places = records_owed E book later l (free_places keeper) (free_places kept) (moved part (paid_event (lane_at book l))) goes.lanes refl keeps.places st.owing.places;
-    numbered = numbered_there E layout.partitions book later st.w v events made l (moved part (paid_event (lane_at book l))) goes.lanes goes.next refl (omega arith) numbers st.numbered;
+    stores = events_paid E book later l spare left lane_to goes.lanes (let one = one_owed in let owed = pays.owed in omega (arith, one, owed)) m.places st.owing.stores;
+    places = records_owed E book later l (free_places keeper) (free_places kept) lane_to goes.lanes pays.owed_records keeps.places st.owing.places;
+    numbered = numbered_there E layout.partitions book later st.w v events made l lane_to goes.lanes goes.next pays.begun pays.commits numbers st.numbered;
     opens = subst (λ (k : ℕ). 1 ≤ k) (sym keeps.number) st.opens;
-    is_book = world_book layout book later l (moved part (paid_event (lane_at book l))) goes.lanes is_book
-        (entries_stay book later l (moved part (paid_event (lane_at book l))) goes
-        (same_entry book.history.items l (lane_at book l) (moved part (paid_event (lane_at book l))) refl refl refl refl (its_entry book l st.is_book.entries)) (omega arith) st.is_book.entries)
+    is_book = world_book layout book later l lane_to goes.lanes is_book
+        (entries_stay book later l lane_to goes
+        pays.entry pays.joining st.is_book.entries)
         st.is_book;
   })
 
@@ -422,7 +507,7 @@ pub records_settle : (E : Type 0) → RecordsSettle E
 records_settle E layout start book later keeper kept region behind spare left events made l _ e m are (store_word at) goes is_book keeps st =
     let found = appended_of IsUpdating (st.w.under (l % layout.partitions)) (going.busy E layout start book keeper region behind spare left events made l e m st)
     (named at (going.was_here E layout start book keeper region behind spare left events made l e m st).come).under_way in
-    state_settled E layout start book later keeper kept region behind spare left events made l STORE e m are goes is_book keeps st found.0 found.1 found.2
+    state_settled E layout start book later keeper kept region behind spare left events made l e (moved STORE (paid_event (lane_at book l))) m are goes (moved_settled book l STORE st.is_book.entries) is_book keeps st found.0 found.1 found.2
     (settles_update E layout book.blocks st.s (fold start st.w.history) (settling.state_there E layout start book keeper region behind spare left events made l e m st are found.0 found.1 found.2).log
     (newest_log st.w.keeping.ledger) (l % layout.partitions) found.0 found.1 (txn_at st.w.lanes l) (lane_at book l)
     (settling.noticed_here E layout start book keeper region behind spare left events made l e m st are found.0 found.1 found.2)
@@ -435,7 +520,7 @@ records_settle E layout start book later keeper kept region behind spare left ev
 records_settle E layout start book later keeper kept region behind spare left events made l _ e m are (undo at) goes is_book keeps st =
     let found = appended_of IsRollingBack (st.w.under (l % layout.partitions)) (going.busy E layout start book keeper region behind spare left events made l e m st)
     (opened at (going.was_here E layout start book keeper region behind spare left events made l e m st).come).under_way in
-    state_settled E layout start book later keeper kept region behind spare left events made l (undo_part (lane_at book l)) e m are goes is_book keeps st found.0 found.1 found.2
+    state_settled E layout start book later keeper kept region behind spare left events made l e (moved (undo_part (lane_at book l)) (paid_event (lane_at book l))) m are goes (moved_settled book l (undo_part (lane_at book l)) st.is_book.entries) is_book keeps st found.0 found.1 found.2
     (settles_rollback E layout book.blocks st.s (fold start st.w.history) (settling.state_there E layout start book keeper region behind spare left events made l e m st are found.0 found.1 found.2).log
     (newest_log st.w.keeping.ledger) (l % layout.partitions) found.0 found.1 (txn_at st.w.lanes l) (lane_at book l)
     (settling.noticed_here E layout start book keeper region behind spare left events made l e m st are found.0 found.1 found.2)
@@ -448,7 +533,7 @@ records_settle E layout start book later keeper kept region behind spare left ev
 records_settle E layout start book later keeper kept region behind spare left events made l _ e m are (take_back at) goes is_book keeps st =
     let found = appended_of IsCompensating (st.w.under (l % layout.partitions)) (going.busy E layout start book keeper region behind spare left events made l e m st)
     (undone at (going.was_here E layout start book keeper region behind spare left events made l e m st).come).under_way in
-    state_settled E layout start book later keeper kept region behind spare left events made l STORE e m are goes is_book keeps st found.0 found.1 found.2
+    state_settled E layout start book later keeper kept region behind spare left events made l e (moved STORE (paid_event (lane_at book l))) m are goes (moved_settled book l STORE st.is_book.entries) is_book keeps st found.0 found.1 found.2
     (settles_compensation E layout book.blocks st.s (fold start st.w.history) (settling.state_there E layout start book keeper region behind spare left events made l e m st are found.0 found.1 found.2).log
     (newest_log st.w.keeping.ledger) (l % layout.partitions) found.0 found.1 (txn_at st.w.lanes l) (lane_at book l)
     (settling.noticed_here E layout start book keeper region behind spare left events made l e m st are found.0 found.1 found.2)
@@ -458,3 +543,40 @@ records_settle E layout start book later keeper kept region behind spare left ev
   where
     undone : stage_of (lane_at book l) ≡ Undoing → IsCome st.s.log (st.w.under (l % layout.partitions)) (txn_at st.w.lanes l) (stage_of (lane_at book l)) → IsUndoing (st.w.under (l % layout.partitions)) (txn_at st.w.lanes l)
     undone at come = subst (IsCome st.s.log (st.w.under (l % layout.partitions)) (txn_at st.w.lanes l)) at come
+
+-- ---- a give is answered
+
+answered_settled : {E : Type 0} (book : Book E) (l k : ℕ) → (lane_at book l).doing ≡ Doing.Give k → AreEntries book → SettledLane book l (closed Reply.Given (paid_event (lane_at book l)))
+answered_settled book l k call entries = record {
+  owed = refl;
+  owed_records = refl;
+  reserved = reserves_less (lane_at book l).has_records (lane_at book l).ended (lane_at book l).promised (undo_cells (lane_at book l));
+  begun = refl;
+  commits = unentered_pending (lane_at book l).entered (lane_at book l).commits (if (lane_at book l).transaction == 0 then 0 else 1) none.unentered;
+  entry = record {
+    others = λ off. record { unentered = refl; none = none.none };
+    waits = λ on new. absurd (let off : false ≡ true = on in cc);
+    joined = λ on is. absurd (let off : false ≡ true = on in cc);
+  };
+  joining = omega arith;
+}
+  where
+    none : HasNoEntry (lane_at book l)
+    none = entries.others l (ap is_commit call)
+
+pub gives_are_answered : (E : Type 0) → GivesAreAnswered E
+gives_are_answered E layout start book later keeper kept region behind spare left events made l k e m are at call goes is_book keeps st =
+    let found = appended_of IsDeleting (st.w.under (l % layout.partitions)) (going.busy E layout start book keeper region behind spare left events made l e m st)
+    (giving at (going.was_here E layout start book keeper region behind spare left events made l e m st).come).under_way in
+    state_settled E layout start book later keeper kept region behind spare left events made l e (closed Reply.Given (paid_event (lane_at book l))) m are goes
+    (answered_settled book l k call st.is_book.entries) is_book keeps st found.0 found.1 found.2
+    (settles_deletion E layout book.blocks st.s (fold start st.w.history) (settling.state_there E layout start book keeper region behind spare left events made l e m st are found.0 found.1 found.2).log
+    (newest_log st.w.keeping.ledger) (l % layout.partitions) found.0 found.1 (txn_at st.w.lanes l) (lane_at book l)
+    (settling.noticed_here E layout start book keeper region behind spare left events made l e m st are found.0 found.1 found.2)
+    (settling.fits E layout start book keeper region behind spare left events made l e m st are found.0 found.1 found.2)
+    (settling.whole E layout start book keeper region behind spare left events made l e m st are found.0 found.1 found.2)
+    (settling.was_here E layout start book keeper region behind spare left events made l e m st are found.0 found.1 found.2) k at call
+    (st.is_book.entries.others l (ap is_commit call)).none found.3)
+  where
+    giving : stage_of (lane_at book l) ≡ Deleting → IsCome st.s.log (st.w.under (l % layout.partitions)) (txn_at st.w.lanes l) (stage_of (lane_at book l)) → IsGiving (st.w.under (l % layout.partitions)) (txn_at st.w.lanes l)
+    giving at come = subst (IsCome st.s.log (st.w.under (l % layout.partitions)) (txn_at st.w.lanes l)) at come

@@ -20,14 +20,16 @@ use Rattle.log_keeper.proofs.Rooms.{room_is_one}
 use Rattle.history_laws.specs.UnderWay.{UnderWay, nothing}
 use Rattle.txn_laws.specs.Txns.{Txn, txn_at}
 use Rattle.txn_state.specs.declared.parts.TheConstants.{STORE}
-use Rattle.txn_state.specs.Stages.{Stage, Free, Between, Leaving, Naming, Storing, Securing, Opening, Undoing, TakingBack, Keeping, Ending, Closing, ClosingEnd, Dropping, Unbuilt, stage_at, stage_of}
+use Rattle.txn_state.specs.Stages.{Stage, Free, Between, Leaving, Naming, Storing, Deleting, Securing, Opening, Undoing, TakingBack, Keeping, Ending, Closing, ClosingEnd, Dropping, Unbuilt, stage_at, stage_of}
 use Rattle.txn_state.specs.Seen.{noticed}
-use Rattle.txn_state.specs.Ties.{under_of, AreCellsOf, IsTxnOf, IsCome, WaitsToAppend}
+use Rattle.txn_state.specs.Ties.{under_of, AreCellsOf, IsTxnOf, IsCome, WaitsToAppend, IsLaneOf}
 use Rattle.txn_state.specs.States.{IsStateOf}
 use Rattle.txn_state.specs.AppendLaws.{newest_image}
 use Rattle.txn_state.specs.ReadLaws.{appends_in, room_seen, ViewsAreRead}
 use Rattle.txn_state.proofs.Holding.{lane_is, inside, nothing_here}
 use Rattle.txn_state.proofs.Viewing.{place_seen, removal_seen, room_is}
+use Rattle.txn_state.proofs.Given.{give_waits}
+use Rattle.log_keeper.specs.Ledger.{newest_log}
 
 -- ---- the stages behind a transaction's first record
 
@@ -46,6 +48,7 @@ needs_record Ending = true
 needs_record Closing = true
 needs_record ClosingEnd = true
 needs_record Dropping = true
+needs_record Deleting = false
 needs_record Unbuilt = false
 
 -- in such a stage the lane has one
@@ -60,7 +63,11 @@ recorded_at phase recorded part (Doing.Write a v) on = by (part == STORE) on
     by : (t : Bool) → needs_record (if t then Storing else Naming) ≡ true → recorded ≡ true
     by true on = cc
     by false on = cc
-recorded_at phase recorded part (Doing.Take s block) on = cc
+recorded_at phase recorded part (Doing.Take s block) on = by (part == STORE) on
+  where
+    by : (t : Bool) → needs_record (if t then Storing else Naming) ≡ true → recorded ≡ true
+    by true on = cc
+    by false on = cc
 recorded_at phase recorded part (Doing.Give block) on = cc
 recorded_at phase true part Doing.Commit on = refl
 recorded_at phase false part Doing.Commit on = cc
@@ -92,26 +99,28 @@ bound_reserves lane recorded going = by (is_bound lane) (λ i. (recorded i || no
 
 -- so a lane that waits has one reserved
 pub wait_reserves : {E : Type 0} (layout : Layout) (lane : Lane E) (log : Log) (p : ℕ) (u : UnderWay) (x : Txn) (stage : Stage) → stage ≡ stage_of lane → u ≡ nothing → appends_in stage ≡ true →
-    IsCome log u x stage → (stage_of lane ≡ Naming → length lane.updates.items ≡ lane.stored → WaitsToAppend lane) → IsTxnOf (layout_shape layout) p lane nothing x → 1 ≤ reserved_by lane
-wait_reserves layout lane log p u x Free at none on come naming txn = cc
-wait_reserves layout lane log p u x Between at none on come naming txn = cc
-wait_reserves layout lane log p u x Leaving at none on come naming txn = cc
-wait_reserves layout lane log p u x Naming at none on come naming txn =
+    IsCome log u x stage → (stage_of lane ≡ Naming → length lane.updates.items ≡ lane.stored → WaitsToAppend lane) → (stage_of lane ≡ Deleting → 1 ≤ lane.promised) →
+    IsTxnOf (layout_shape layout) p lane nothing x → 1 ≤ reserved_by lane
+wait_reserves layout lane log p u x Free at none on come naming deleting txn = cc
+wait_reserves layout lane log p u x Between at none on come naming deleting txn = cc
+wait_reserves layout lane log p u x Leaving at none on come naming deleting txn = cc
+wait_reserves layout lane log p u x Naming at none on come naming deleting txn =
     let promised = (naming (sym at) (updates_counted (layout_shape layout) p lane nothing x txn ∙ come.updates_are ∙ txn.stored)).promised in omega (arith, promised)
-wait_reserves layout lane log p u x Storing at none on come naming txn = cc
-wait_reserves layout lane log p u x Securing at none on come naming txn = cc
-wait_reserves layout lane log p u x Opening at none on come naming txn =
+wait_reserves layout lane log p u x Storing at none on come naming deleting txn = cc
+wait_reserves layout lane log p u x Securing at none on come naming deleting txn = cc
+wait_reserves layout lane log p u x Opening at none on come naming deleting txn =
     bound_reserves lane (recorded_at lane.phase lane.has_records lane.part lane.doing (sym (ap needs_record at))) (sym txn.ended ∙ come.going.unended none)
-wait_reserves layout lane log p u x Undoing at none on come naming txn =
+wait_reserves layout lane log p u x Undoing at none on come naming deleting txn =
     bound_reserves lane (recorded_at lane.phase lane.has_records lane.part lane.doing (sym (ap needs_record at))) (sym txn.ended ∙ come.going.unended none)
-wait_reserves layout lane log p u x TakingBack at none on come naming txn = cc
-wait_reserves layout lane log p u x Keeping at none on come naming txn = cc
-wait_reserves layout lane log p u x Ending at none on come naming txn =
+wait_reserves layout lane log p u x TakingBack at none on come naming deleting txn = cc
+wait_reserves layout lane log p u x Keeping at none on come naming deleting txn = cc
+wait_reserves layout lane log p u x Ending at none on come naming deleting txn =
     bound_reserves lane (recorded_at lane.phase lane.has_records lane.part lane.doing (sym (ap needs_record at))) (sym txn.ended ∙ come.going.unended none)
-wait_reserves layout lane log p u x Closing at none on come naming txn = cc
-wait_reserves layout lane log p u x ClosingEnd at none on come naming txn = cc
-wait_reserves layout lane log p u x Dropping at none on come naming txn = cc
-wait_reserves layout lane log p u x Unbuilt at none on come naming txn = cc
+wait_reserves layout lane log p u x Closing at none on come naming deleting txn = cc
+wait_reserves layout lane log p u x ClosingEnd at none on come naming deleting txn = cc
+wait_reserves layout lane log p u x Dropping at none on come naming deleting txn = cc
+wait_reserves layout lane log p u x Deleting at none on come naming deleting txn = let promised = (deleting (sym at)) in omega (arith, promised)
+wait_reserves layout lane log p u x Unbuilt at none on come naming deleting txn = cc
 
 -- the share of a lane is no more than all
 share_here : {E : Type 0} (partitions l : ℕ) (lane : Lane E) → share_of partitions (l % partitions) l lane ≡ reserved_by lane
@@ -138,6 +147,8 @@ module _ {E : Type 0} (layout : Layout) (start : Words) (book : Book E) (keeper 
       let lane = lane_is layout start book keeper region spare events st l lt in
       let in_parts = inside layout start book keeper region spare events st l lt in
       let one = wait_reserves layout (lane_at book l) st.s.log p (under_of shape st.w l) (txn_at st.w.lanes l) (stage_of (lane_at book l)) refl under on lane.come lane.naming
+      (λ at. (give_waits layout book.blocks st.s.log (newest_log st.w.keeping.ledger) p (lane_at book l) (txn_at st.w.lanes l)
+      (subst (λ u. IsLaneOf layout book.blocks st.s.log (newest_log st.w.keeping.ledger) u p (lane_at book l) (txn_at st.w.lanes l)) under lane) at).0)
       (subst (λ u. IsTxnOf shape p (lane_at book l) u (txn_at st.w.lanes l)) under lane.txn) in
       let share = share_here layout.partitions l (lane_at book l) in
       let within = share_within book layout.partitions p l (length book.lanes.items) lt in

@@ -11,6 +11,7 @@ use Rattle.lane_types.specs.Heaps.{names_in}
 use Rattle.offset_alloc.specs.declared.Standing.{Standing}
 use Rattle.lane_book.specs.declared.book.Book.{Book}
 use Rattle.lane_book.specs.declared.lane.Lane.{Lane}
+use Rattle.lane_book.specs.declared.lane.Doing.{Doing}
 use Rattle.lane_book.specs.FacesOf.{lane_at}
 use Rattle.lane_book.specs.Lanes.{has_room}
 use Rattle.lane_book.specs.Refusals.{owner_number, block_in}
@@ -25,13 +26,14 @@ use Rattle.txn_laws.specs.Worlds.{World, with_lane}
 use Rattle.txn_laws.proofs.Lanes.{with_here}
 use Rattle.txn_state.specs.Stages.{Stage, stage_of}
 use Rattle.txn_state.specs.Seen.{noticed}
-use Rattle.txn_state.specs.Ties.{plain_write, plain_entry, AreCellsOf, is_lanes, IsTxnOf, IsCome, IsLaneOf, under_of}
+use Rattle.txn_state.specs.Ties.{plain_write, plain_entry, AreCellsOf, is_lanes, IsTxnOf, TakesNext, IsCome, IsLaneOf, under_of}
 use Rattle.txn_state.specs.Owing.{Needs, needs_at, records_noted, OwesEnough}
 use Rattle.txn_state.specs.Numbers.{pending}
 use Rattle.txn_state.specs.States.{IsStateOf, AreEntries, reserved_for}
 use Rattle.txn_state.specs.QuietLaws.{HasSameTransaction, NotesKeep, MemoryIsTaken, PlacesAreTaken}
 use Rattle.txn_state.proofs.Lanes.{lane_sum_same, reserved_less, reserved_by_same, roomy_less, its_entry, entries_stay, same_entry, joining_same}
 use Rattle.txn_state.proofs.Steps.{numbers_stay, goes_on, beside_same, apart_own}
+use Rattle.txn_state.proofs.Given.{given_same, deletes_same}
 
 -- ---- what a lane's facts hang on
 
@@ -45,6 +47,11 @@ is_lanes_same layout blocks lane later a held gives =
 pub pending_same : {E : Type 0} (lane later : Lane E) → later.entered ≡ lane.entered → later.transaction ≡ lane.transaction → pending later ≡ pending lane
 pending_same lane later entered transaction = λ i. if entered i then 0 else (if transaction i == 0 then 0 else 1)
 
+-- what its take is to store
+pub takes_same : {E : Type 0} (layout : Layout) (lane later : Lane E) → later.writes.items ≡ lane.writes.items → later.stored ≡ lane.stored →
+    ((s k : ℕ) → later.doing ≡ Doing.Take s k → lane.doing ≡ Doing.Take s k) → TakesNext layout lane → TakesNext layout later
+takes_same layout lane later writes stored takes next s k call = (λ i. slice_get (writes i) (stored i)) ∙ next s k (takes s k call)
+
 -- the same transaction, with what is under way as it was
 pub txn_same : {E : Type 0} (shape : Shape) (p : ℕ) (lane later : Lane E) (u : UnderWay) (x : Txn) → HasSameTransaction lane later → IsTxnOf shape p lane u x → IsTxnOf shape p later u x
 txn_same shape p lane later u x same txn = record {
@@ -52,8 +59,6 @@ txn_same shape p lane later u x same txn = record {
   here = txn.here;
   writes = txn.writes ∙ ap (map plain_write) (sym same.writes);
   stored = txn.stored ∙ sym same.stored;
-  gifts = txn.gifts;
-  gives = same.gives ∙ txn.gives;
   zeroed = txn.zeroed;
   commits = txn.commits ∙ sym same.committing;
   updates = subst (λ cells. AreCellsOf (reverse cells) (noticed shape p u x).updates) (sym same.updates) txn.updates;
@@ -69,8 +74,13 @@ pub lane_same : {E : Type 0} (layout : Layout) (blocks : List Standing) (log new
 lane_same layout blocks log newest u p lane later x same of = record {
   txn = txn_same (layout_shape layout) p lane later u x same of.txn;
   come = subst (IsCome log u x) (sym same.stage) of.come;
-  words = λ a. of.words a ∙ sym (is_lanes_same layout blocks lane later a same.held same.gives);
-  data_words = λ w m. of.data_words w (subst (λ ws. IsAmong ws w) same.writes m);
+  given = given_same layout blocks lane.held later.held lane.gives.items later.gives.items lane.gates.items later.gates.items (noticed (layout_shape layout) p u x).gifts
+      (noticed (layout_shape layout) p u x).gifts x.words x.words same.held same.gives same.gates refl refl of.given;
+  counts = ap length same.gives ∙ (of.counts ∙ ap (λ n. length x.gifts + n) (sym same.due));
+  deleting = deletes_same layout u lane later same.gives_same same.gates same.gives same.promised same.gates_wait of.deleting;
+  ends_ungiven = λ on. same.gives ∙ of.ends_ungiven (sym same.ending ∙ on);
+  written_words = λ w m. of.written_words w (subst (λ ws. IsAmong ws w) same.writes m);
+  taking = takes_same layout lane later same.writes same.stored same.takes of.taking;
   naming = λ is at. (let was = of.naming (sym same.stage ∙ is) (ap length (sym same.updates) ∙ (at ∙ same.stored)) in record {
     promised = subst (λ n. 2 ≤ n) (sym same.promised) was.promised;
     place = subst (has_room 1) (sym (same.waits (sym same.stage ∙ is))) was.place;
@@ -89,8 +99,6 @@ owing_else layout blocks log newest u p lane x m n of = record {
     here = of.txn.here;
     writes = of.txn.writes;
     stored = of.txn.stored;
-    gifts = of.txn.gifts;
-    gives = of.txn.gives;
     zeroed = of.txn.zeroed;
     commits = of.txn.commits;
     updates = of.txn.updates;
@@ -101,8 +109,12 @@ owing_else layout blocks log newest u p lane x m n of = record {
     entry = of.txn.entry;
   };
   come = of.come;
-  words = of.words;
-  data_words = of.data_words;
+  given = of.given;
+  counts = of.counts;
+  deleting = of.deleting;
+  ends_ungiven = of.ends_ungiven;
+  written_words = of.written_words;
+  taking = of.taking;
   naming = λ is at. record { promised = (of.naming is at).promised; place = (of.naming is at).place };
   recorded = of.recorded;
   begun = of.begun;

@@ -1,9 +1,11 @@
 -- The stages of the calls, and from which one a call comes to the next.
-use Rattle.std.proofs.Common.{◌≡◌, ℕ, ◌==◌, Bool, true, false, if◌then◌else◌, refl, sym, ap, ◌∙◌, subst}
+use Rattle.std.proofs.Common.{◌≡◌, ◌≢◌, ℕ, ◌==◌, Bool, true, false, if◌then◌else◌, refl, sym, ap, ◌∙◌, subst}
 use Rattle.lane_types.specs.declared.call.Phase.{Phase}
 use Rattle.lane_book.specs.declared.lane.Doing.{Doing}
 use Rattle.txn_state.specs.declared.parts.TheConstants.{FIRST, STORE, UNDO, KEEP, END, CLOSE, CLOSE_END}
-use Rattle.txn_state.specs.Stages.{Stage, Naming, Storing, Securing, Opening, Undoing, TakingBack, Keeping, Ending, Closing, ClosingEnd, Dropping, idle_stage, write_stage, commit_stage, abort_stage, end_stage, stage_at, is_commit}
+use Rattle.lane_book.specs.Books.{ends}
+use Rattle.txn_state.specs.Ties.{due_by}
+use Rattle.txn_state.specs.Stages.{Stage, Leaving, Naming, Storing, Deleting, Securing, Opening, Undoing, TakingBack, Keeping, Ending, Closing, ClosingEnd, Dropping, idle_stage, write_stage, commit_stage, abort_stage, end_stage, stage_at, is_commit}
 
 -- ---- the stages of a plan
 
@@ -92,7 +94,7 @@ ends_call phase rec part Doing.Nothing e = strange (end_has (idle_stage phase)) 
 ends_call phase rec part (Doing.Begin set) e = strange false refl e
 ends_call phase rec part (Doing.Read a) e = strange false refl e
 ends_call phase rec part (Doing.Write a v) e = strange (end_has (write_stage part)) (write_cases (λ st. end_has st ≡ false) part refl refl) e
-ends_call phase rec part (Doing.Take s block) e = strange false refl e
+ends_call phase rec part (Doing.Take s block) e = strange (end_has (write_stage part)) (write_cases (λ st. end_has st ≡ false) part refl refl) e
 ends_call phase rec part (Doing.Give block) e = strange false refl e
 ends_call phase true part Doing.Commit e = commit refl refl (commit_cases (λ st. commit_has st ≡ true) part refl refl refl refl refl)
 ends_call phase false part Doing.Commit e = strange false refl e
@@ -140,3 +142,71 @@ storing_no_commit phase rec part Doing.Checkpoint e = refl
 storing_no_commit phase rec part (Doing.Batch n) e = refl
 storing_no_commit phase rec part Doing.Savepoint e = refl
 storing_no_commit phase rec part (Doing.RollbackTo n) e = refl
+
+-- ---- a take
+
+-- the lane's call is no take at another stage than those of a write
+pub no_take : (phase : Phase) (rec : Bool) (part : ℕ) (doing : Doing) (stage : Stage) (s k : ℕ) → doing ≡ Doing.Take s k → stage_at phase rec part doing ≡ stage → stage ≢ Naming → stage ≢ Storing → ⊥
+no_take phase rec part doing stage s k call is no_naming no_storing =
+    write_cases (λ st. st ≡ stage → ⊥) part (λ e. no_naming (sym e)) (λ e. no_storing (sym e)) (sym (ap (stage_at phase rec part) call) ∙ is)
+
+-- ---- a give
+
+-- the lane's call is no give at another stage
+pub due_none : (phase : Phase) (rec : Bool) (part : ℕ) (doing : Doing) (stage : Stage) → stage_at phase rec part doing ≡ stage → stage ≢ Deleting → due_by doing ≡ 0
+due_none phase rec part Doing.Nothing stage is other = refl
+due_none phase rec part (Doing.Begin set) stage is other = refl
+due_none phase rec part (Doing.Read a) stage is other = refl
+due_none phase rec part (Doing.Write a v) stage is other = refl
+due_none phase rec part (Doing.Take s k) stage is other = refl
+due_none phase rec part (Doing.Give k) stage is other = absurd (other (sym is))
+due_none phase rec part Doing.Commit stage is other = refl
+due_none phase rec part Doing.Abort stage is other = refl
+due_none phase rec part Doing.Checkpoint stage is other = refl
+due_none phase rec part (Doing.Batch n) stage is other = refl
+due_none phase rec part Doing.Savepoint stage is other = refl
+due_none phase rec part (Doing.RollbackTo n) stage is other = refl
+
+-- ---- the calls that end a transaction
+
+-- they are asked at these stages alone
+abbrev pub ends_at : Stage → Bool
+ends_at Leaving = true
+ends_at Securing = true
+ends_at Opening = true
+ends_at TakingBack = true
+ends_at Undoing = true
+ends_at Keeping = true
+ends_at Ending = true
+ends_at Closing = true
+ends_at ClosingEnd = true
+ends_at Dropping = true
+ends_at _ = false
+
+idle_goes : (phase : Phase) → ends_at (idle_stage phase) ≡ false
+idle_goes Phase.Out = refl
+idle_goes Phase.In = refl
+idle_goes Phase.Calling = refl
+
+pub ends_told : (phase : Phase) (rec : Bool) (part : ℕ) (doing : Doing) → ends doing ≡ ends_at (stage_at phase rec part doing)
+ends_told phase rec part Doing.Nothing = sym (idle_goes phase)
+ends_told phase rec part (Doing.Begin set) = refl
+ends_told phase rec part (Doing.Read a) = refl
+ends_told phase rec part (Doing.Write a v) = write_cases (λ st. false ≡ ends_at st) part refl refl
+ends_told phase rec part (Doing.Take s k) = write_cases (λ st. false ≡ ends_at st) part refl refl
+ends_told phase rec part (Doing.Give k) = refl
+ends_told phase true part Doing.Commit = commit_cases (λ st. true ≡ ends_at st) part refl refl refl refl refl
+ends_told phase false part Doing.Commit = refl
+ends_told phase true part Doing.Abort = abort_cases (λ st. true ≡ ends_at st) part refl refl refl refl refl refl refl refl
+ends_told phase false part Doing.Abort = refl
+ends_told phase rec part Doing.Checkpoint = refl
+ends_told phase rec part (Doing.Batch n) = refl
+ends_told phase rec part Doing.Savepoint = refl
+ends_told phase rec part (Doing.RollbackTo n) = refl
+
+-- at a stage
+pub ends_by : (phase : Phase) (rec : Bool) (part : ℕ) (doing : Doing) (stage : Stage) → stage_at phase rec part doing ≡ stage → ends doing ≡ ends_at stage
+ends_by phase rec part doing stage is = ends_told phase rec part doing ∙ ap ends_at is
+
+pub no_give : (phase : Phase) (rec : Bool) (part : ℕ) (doing : Doing) (stage : Stage) (k : ℕ) → doing ≡ Doing.Give k → stage_at phase rec part doing ≡ stage → stage ≢ Deleting → ⊥
+no_give phase rec part doing stage k call is other = other (sym is ∙ ap (stage_at phase rec part) call)

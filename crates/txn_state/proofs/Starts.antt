@@ -44,6 +44,7 @@ idle_free = record {
   updates = refl;
   stored = refl;
   gives = refl;
+  gates = refl;
   records = refl;
   rolled = refl;
   ended = refl;

@@ -18,7 +18,7 @@ use Rattle.log_keeper.specs.Ledger.{newest_log}
 use Rattle.history_laws.specs.UnderWay.{UnderWay, nothing, closes, drops}
 use Rattle.txn_laws.specs.Txns.{Txn, idle, txn_at}
 use Rattle.txn_laws.specs.Worlds.{World}
-use Rattle.txn_state.specs.Stages.{Stage, Free, Between, Leaving, Naming, Storing, Securing, Opening, Undoing, TakingBack, Keeping, Ending, Closing, ClosingEnd, Dropping, Unbuilt, stage_of}
+use Rattle.txn_state.specs.Stages.{Stage, Free, Between, Leaving, Naming, Storing, Deleting, Securing, Opening, Undoing, TakingBack, Keeping, Ending, Closing, ClosingEnd, Dropping, Unbuilt, stage_of}
 use Rattle.txn_state.specs.Ties.{under_of, IsCome, IsLaneOf}
 use Rattle.txn_state.specs.Owing.{Needs, needs_at, needs_of, records_noted, OwesEnough}
 use Rattle.txn_state.specs.Changes.{HasLane}
@@ -46,6 +46,7 @@ numbered_or_free log u x Ending come = inl come.going.some
 numbered_or_free log u x Closing come = inl come.over.some
 numbered_or_free log u x ClosingEnd come = inl come.over.some
 numbered_or_free log u x Dropping come = inl come.over.some
+numbered_or_free log u x Deleting come = inl come.going.some
 numbered_or_free log u x Unbuilt come = absurd come
 
 -- ---- how far it has come
@@ -83,6 +84,7 @@ come_stays t log later u x Dropping apart added come = record {
   made = come.made;
   under_way = come.under_way;
 }
+come_stays t log later u x Deleting apart added come = come
 come_stays t log later u x Unbuilt apart added come = come
 
 -- the same lane, beside a change of another's records
@@ -92,8 +94,12 @@ pub lane_stays : {E : Type 0} (layout : Layout) (blocks : List Standing) (t : �
 lane_stays layout blocks t log later newest newer u p lane x apart added newest_added newest_taken l = record {
   txn = l.txn;
   come = come_stays t log later u x (stage_of lane) apart added l.come;
-  words = l.words;
-  data_words = l.data_words;
+  given = l.given;
+  counts = l.counts;
+  deleting = l.deleting;
+  ends_ungiven = l.ends_ungiven;
+  written_words = l.written_words;
+  taking = l.taking;
   naming = l.naming;
   recorded = λ one on. (let some = some_of x.number newer on in
       l.recorded one (has_of_true x.number newest (some.0, came_not t x.number newest newer some.0 (apart one) newest_added some.1 some.2, some.2)));
@@ -121,6 +127,7 @@ needs_any_chain shape log p n c d u x Ending is come = refl
 needs_any_chain shape log p n c d u x Closing is come = let e : closes come.gates [] come.made ≡ nothing = sym come.under_way ∙ is in cc
 needs_any_chain shape log p n c d u x ClosingEnd is come = let e : closes [] come.ends come.made ≡ nothing = sym come.under_way ∙ is in cc
 needs_any_chain shape log p n c d u x Dropping is come = let e : drops come.removed come.made ≡ nothing = sym come.under_way ∙ is in cc
+needs_any_chain shape log p n c d u x Deleting is come = refl
 needs_any_chain shape log p n c d u x Unbuilt is come = refl
 
 -- without a transaction nothing is wanted

@@ -14,15 +14,18 @@ use Rattle.region_layout.specs.Layout.{layout_shape}
 use Rattle.bucket_log.specs.declared.append.Place.{Place}
 use Rattle.bucket_log.specs.Places.{IsNextPlace}
 use Rattle.bucket_log.specs.Plans.{place_address}
-use Rattle.plan_records.specs.Cells.{cell_of_update}
+use Rattle.plan_records.specs.Cells.{cell_of_update, cell_of_deletion}
 use Rattle.lane_traits.specs.declared.draft.WordWrite.{WordWrite}
 use Rattle.lane_types.specs.declared.face.Entry.{Entry}
 use Rattle.lane_book.specs.declared.book.Book.{Book}
 use Rattle.lane_book.specs.declared.lane.Lane.{Lane}
+use Rattle.lane_book.specs.declared.lane.Doing.TheVariants as Doing
+use Rattle.lane_types.specs.declared.call.Reply.TheVariants as Reply
+use Rattle.persist_model.specs.Shape.{block}
 use Rattle.lane_book.specs.FacesOf.{lane_at}
 use Rattle.lane_book.specs.Books.{IsBook}
-use Rattle.lane_book.specs.Lanes.{moved, entered_lane}
-use Rattle.lane_book.specs.Appends.{with_update, with_rollback, with_compensation, with_end}
+use Rattle.lane_book.specs.Lanes.{moved, closed, entered_lane}
+use Rattle.lane_book.specs.Appends.{with_update, with_deletion, with_rollback, with_compensation, with_end}
 use Rattle.log_keeper.specs.declared.keeper.LogKeeper.{LogKeeper}
 use Rattle.log_keeper.specs.Parts.{appends, closes}
 use Rattle.log_keeper.specs.Logged.{Keeping, plan_in, latched}
@@ -31,7 +34,7 @@ use Rattle.log_keeper.specs.Listing.{gates_in}
 use Rattle.log_keeper.specs.Keeper.{keeping_of, numbered, appending, begun_in}
 use Rattle.txn_laws.specs.Rooms.{stores_gate}
 use Rattle.txn_state.specs.declared.parts.TheConstants.{STORE, UNDO, KEEP, CLOSE}
-use Rattle.txn_state.specs.Stages.{Naming, Opening, Undoing, Ending, stage_of, is_commit}
+use Rattle.txn_state.specs.Stages.{Naming, Deleting, Opening, Undoing, Ending, stage_of, is_commit}
 use Rattle.txn_state.specs.States.{IsStateOf, reserved_for}
 use Rattle.txn_state.specs.Changes.{GoesTo, JoinsTo, IsKept, HasDrawn, paid_event, paid_record}
 use Rattle.txn_state.specs.QuietLaws.{HasSameTransaction}
@@ -79,6 +82,24 @@ AppendsBegin E = (layout : Layout) (start : Words) (book later : Book E) (keeper
     (keeping_of keeper).holder p ≡ NOBODY → IsPlaceRead layout p region place → IsNextCell region (lane_at book l) cell →
     ((a : ℕ) → a < region.size → 0 < length (region.at a)) →
     events < 2 ^ 64 → GoesTo book later l (paid_record (lane_at book l)) → IsBook later → HasDrawn keeper drawn (latched_append p l place cell keeper) →
+    IsStateOf layout start book keeper region spare events → IsStateOf layout start later drawn region spare events
+
+-- the cell of the deletion of the block that the lane gives, with its owner as a read finds it
+abbrev pub deletion_cell : {E : Type 0} → Layout → Region → Lane E → ℕ → Cell
+deletion_cell layout region lane k = cell_of_deletion (record {
+  transaction = lane.transaction;
+  owner_word = block (layout_shape layout) k;
+  owner = newest (region.at (block (layout_shape layout) k));
+})
+
+-- So begins that of a deletion.
+abbrev pub DeletionsBegin : Type 0 → Type 0
+DeletionsBegin E = (layout : Layout) (start : Words) (book later : Book E) (keeper drawn : LogKeeper) (region : Region) (spare events l k : ℕ) (place : Place) →
+    let p = l % layout.partitions in
+    (keeping_of keeper).holder p ≡ NOBODY → IsPlaceRead layout p region place → stage_of (lane_at book l) ≡ Deleting → (lane_at book l).doing ≡ Doing.Give k →
+    ((a : ℕ) → a < region.size → 0 < length (region.at a)) →
+    events < 2 ^ 64 → GoesTo book later l (paid_record (lane_at book l)) → IsBook later →
+    HasDrawn keeper drawn (latched_append p l place (deletion_cell layout region (lane_at book l) k) keeper) →
     IsStateOf layout start book keeper region spare events → IsStateOf layout start later drawn region spare events
 
 -- ---- the next event of a part
@@ -132,6 +153,16 @@ GatesAreStored E = (layout : Layout) (start : Words) (book later : Book E) (keep
     GoesTo book later l (moved lane.part lane) → IsBook later → IsKept keeper kept (made_in layout keeper p) →
     IsStateOf layout start book keeper region spare events → IsStateOf layout start later kept behind left made
 
+-- A deletion's gate is stored.
+abbrev pub DeletionsAreStored : Type 0 → Type 0
+DeletionsAreStored E = (layout : Layout) (start : Words) (book later : Book E) (keeper kept : LogKeeper) (region behind : Region) (spare left events made l k : ℕ) (e : Event) (place : Place) (c : Cell) →
+    let p = l % layout.partitions in
+    IsMade layout keeper region behind l e spare left events made → AreLeft layout keeper p 2 →
+    ((keeping_of keeper).runs p).part ≡ appends place (record_of (place_address place) c) →
+    stage_of (lane_at book l) ≡ Deleting → (lane_at book l).doing ≡ Doing.Give k → LetsGoOne layout book later p →
+    GoesTo book later l (moved (lane_at book l).part (with_deletion (place_address place) (paid_event (lane_at book l)))) → IsBook later → IsKept keeper kept (made_in layout keeper p) →
+    IsStateOf layout start book keeper region spare events → IsStateOf layout start later kept behind left made
+
 -- ---- the last event of an append
 
 -- the part that follows, where no end was appended
@@ -149,6 +180,15 @@ RecordsSettle E = (layout : Layout) (start : Words) (book later : Book E) (keepe
     let p = l % layout.partitions in
     IsMade layout keeper region behind l e spare left events made → AreLeft layout keeper p 1 →
     GoesOnTo (lane_at book l) part → GoesTo book later l (moved part (paid_event (lane_at book l))) → IsBook later →
+    IsKept keeper kept (latched p NOBODY (made_in layout keeper p)) →
+    IsStateOf layout start book keeper region spare events → IsStateOf layout start later kept behind left made
+
+-- Behind a deletion the give is answered too.
+abbrev pub GivesAreAnswered : Type 0 → Type 0
+GivesAreAnswered E = (layout : Layout) (start : Words) (book later : Book E) (keeper kept : LogKeeper) (region behind : Region) (spare left events made l k : ℕ) (e : Event) →
+    let p = l % layout.partitions in
+    IsMade layout keeper region behind l e spare left events made → AreLeft layout keeper p 1 →
+    stage_of (lane_at book l) ≡ Deleting → (lane_at book l).doing ≡ Doing.Give k → GoesTo book later l (closed Reply.Given (paid_event (lane_at book l))) → IsBook later →
     IsKept keeper kept (latched p NOBODY (made_in layout keeper p)) →
     IsStateOf layout start book keeper region spare events → IsStateOf layout start later kept behind left made
 

@@ -1,5 +1,6 @@
 -- What a step changes of a book, and of the places that are left.
-use Rattle.std.specs.Prelude.{◌≡◌, ◌≢◌, ℕ, ◌+◌, ◌<◌, ◌≤◌, length, ◌++◌, ◌∷◌, []}
+use Rattle.std.specs.Prelude.{◌≡◌, ◌≢◌, ℕ, ◌+◌, ◌<◌, ◌≤◌, length, ◌++◌, ◌∷◌, [], slice_set}
+use Rattle.offset_alloc.specs.declared.Standing.{Standing}
 use Rattle.lane_types.specs.declared.face.Entry.{Entry}
 use Rattle.lane_book.specs.declared.book.Book.{Book}
 use Rattle.lane_book.specs.declared.lane.Lane.{Lane}
@@ -31,6 +32,10 @@ pub record JoinsTo {E : Type 0} (book later : Book E) (l : ℕ) (lane : Lane E) 
   pub items : later.history.items ≡ book.history.items ++ e ∷ []
   pub capacity : later.history.capacity ≡ book.history.capacity
   pub next : later.next_transaction ≡ book.next_transaction
+
+-- the block stands so
+abbrev pub with_block : {E : Type 0} → ℕ → Standing → Book E → Book E
+with_block k standing book = record book { blocks = slice_set book.blocks k standing }
 
 -- ---- the keeper
 

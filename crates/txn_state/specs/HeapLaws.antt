@@ -11,6 +11,7 @@ use Rattle.region_layout.specs.declared.layout.Layout.{Layout}
 use Rattle.lane_traits.specs.declared.draft.WordWrite.{WordWrite}
 use Rattle.lane_types.specs.declared.call.Reply.TheVariants as Reply
 use Rattle.lane_book.specs.declared.book.Book.{Book}
+use Rattle.lane_book.specs.declared.lane.Doing.TheVariants as Doing
 use Rattle.lane_book.specs.FacesOf.{lane_at}
 use Rattle.lane_book.specs.Books.{IsBook}
 use Rattle.lane_book.specs.Lanes.{moved, closed, stored_one}
@@ -20,6 +21,7 @@ use Rattle.log_keeper.specs.Keeper.{keeping_of}
 use Rattle.log_keeper.specs.Ledger.{settled_log}
 use Rattle.txn_state.specs.declared.parts.TheConstants.{END}
 use Rattle.txn_state.specs.Stages.{Storing, Securing, TakingBack, Keeping, stage_of}
+use Rattle.txn_state.specs.Ties.{owned}
 use Rattle.txn_state.specs.States.{IsStateOf}
 use Rattle.txn_state.specs.Changes.{GoesTo, paid_event}
 use Rattle.txn_state.specs.AppendLaws.{undo_part}
@@ -37,6 +39,14 @@ WritesAreStored E = (layout : Layout) (start : Words) (book later : Book E) (kee
     IsEvent region behind l (PStore w.address w.value) spare left events made →
     stage_of (lane_at book l) ≡ Storing → slice_get (lane_at book l).writes.items (lane_at book l).stored ≡ Some w →
     GoesTo book later l (closed Reply.Written (stored_one (paid_event (lane_at book l)))) → IsBook later →
+    IsStateOf layout start book keeper region spare events → IsStateOf layout start later keeper behind left made
+
+-- So is the owner word of a block that is taken.
+abbrev pub TakesAreStored : Type 0 → Type 0
+TakesAreStored E = (layout : Layout) (start : Words) (book later : Book E) (keeper : LogKeeper) (region behind : Region) (spare left events made l s k : ℕ) →
+    IsEvent region behind l (PStore (owned layout s k).address (owned layout s k).value) spare left events made →
+    stage_of (lane_at book l) ≡ Storing → (lane_at book l).doing ≡ Doing.Take s k →
+    GoesTo book later l (closed (Reply.Block k) (stored_one (paid_event (lane_at book l)))) → IsBook later →
     IsStateOf layout start book keeper region spare events → IsStateOf layout start later keeper behind left made
 
 -- The word whose update was compensated last becomes what the newest change by the transaction, which is the compensation, left.

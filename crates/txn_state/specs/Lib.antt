@@ -6,6 +6,7 @@ pub mod Numbers
 pub mod States
 pub mod Changes
 pub mod QuietLaws
+pub mod BlockLaws
 pub mod AppendLaws
 pub mod HeapLaws
 pub mod ClosingLaws

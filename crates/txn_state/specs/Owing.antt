@@ -11,7 +11,7 @@ use Rattle.history_laws.specs.UnderWay.{UnderWay, nothing, appends, closes, take
 use Rattle.txn_laws.specs.Txns.{Txn, txn_at}
 use Rattle.txn_laws.specs.Rooms.{sum_below}
 use Rattle.txn_laws.specs.Worlds.{World}
-use Rattle.txn_state.specs.Stages.{Stage, Free, Between, Leaving, Naming, Storing, Securing, Opening, Undoing, TakingBack, Keeping, Ending, Closing, ClosingEnd, Dropping, Unbuilt, stage_of}
+use Rattle.txn_state.specs.Stages.{Stage, Free, Between, Leaving, Naming, Storing, Deleting, Securing, Opening, Undoing, TakingBack, Keeping, Ending, Closing, ClosingEnd, Dropping, Unbuilt, stage_of}
 use Rattle.txn_state.specs.Ties.{under_of}
 
 -- ---- the bounds
@@ -70,6 +70,7 @@ needs_at shape p n c u x Between = needs 0 0 0
 needs_at shape p n c u x Leaving = needs 0 0 0
 needs_at shape p n c u x Naming = needs (append_left shape p u + 1) (draw_left u) 0
 needs_at shape p n c u x Storing = needs 1 0 0
+needs_at shape p n c u x Deleting = needs (append_left shape p u) (draw_left u) 0
 needs_at shape p n c u x Securing = needs (1 + ending_left shape n) 1 (n + 1)
 needs_at shape p n c u x Opening =
     let updates = length x.updates in

@@ -6,6 +6,9 @@ use Rattle.region_layout.specs.declared.layout.Layout.{Layout}
 use Rattle.region_layout.specs.Layout.{layout_shape, IsDataWord}
 use Rattle.lane_traits.specs.declared.draft.WordWrite.{WordWrite}
 use Rattle.lane_types.specs.declared.face.Entry.{Entry}
+use Rattle.lane_types.specs.Heaps.{has_bit}
+use Rattle.offset_alloc.specs.declared.Standing.TheVariants.{Owned}
+use Rattle.offset_alloc.specs.Blocks.{IsFree}
 use Rattle.lane_book.specs.declared.book.Book.{Book}
 use Rattle.lane_book.specs.declared.lane.Lane.{Lane}
 use Rattle.lane_book.specs.declared.lane.Doing.TheVariants as Doing
@@ -22,8 +25,9 @@ use Rattle.log_keeper.specs.Listing.{gates_in}
 use Rattle.log_keeper.specs.Rooms.{IsRoomAt, IsNewestOf}
 use Rattle.txn_laws.specs.Rooms.{sum_below}
 use Rattle.txn_state.specs.Stages.{Free, Between, Leaving, Naming, Securing, Opening, stage_of, is_commit}
-use Rattle.txn_state.specs.Changes.{HasLane, GoesTo, JoinsTo, IsKept}
-use Rattle.txn_state.specs.Ties.{plain_write, plain_entry, WaitsToAppend}
+use Rattle.txn_state.specs.Changes.{HasLane, GoesTo, JoinsTo, IsKept, with_block}
+use Rattle.lane_book.specs.Books.{ends}
+use Rattle.txn_state.specs.Ties.{plain_write, plain_entry, owned, due_by, WaitsToAppend, WaitsToDelete}
 use Rattle.txn_state.specs.Owing.{Needs, needs, append_most, undoing_left, ending_left}
 use Rattle.txn_state.specs.States.{IsStateOf, reserved_for}
 
@@ -47,6 +51,12 @@ pub record HasSameTransaction {E : Type 0} (lane later : Lane E) : Type 0 where
   pub entry : later.entry ≡ lane.entry
   pub entered : later.entered ≡ lane.entered
   pub committing : is_commit later.doing ≡ is_commit lane.doing
+  pub takes : (s k : ℕ) → later.doing ≡ Doing.Take s k → lane.doing ≡ Doing.Take s k
+  pub due : due_by later.doing ≡ due_by lane.doing
+  pub gives_same : (k : ℕ) → later.doing ≡ Doing.Give k → lane.doing ≡ Doing.Give k
+  pub ending : ends later.doing ≡ ends lane.doing
+  pub gates : later.gates.items ≡ lane.gates.items
+  pub gates_wait : due_by lane.doing ≡ 1 → later.gates ≡ lane.gates
   pub promised : later.promised ≡ lane.promised
   pub owed_events : later.owed_events ≡ lane.owed_events
   pub owed_records : later.owed_records ≡ lane.owed_records
@@ -102,6 +112,7 @@ pub record HasSameRecords {E : Type 0} (lane later : Lane E) : Type 0 where
   pub updates : later.updates.items ≡ lane.updates.items
   pub stored : later.stored ≡ lane.stored
   pub gives : later.gives.items ≡ lane.gives.items
+  pub gates : later.gates.items ≡ lane.gates.items
   pub has_records : later.has_records ≡ lane.has_records
   pub rolled : later.rolled ≡ lane.rolled
   pub ended : later.ended ≡ lane.ended
@@ -117,6 +128,7 @@ pub record AsksWrite {E : Type 0} (layout : Layout) (book : Book E) (l : ℕ) (w
   pub writes : lane.writes.items ≡ (lane_at book l).writes.items ++ write ∷ []
   pub entry : lane.entry ≡ None
   pub is_no_commit : is_commit lane.doing ≡ false
+  pub is_no_take : (s k : ℕ) → lane.doing ≢ Doing.Take s k
   pub data_word : IsDataWord (layout_shape layout) write.address
   pub own : is_mine book.blocks (lane_at book l) (block_in layout write.address) ≡ true
   pub waits : WaitsToAppend lane
@@ -137,17 +149,62 @@ WritesAreAsked E = (layout : Layout) (start : Words) (book later : Book E) (keep
     AsksWrite layout book l write lane → HasRoomForAsk layout book later region l → GoesTo book later l lane → IsBook later →
     IsStateOf layout start book keeper region spare events → IsStateOf layout start later keeper region spare events
 
+-- The lane's call is to take a free block, which is no root, for a structure that it has and no other lane: it is to write the block's owner word, for which
+-- it owes enough.
+pub record AsksTake {E : Type 0} (layout : Layout) (book : Book E) (l s k : ℕ) (lane : Lane E) : Type 0 where
+  pub between : stage_of (lane_at book l) ≡ Between
+  pub call : lane.doing ≡ Doing.Take s k
+  pub naming : stage_of lane ≡ Naming
+  pub same : HasSameRecords (lane_at book l) lane
+  pub writes : lane.writes.items ≡ (lane_at book l).writes.items ++ owned layout s k ∷ []
+  pub entry : lane.entry ≡ None
+  pub free : IsFree book.blocks k
+  pub plain : layout.structures ≤ k
+  pub structure : s < 8
+  pub had : has_bit (lane_at book l).held s ≡ true
+  pub alone : (j : ℕ) → j ≢ l → has_bit (lane_at book j).held s ≡ false
+  pub waits : WaitsToAppend lane
+  pub owes_events : append_most (layout_shape layout) + 1 ≤ lane.owed_events
+  pub owes_record : 1 ≤ lane.owed_records
+
+-- From then on the block is the structure's.
+abbrev pub TakesAreAsked : Type 0 → Type 0
+TakesAreAsked E = (layout : Layout) (start : Words) (book later : Book E) (keeper : LogKeeper) (region : Region) (spare events l s k : ℕ) (lane : Lane E) →
+    AsksTake layout book l s k lane → HasRoomForAsk layout book later region l → GoesTo (with_block k (Owned s) book) later l lane → IsBook later →
+    IsStateOf layout start book keeper region spare events → IsStateOf layout start later keeper region spare events
+
+-- The lane's call is to give a block of its own, which is no root, for which it owes enough.
+pub record AsksGive {E : Type 0} (layout : Layout) (book : Book E) (l k : ℕ) (lane : Lane E) : Type 0 where
+  pub between : stage_of (lane_at book l) ≡ Between
+  pub call : lane.doing ≡ Doing.Give k
+  pub same : HasSameRecords (lane_at book l) (record lane { gives = (lane_at book l).gives })
+  pub gives : lane.gives.items ≡ (lane_at book l).gives.items ++ k ∷ []
+  pub writes : lane.writes.items ≡ (lane_at book l).writes.items
+  pub entry : lane.entry ≡ None
+  pub own : is_mine book.blocks (lane_at book l) k ≡ true
+  pub plain : layout.structures ≤ k
+  pub inside : k < layout.blocks
+  pub waits : WaitsToDelete lane
+  pub owes_events : append_most (layout_shape layout) ≤ lane.owed_events
+  pub owes_record : 1 ≤ lane.owed_records
+
+abbrev pub GivesAreAsked : Type 0 → Type 0
+GivesAreAsked E = (layout : Layout) (start : Words) (book later : Book E) (keeper : LogKeeper) (region : Region) (spare events l k : ℕ) (lane : Lane E) →
+    AsksGive layout book l k lane → HasRoomForAsk layout book later region l → GoesTo book later l lane → IsBook later →
+    IsStateOf layout start book keeper region spare events → IsStateOf layout start later keeper region spare events
+
 -- what the end of a transaction with n records and so many updates may want, by whether it commits
 abbrev pub ending_needs : Shape → ℕ → ℕ → Bool → Needs
 ending_needs shape n updates true = needs (1 + ending_left shape n) 1 (n + 1)
 ending_needs shape n updates false =
     needs (append_most shape + (undoing_left shape updates + (1 + ending_left shape (n + 1 + updates)))) (1 + (updates + 1)) (n + 1 + updates + 1)
 
--- The lane's call is to end its transaction, for which it owes enough.
+-- The lane's call is to end its transaction, which gave no block, and for which it owes enough.
 pub record AsksEnd {E : Type 0} (layout : Layout) (book : Book E) (keeper : LogKeeper) (l : ℕ) (commits : Bool) (lane : Lane E) : Type 0 where
   pub between : stage_of (lane_at book l) ≡ Between
   pub ends : stage_of lane ≡ (if lane.has_records then (if commits then Securing else Opening) else Leaving)
   pub commits_is : is_commit lane.doing ≡ commits
+  pub no_gives : lane.gives.items ≡ []
   pub same : HasSameRecords (lane_at book l) lane
   pub writes : lane.writes.items ≡ (lane_at book l).writes.items
   pub entry_is : commits ≡ true → HasEntry l lane

@@ -11,7 +11,7 @@ use Rattle.lane_traits.specs.declared.draft.WordWrite.{WordWrite}
 use Rattle.lane_traits.specs.Device.{IsWithin}
 use Rattle.region_layout.specs.declared.layout.Layout.{Layout}
 use Rattle.region_layout.specs.declared.layout.Buckets.{Buckets}
-use Rattle.region_layout.specs.Layout.{layout_shape, IsPartition, IsDataWord}
+use Rattle.region_layout.specs.Layout.{layout_shape, IsPartition}
 use Rattle.atomic_list.specs.declared.plans.Remove.{Remove}
 use Rattle.bucket_log.specs.declared.append.Place.{Place}
 use Rattle.bucket_log.specs.Reads.{IsLogOfPart}
@@ -31,8 +31,8 @@ use Rattle.log_keeper.specs.Listing.{gates_in}
 use Rattle.log_keeper.specs.Logged.{plan_in}
 use Rattle.log_keeper.specs.Keeper.{keeping_of, HasRoomIn, free_places}
 use Rattle.log_keeper.specs.Rooms.{IsRoomAt}
-use Rattle.txn_state.specs.Stages.{Stage, Free, Between, Leaving, Naming, Storing, Securing, Opening, Undoing, TakingBack, Keeping, Ending, Closing, ClosingEnd, Dropping, Unbuilt, stage_of}
-use Rattle.txn_state.specs.Ties.{WaitsToAppend}
+use Rattle.txn_state.specs.Stages.{Stage, Free, Between, Leaving, Naming, Storing, Deleting, Securing, Opening, Undoing, TakingBack, Keeping, Ending, Closing, ClosingEnd, Dropping, Unbuilt, stage_of}
+use Rattle.txn_state.specs.Ties.{IsWrittenWord, WaitsToAppend}
 use Rattle.txn_state.specs.States.{IsStateOf}
 use Rattle.txn_state.specs.AppendLaws.{newest_image, IsPlaceRead, AreLeft, made_in}
 use Rattle.txn_state.specs.ClosingLaws.{IsRemovalRead}
@@ -46,6 +46,7 @@ makes_events Between = false
 makes_events Leaving = false
 makes_events Naming = true
 makes_events Storing = true
+makes_events Deleting = true
 makes_events Securing = true
 makes_events Opening = true
 makes_events Undoing = true
@@ -60,6 +61,7 @@ makes_events Unbuilt = false
 -- and those in which the event is one of an append
 abbrev pub appends_in : Stage → Bool
 appends_in Naming = true
+appends_in Deleting = true
 appends_in Opening = true
 appends_in Undoing = true
 appends_in Ending = true
@@ -170,10 +172,10 @@ pub record ViewsAreRead (E : Type 0) : Type 0 where
 
 -- ---- the lane
 
--- the next write, a data word
+-- the next write, of a word that a lane may write
 pub record HasWrite {E : Type 0} (layout : Layout) (lane : Lane E) (n : ℕ) (w : WordWrite) : Type 0 where
   pub write : slice_get lane.writes.items n ≡ Some w
-  pub data_word : IsDataWord (layout_shape layout) w.address
+  pub written_word : IsWrittenWord (layout_shape layout) w.address
 
 -- What the lane's calls ask of its book at each stage.
 pub record LanesAreReady (E : Type 0) : Type 0 where

@@ -13,9 +13,11 @@ pub data Stage : Type 0 where
   Between : Stage
   -- it ends one that has no record
   Leaving : Stage
-  -- a write: the append of its update, and the store of its word
+  -- a write, or a take, which is one of an owner word: the append of its update, and the store of its word
   Naming : Stage
   Storing : Stage
+  -- a give: the append of its deletion
+  Deleting : Stage
   -- a commit's fence
   Securing : Stage
   -- an abort: the append of its rollback record and of a compensation, the store of that one's word, and the fence behind all
@@ -59,8 +61,8 @@ stage_at phase recorded part Doing.Nothing = idle_stage phase
 stage_at phase recorded part (Doing.Begin set) = Free
 stage_at phase recorded part (Doing.Read a) = Between
 stage_at phase recorded part (Doing.Write a v) = write_stage part
-stage_at phase recorded part (Doing.Take s block) = Unbuilt
-stage_at phase recorded part (Doing.Give block) = Unbuilt
+stage_at phase recorded part (Doing.Take s block) = write_stage part
+stage_at phase recorded part (Doing.Give block) = Deleting
 stage_at phase recorded part Doing.Commit = if recorded then commit_stage part else Leaving
 stage_at phase recorded part Doing.Abort = if recorded then abort_stage part else Leaving
 stage_at phase recorded part Doing.Checkpoint = Free

@@ -4,6 +4,7 @@
 
 pub mod append_laws;
 pub mod beside;
+pub mod block_laws;
 pub mod closing_laws;
 pub mod heap_laws;
 pub mod parts;

@@ -1,5 +1,5 @@
 //! What a lane's call changes without an event: the state stays one.
-ghost use Rattle.txn_state.specs.QuietLaws.{NotesKeep, MemoryIsTaken, PlacesAreTaken, BeginsKeep, WritesAreAsked, EndsAreAsked, UnrecordedAbortsKeep, UnrecordedCommitsKeep};
+ghost use Rattle.txn_state.specs.QuietLaws.{NotesKeep, MemoryIsTaken, PlacesAreTaken, BeginsKeep, WritesAreAsked, TakesAreAsked, GivesAreAsked, EndsAreAsked, UnrecordedAbortsKeep, UnrecordedCommitsKeep};
 
 /// A wait, a read, a refusal, or the ask of a call that appends nothing.
 pub fn notes_keep<E>()
@@ -24,6 +24,16 @@ pub fn begins_keep<E>()
 /// A write is asked.
 pub fn writes_are_asked<E>()
     ensures { WritesAreAsked E }
+{}
+
+/// A take is asked.
+pub fn takes_are_asked<E>()
+    ensures { TakesAreAsked E }
+{}
+
+/// A give is asked.
+pub fn gives_are_asked<E>()
+    ensures { GivesAreAsked E }
 {}
 
 /// A commit or an abort is asked.
