@@ -1,0 +1,5 @@
+use Rattle.redo_laws.proofs.Beginning as lemmas
+use Rattle.redo_laws.proofs.steps.departs_keep.Goals as goal
+
+pub returns : goal.returns
+returns c = lemmas.departs_keep

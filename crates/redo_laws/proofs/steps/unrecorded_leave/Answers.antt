@@ -1,0 +1,5 @@
+use Rattle.redo_laws.proofs.Beginning as lemmas
+use Rattle.redo_laws.proofs.steps.unrecorded_leave.Goals as goal
+
+pub returns : goal.returns
+returns c = lemmas.unrecorded_leave

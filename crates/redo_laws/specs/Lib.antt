@@ -1,0 +1,11 @@
+pub mod Checkpoints
+pub mod Transactions
+pub mod Stages
+pub mod Worlds
+pub mod Laws
+pub mod Beginnings
+pub mod Parts
+pub mod Stores
+pub mod Sweeps
+pub mod Notes
+pub mod Clears
