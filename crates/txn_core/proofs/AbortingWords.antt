@@ -1,15 +1,16 @@
 -- What the step that takes a word back asks, and leaves.
-use Rattle.std.proofs.Common.{◌≡◌, ℕ, ◌-◌, ◌*◌, ◌<◌, ◌≤◌, true, List, length, get_or, Option, Some, None, Fits, w64, refl, sym, ap, ◌∙◌, subst, arith}
+use Rattle.std.proofs.Common.{◌≡◌, ℕ, ◌-◌, ◌*◌, ◌==◌, ◌&&◌, ◌<◌, ◌≤◌, true, List, length, get_or, Option, Some, None, Fits, w64, refl, sym, ap, ◌∙◌, subst, arith}
 use Rattle.std.specs.Prelude.{slice_get}
 use Rattle.std.proofs.Math.Logic.{∥∥₁_elim}
 use Rattle.std.proofs.Math.Bridge.{le_prop}
 use Rattle.std.proofs.lemmas.Option.{slice_get_within, slice_get-get_or, get_or_from_slice_get}
 use Rattle.persist_model.specs.declared.event.Event.TheVariants.{PStore}
-use Rattle.persist_model.specs.Region.{Words, Region}
+use Rattle.persist_model.specs.Region.{Words, Region, newest}
 use Rattle.lane_traits.specs.declared.draft.WordWrite.{WordWrite}
 use Rattle.lane_traits.specs.Device.{Counts}
 use Rattle.lane_traits.specs.declared.device.Done.TheVariants as Done
 use Rattle.region_layout.specs.declared.layout.Layout.{Layout}
+use Rattle.persist_model.specs.Shape.{IsHeapWord}
 use Rattle.region_layout.specs.Layout.{layout_shape, IsDataWord}
 use Rattle.lane_types.specs.declared.call.Stepped.{Stepped}
 use Rattle.lane_types.specs.Deeds.{Deeds}
@@ -27,21 +28,26 @@ use Rattle.log_keeper.specs.declared.keeper.LogKeeper.{LogKeeper}
 use Rattle.log_keeper.specs.Keeper.{keeping_of}
 use Rattle.log_keeper.specs.Ledger.{AreNewestFirst}
 use Rattle.log_keeper.specs.Changes.{all_records, IsLastChange}
+use Rattle.txn_state.proofs.HeapSteps.{written_heap}
 use Rattle.txn_state.specs.Stages.{TakingBack, stage_of, is_commit}
 use Rattle.txn_state.specs.AppendLaws.{undo_part}
 use Rattle.txn_state.specs.Changes.{GoesTo}
 use Rattle.txn_state.specs.HeapLaws.{IsEvent}
+use Rattle.txn_state.specs.ReadLaws.{clears_in}
 use Rattle.txn_state.specs.States.{IsStateOf}
 use Rattle.txn_state.proofs.Ready.{lanes_are_ready}
 use Rattle.txn_state.proofs.HeapSteps.{words_are_taken_back}
-use Rattle.txn_core.specs.Making.{Makes, made}
+use Rattle.txn_core.specs.Making.{Makes, made, changed_word}
 use Rattle.txn_core.specs.States.{IsWorld, HasWorld, start_of}
 use Rattle.txn_core.specs.Phases.{IsPhased, ArePhased}
 use Rattle.txn_core.specs.Stepping.{StepsWorld, HasMade, IsCause}
 use Rattle.txn_core.proofs.Facts.{IsRead, has_logs}
-use Rattle.txn_core.proofs.Phasing.{phased_with, other_phased}
+use Rattle.txn_core.proofs.OpenParts.{IsOpenPart, part_open, undoes_open}
+use Rattle.txn_core.proofs.Phasing.{phased_with}
 use Rattle.txn_core.proofs.PhasedSteps.{paid_phased}
-use Rattle.txn_core.proofs.Paid.{goes_with, paid_goes, paid_step, lawful_with, lawful_paid, lanes_paid, steps_world}
+use Rattle.txn_core.proofs.Paid.{goes_with, paid_goes, paid_step, lawful_with, lawful_paid, lanes_paid, count_paid, steps_world}
+use Rattle.txn_core.proofs.Touching.{store_touches}
+use Rattle.txn_core.proofs.Unbuilt.{own_data}
 use Rattle.txn_core.proofs.Aborting.{aborts_at}
 use Rattle.txn_core.proofs.AbortingLedgers.{change_is}
 
@@ -71,12 +77,12 @@ is_last_stored layout start book keeper region spare events l lt at st =
     let w = ready.0 in
     let within = slice_get_within lane.writes.items (lane.stored - 1) w ready.1.write in
     let same : last_stored lane ≡ w = get_or_from_slice_get lane.writes.items (lane.stored - 1) w no_write ready.1.write in
-    let is_data : IsDataWord (layout_shape layout) w.address = ready.1.data_word in
+    let in_heap : IsHeapWord (layout_shape layout) w.address = written_heap (layout_shape layout) w.address ready.1.written_word in
     record {
       some = ready.2;
       below = within;
       got = slice_get-get_or lane.writes.items (lane.stored - 1) no_write within;
-      inside = subst (λ (x : WordWrite). x.address < region.size) (sym same) (subst (λ n. w.address < n) (sym st.world.log.logged.size) is_data.0.1);
+      inside = subst (λ (x : WordWrite). x.address < region.size) (sym same) (subst (λ n. w.address < n) (sym st.world.log.logged.size) in_heap.1);
     }
 
 -- ---- its newest change
@@ -163,27 +169,36 @@ module _ {E : Type 0} (book between : Book E) (l : ℕ) (lt : l < length book.la
 
 -- ---- what it leaves
 
-unstored_phased : {E : Type 0} (lane : Lane E) (part : ℕ) → lane.doing ≡ Doing.Abort → IsPhased lane → IsPhased (moved part (unstored_one lane))
-unstored_phased lane part doing phased =
-    other_phased (unstored_one lane) part (ap is_commit doing) (record { calling = phased.calling; joined = phased.joined })
+unstored_phased : {E : Type 0} (lane : Lane E) (part : ℕ) → IsOpenPart part → lane.doing ≡ Doing.Abort → IsPhased lane → IsPhased (moved part (unstored_one lane))
+unstored_phased lane part is doing phased = record {
+  calling = phased.calling;
+  joined = phased.joined ∙ ap (λ b. b && clears_in (stage_of lane)) (ap is_commit doing) ∙ sym (ap (λ b. b && clears_in (stage_of (moved part lane))) (ap is_commit doing));
+  undone = λ on off. absurd (part_open lane.phase lane.has_records part lane.doing is off on);
+}
 
 pub taken_back_world : {E : Type 0} (deeds : Deeds E) (layout : Layout) (book between later : Book E) (keeper : LogKeeper) (region behind : Region) (spare left : ℕ) (counts after : Counts) (l part v : ℕ)
     (w : WordWrite) (touched : Option ℕ) (answer : Stepped) → answer ≡ Stepped.Moved → l < length book.lanes.items → stage_of (lane_at book l) ≡ TakingBack →
     w ≡ last_stored (lane_at book l) → part ≡ undo_part (lane_at book l) →
     FindsChange keeper (lane_at book l) w.address (Some v) → Makes (PStore w.address v) region behind counts after spare left book between l Done.Made →
-    Moves deeds between later l touched answer (moved part (unstored_one (lane_at between l))) →
+    Moves deeds between later l touched answer (moved part (unstored_one (lane_at between l))) → touched ≡ changed_word (newest (region.at w.address)) v w.address →
     StepsWorld deeds layout book later keeper keeper region behind spare left counts after l answer
-taken_back_world deeds layout book between later keeper region behind spare left counts after l part v w touched answer told lt at is part_is change (made event counted paid) moves =
+taken_back_world deeds layout book between later keeper region behind spare left counts after l part v w touched answer told lt at is part_is change (made event counted paid) moves changes =
     steps_world deeds layout book later keeper keeper region behind spare left counts after l answer stays (paid_step deeds book between later l answer lt paid moves.step)
     (subst (λ (a : Stepped). HasMade a counts after) (sym told) counted) phased
     (subst (λ (a : Stepped). IsCause layout book keeper counts l a) (sym told) tt)
+    (count_paid book between later l (moved part (unstored_one (lane_at between l))) paid (ap (λ (b : Book _). b.lanes) moves.is))
+    (λ base world. store_touches layout region behind l w.address v later.touched event.cells
+    (subst (λ (x : WordWrite). IsDataWord (layout_shape layout) x.address) (sym is)
+    (own_data deeds layout base book l ((lane_at book l).stored - 1) (last_stored (lane_at book l)) world.lawful
+    (is_last_stored layout (start_of layout base) book keeper region spare counts.events l lt at world.state).got))
+    (ap (λ (b : Book _). b.touched) moves.is ∙ changes))
   where
     inside : l < length between.lanes.items
     inside = lanes_paid book between l paid lt
 
     phased : ArePhased book → ArePhased later
     phased was = phased_with between later l (moved part (unstored_one (lane_at between l))) touched inside (ap (λ (b : Book _). b.lanes) moves.is)
-        (unstored_phased (lane_at between l) part (paid_aborts book between l lt paid at)) (paid_phased book between l lt paid was)
+        (unstored_phased (lane_at between l) part (subst IsOpenPart (sym part_is) (undoes_open (length (lane_at book l).updates.items == 0))) (paid_aborts book between l lt paid at)) (paid_phased book between l lt paid was)
 
     stays : (base : Base) → IsWorld deeds layout base book keeper region spare counts.events → IsWorld deeds layout base later keeper behind left after.events
     stays base world =

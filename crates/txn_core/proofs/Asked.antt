@@ -1,5 +1,5 @@
 -- A call that appends nothing is asked, or is refused for want of memory.
-use Rattle.std.proofs.Common.{◌≡◌, ℕ, ◌<◌, false, [], length, refl, sym, ap, ◌∙◌, append-nil}
+use Rattle.std.proofs.Common.{◌≡◌, ℕ, ◌<◌, false, [], length, refl, sym, ap, ◌∙◌, append-nil, arith}
 use Rattle.std.proofs.Math.Logic.{∥∥₁_map}
 use Rattle.std.proofs.Math.ListN.{length-set}
 use Rattle.lane_types.specs.declared.call.Call.{Call}
@@ -11,7 +11,7 @@ use Rattle.lane_book.specs.declared.book.Book.{Book}
 use Rattle.lane_book.specs.declared.lane.Lane.{Lane}
 use Rattle.lane_book.specs.declared.lane.Doing.{Doing}
 use Rattle.lane_book.specs.FacesOf.{lane_at}
-use Rattle.lane_book.specs.Books.{IsBook}
+use Rattle.lane_book.specs.Books.{IsBook, ends}
 use Rattle.lane_book.specs.Lanes.{IsRoomier, with_lane}
 use Rattle.lane_book.specs.Steps.{Asks, IsPlain, IsAskedOf, IsAskedIn, IsRoomierIn}
 use Rattle.lane_book.specs.Steps as steps
@@ -23,6 +23,7 @@ use Rattle.lawful_book.proofs.Kept.{asks_keep, refusals_keep}
 use Rattle.txn_core.specs.Asking.{ChangesFace, StaysAlways, StaysAsked, AppendsNothing}
 use Rattle.txn_core.specs.Asking as asking
 use Rattle.txn_core.proofs.Memory.{goes_to}
+use Rattle.txn_state.specs.Ties.{due_by}
 
 pub is_plain : {E : Type 0} (call : Call E) (doing : Doing) → AppendsNothing call doing → IsPlain call doing
 is_plain call doing asking.begin = steps.begin
@@ -68,6 +69,12 @@ roomier_same lane later nothing more = record {
   entry = ap (λ (x : Lane _). x.entry) more.is;
   entered = ap (λ (x : Lane _). x.entered) more.is;
   committing = ap (λ (x : Lane _). is_commit x.doing) more.is;
+  takes = λ s k call. sym (ap (λ (x : Lane _). x.doing) more.is) ∙ call;
+  due = ap (λ (x : Lane _). due_by x.doing) more.is;
+  gives_same = λ k call. sym (ap (λ (x : Lane _). x.doing) more.is) ∙ call;
+  ending = ap (λ (x : Lane _). ends x.doing) more.is;
+  gates = more.gates;
+  gates_wait = λ due. absurd (let none = ap due_by nothing in omega (arith, due, none));
   promised = ap (λ (x : Lane _). x.promised) more.is;
   owed_events = ap (λ (x : Lane _). x.owed_events) more.is;
   owed_records = ap (λ (x : Lane _). x.owed_records) more.is;
@@ -92,6 +99,21 @@ plain_commits call doing asking.begin = refl
 plain_commits call doing asking.read = refl
 plain_commits call doing asking.checkpoint = refl
 
+plain_takes : {E : Type 0} (call : Call E) (doing : Doing) → AppendsNothing call doing → (s k : ℕ) → doing ≡ Doing.Take s k → ⊥
+plain_takes call doing asking.begin s k is = let off : Doing.Begin _ ≡ Doing.Take s k = is in cc
+plain_takes call doing asking.read s k is = let off : Doing.Read _ ≡ Doing.Take s k = is in cc
+plain_takes call doing asking.checkpoint s k is = let off : Doing.Checkpoint ≡ Doing.Take s k = is in cc
+
+plain_due : {E : Type 0} (call : Call E) (doing : Doing) → AppendsNothing call doing → due_by doing ≡ 0
+plain_due call doing asking.begin = refl
+plain_due call doing asking.read = refl
+plain_due call doing asking.checkpoint = refl
+
+plain_ends : {E : Type 0} (call : Call E) (doing : Doing) → AppendsNothing call doing → ends doing ≡ false
+plain_ends call doing asking.begin = refl
+plain_ends call doing asking.read = refl
+plain_ends call doing asking.checkpoint = refl
+
 pub asked_same : {E : Type 0} (lane later : Lane E) (call : Call E) (doing : Doing) → AppendsNothing call doing → lane.doing ≡ Doing.Nothing → lane.phase ≡ wanted call → lane.promised ≡ 0 →
     IsAskedOf lane call doing [] [] 0 later → HasSameTransaction lane later
 asked_same lane later call doing quiet nothing phase unpromised it = record {
@@ -111,6 +133,12 @@ asked_same lane later call doing quiet nothing phase unpromised it = record {
   entry = it.entry_stays;
   entered = ap (λ (x : Lane _). x.entered) it.asks.is;
   committing = ap (λ (x : Lane _). is_commit x.doing) it.asks.is ∙ plain_commits call doing quiet ∙ sym (ap is_commit nothing);
+  takes = λ s k take. absurd (plain_takes call doing quiet s k (sym (ap (λ (x : Lane _). x.doing) it.asks.is) ∙ take));
+  due = ap (λ (x : Lane _). due_by x.doing) it.asks.is ∙ plain_due call doing quiet ∙ sym (ap due_by nothing);
+  gives_same = λ k give. absurd (let none = plain_due call doing quiet in let one = ap due_by (sym (ap (λ (x : Lane _). x.doing) it.asks.is) ∙ give) in omega (arith, none, one));
+  ending = ap (λ (x : Lane _). ends x.doing) it.asks.is ∙ plain_ends call doing quiet ∙ sym (ap ends nothing);
+  gates = it.gates_stay;
+  gates_wait = λ due. absurd (let none = ap due_by nothing in omega (arith, due, none));
   promised = ap (λ (x : Lane _). x.promised) it.asks.is ∙ sym unpromised;
   owed_events = ap (λ (x : Lane _). x.owed_events) it.asks.is;
   owed_records = ap (λ (x : Lane _). x.owed_records) it.asks.is;

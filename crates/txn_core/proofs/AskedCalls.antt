@@ -117,6 +117,12 @@ refused_same call refusal lane = record {
   entry = refl;
   entered = refl;
   committing = refl;
+  takes = λ s k call. call;
+  due = refl;
+  gives_same = λ k call. call;
+  ending = refl;
+  gates = refl;
+  gates_wait = λ due. refl;
   promised = refl;
   owed_events = refl;
   owed_records = refl;
@@ -134,7 +140,7 @@ stays_refused deeds book later l call refusal lt is good layout base keeper regi
 pub refused_phases : {E : Type 0} (book later : Book E) (l : ℕ) (call : Call E) (refusal : Refusal) → l < length book.lanes.items →
     later ≡ with_lane book l (refused_lane call refusal (lane_at book l)) book.touched → ArePhased book → ArePhased later
 refused_phases book later l call refusal lt is = phased_with book later l (refused_lane call refusal (lane_at book l)) book.touched lt (ap (λ (b : Book _). b.lanes) is)
-    (λ phased. record { calling = phased.calling; joined = phased.joined })
+    (λ phased. record { calling = phased.calling; joined = phased.joined; undone = phased.undone })
 
 pub is_exact : {E : Type 0} (layout : Layout) (room need : ℕ) (blocks : List Standing) (lane : Lane E) (call : Call E) (refusal : Refusal) → IsRefusedBy layout room need blocks lane call refusal →
     IsExact room need refusal

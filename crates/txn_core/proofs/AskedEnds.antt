@@ -48,6 +48,7 @@ use Rattle.txn_core.specs.Phases.{IsPhased, ArePhased}
 use Rattle.txn_core.specs.States.{IsKept, HasWorld}
 use Rattle.txn_core.proofs.Asked.{changes_face, stays_roomier}
 use Rattle.txn_core.proofs.Memory.{exact, goes_to}
+use Rattle.txn_core.proofs.OpenParts.{begins_clear}
 
 -- ---- what the code gets of a world's state
 
@@ -126,7 +127,7 @@ phased_to book later l lane goes step phased k = ⊎_elim (λ same. here same.1)
     there ne = subst IsPhased (sym (goes.lanes.others k ne)) (phased k)
 
 pub phased_owing : {E : Type 0} (book mid : Book E) (l m n : ℕ) → Owes book mid l m n → ArePhased book → ArePhased mid
-phased_owing book mid l m n owes = phased_to book mid l (owing m n (lane_at book l)) owes.goes (λ was. record { calling = was.calling; joined = was.joined })
+phased_owing book mid l m n owes = phased_to book mid l (owing m n (lane_at book l)) owes.goes (λ was. record { calling = was.calling; joined = was.joined; undone = was.undone })
 
 pub phased_places : {E : Type 0} (book stocked : Book E) → HasMorePlaces book stocked → ArePhased book → ArePhased stocked
 phased_places book stocked places phased k = subst IsPhased (sym (ap (λ (b : Book _). lane_at b k) places.is)) (phased k)
@@ -135,6 +136,8 @@ pub phased_roomier : {E : Type 0} (lane later : Lane E) → IsRoomier lane later
 phased_roomier lane later more was = record {
   calling = λ some. ap (λ (x : Lane _). x.phase) more.is ∙ was.calling (λ e. some (ap (λ (x : Lane _). x.doing) more.is ∙ e));
   joined = ap (λ (x : Lane _). x.entered) more.is ∙ was.joined ∙ sym (ap (λ (x : Lane _). is_commit x.doing && clears_in (stage_of x)) more.is);
+  undone = λ on off. ap (λ (x : Lane _). x.stored) more.is ∙
+      was.undone (sym (ap (λ (x : Lane _). clears_in (stage_of x)) more.is) ∙ on) (sym (ap (λ (x : Lane _). is_commit x.doing) more.is) ∙ off);
 }
 
 -- no entry has joined before
@@ -145,6 +148,7 @@ pub phased_aborting : {E : Type 0} (lane later : Lane E) → lane.doing ≡ Doin
 phased_aborting lane later nothing it was = record {
   calling = λ some. ap (λ (x : Lane _). x.phase) it.asks.is;
   joined = ap (λ (x : Lane _). x.entered) it.asks.is ∙ unjoined lane nothing was ∙ sym (ap (λ (x : Lane _). is_commit x.doing && clears_in (stage_of later)) it.asks.is);
+  undone = λ on off. (let wrong : true ≡ false = sym on ∙ ap (λ (x : Lane _). clears_in (stage_of x)) it.asks.is ∙ begins_clear lane.has_records Doing.Abort in absurd (cc));
 }
 
 -- a commit doesn't close yet
@@ -153,7 +157,7 @@ not_clearing true = refl
 not_clearing false = refl
 
 pub phased_committing : {E : Type 0} (l : ℕ) (deed : E) (writes : List _) (lane : Lane E) → lane.doing ≡ Doing.Nothing → IsPhased lane → IsPhased (committing l deed writes lane)
-phased_committing l deed writes lane nothing was = record { calling = λ some. refl; joined = unjoined lane nothing was ∙ sym (not_clearing lane.has_records) }
+phased_committing l deed writes lane nothing was = record { calling = λ some. refl; joined = unjoined lane nothing was ∙ sym (not_clearing lane.has_records); undone = λ on off. (let wrong : true ≡ false = off in absurd (cc)) }
 
 -- ---- what is reserved
 
@@ -247,6 +251,7 @@ same_aborting lane later it = record {
   updates = it.asks.updates_stay;
   stored = ap (λ (x : Lane _). x.stored) it.asks.is;
   gives = it.asks.gives_more ∙ append-nil lane.gives.items;
+  gates = it.gates_stay;
   has_records = ap (λ (x : Lane _). x.has_records) it.asks.is;
   rolled = ap (λ (x : Lane _). x.rolled) it.asks.is;
   ended = ap (λ (x : Lane _). x.ended) it.asks.is;
@@ -259,11 +264,12 @@ none_there : {E : Type 0} (e : Entry E) → Some e ≡ None → ⊥
 none_there e is = cc
 
 pub asks_abort : {E : Type 0} (layout : Layout) (book : Book E) (keeper : LogKeeper) (l : ℕ) (lane : Lane E) → (lane_at book l).doing ≡ Doing.Nothing → (lane_at book l).phase ≡ Phase.In →
-    (lane_at book l).entry ≡ None → IsAskedOf (lane_at book l) Call.Abort Doing.Abort [] [] 0 lane → OwesEnd layout keeper l false (lane_at book l) → AsksEnd layout book keeper l false lane
-asks_abort layout book keeper l lane nothing phase none it enough = record {
+    (lane_at book l).entry ≡ None → IsAskedOf (lane_at book l) Call.Abort Doing.Abort [] [] 0 lane → (lane_at book l).gives.items ≡ [] → OwesEnd layout keeper l false (lane_at book l) → AsksEnd layout book keeper l false lane
+asks_abort layout book keeper l lane nothing phase none it gives enough = record {
   between = is_between (lane_at book l) nothing phase;
   ends = ap (λ (x : Lane _). stage_of x) it.asks.is ∙ sym (ap (λ (x : Lane _). if x.has_records then Opening else Leaving) it.asks.is);
   commits_is = ap (λ (x : Lane _). is_commit x.doing) it.asks.is;
+  no_gives = it.asks.gives_more ∙ (append-nil (lane_at book l).gives.items ∙ gives);
   same = same_aborting (lane_at book l) lane it;
   writes = it.asks.writes_more ∙ append-nil (lane_at book l).writes.items;
   entry_is = λ on. absurd (cc);
@@ -279,7 +285,7 @@ pub stays_aborting : {E : Type 0} (deeds : Deeds E) (layout : Layout) (base : Ba
     May deeds (faces_of base book l) Call.Abort → IsKept deeds layout base book keeper region spare counts → IsKept deeds layout base later keeper region spare counts
 stays_aborting deeds layout base book later keeper region spare counts l lt nothing phase good enough asked reserved fits may world = ∥∥₁_map world (λ w. record {
   state = ends_are_asked layout _ book later keeper region spare counts.events l false (lane_at later l)
-      (asks_abort layout book keeper l (lane_at later l) nothing phase (w.state.is_book.entries.others l (ap is_commit nothing)).none asked.lane enough)
+      (asks_abort layout book keeper l (lane_at later l) nothing phase (w.state.is_book.entries.others l (ap is_commit nothing)).none asked.lane (w.lawful.lanes l).no_gives enough)
       (λ q. none_reserved 0 Call.Abort book later l layout.partitions 0 q refl (reserved 0)) (goes_to book later l (lane_at later l) book.touched lt asked.is) good w.state;
   lawful = asks_keep deeds layout base book later l 0 Call.Abort Doing.Abort [] w.lawful lt nothing (laws.plain steps.abort) fits may asked;
 })
@@ -306,6 +312,7 @@ asks_commit layout book keeper l deed nothing phase none begun gives room enough
   between = is_between (lane_at book l) nothing phase;
   ends = refl;
   commits_is = refl;
+  no_gives = gives;
   same = record {
     transaction = refl;
     held = refl;
@@ -314,6 +321,7 @@ asks_commit layout book keeper l deed nothing phase none begun gives room enough
     updates = refl;
     stored = refl;
     gives = refl;
+    gates = refl;
     has_records = refl;
     rolled = refl;
     ended = refl;

@@ -55,7 +55,7 @@ owed_phases book later l m n owes phased k = elim (eqb_tells k l) [
 ]
 
 roomier_phased : {E : Type 0} (lane later : Lane E) → IsRoomier lane later → IsPhased lane → IsPhased later
-roomier_phased lane later roomier phased = subst IsPhased (sym roomier.is) (record { calling = phased.calling; joined = phased.joined })
+roomier_phased lane later roomier phased = subst IsPhased (sym roomier.is) (record { calling = phased.calling; joined = phased.joined; undone = phased.undone })
 
 pub roomier_phases : {E : Type 0} (book later : Book E) (l : ℕ) → l < length book.lanes.items → IsRoomierIn book later l → ArePhased book → ArePhased later
 roomier_phases book later l lt roomier = phased_with book later l (lane_at later l) book.touched lt (ap (λ (b : Book _). b.lanes) roomier.is) (roomier_phased (lane_at book l) (lane_at later l) roomier.lane)
@@ -63,7 +63,7 @@ roomier_phases book later l lt roomier = phased_with book later l (lane_at later
 asks_phased : {E : Type 0} (lane later : Lane E) (call : Call E) (doing : Doing) (writes : List WordWrite) (gives : List ℕ) (promised : ℕ) → lane.doing ≡ Doing.Nothing →
     AsksFor lane call doing writes gives promised later → IsPhased lane → IsPhased later
 asks_phased lane later call doing writes gives promised nothing asks phased =
-    let was = asked_phased call doing promised lane nothing phased in subst IsPhased (sym asks.is) (record { calling = was.calling; joined = was.joined })
+    let was = asked_phased call doing promised lane nothing phased in subst IsPhased (sym asks.is) (record { calling = was.calling; joined = was.joined; undone = was.undone })
 
 pub asked_phases : {E : Type 0} (book later : Book E) (l : ℕ) (call : Call E) (doing : Doing) (writes : List WordWrite) (gives : List ℕ) (promised : ℕ) → l < length book.lanes.items →
     (lane_at book l).doing ≡ Doing.Nothing → IsAskedIn call doing writes gives promised book later l → ArePhased book → ArePhased later

@@ -46,6 +46,7 @@ asks_write layout book l a v lane nothing phase none it data_word own events rec
     updates = it.asks.updates_stay;
     stored = ap (λ (x : Lane _). x.stored) it.asks.is;
     gives = it.asks.gives_more ∙ append-nil (lane_at book l).gives.items;
+    gates = it.gates_stay;
     has_records = ap (λ (x : Lane _). x.has_records) it.asks.is;
     rolled = ap (λ (x : Lane _). x.rolled) it.asks.is;
     ended = ap (λ (x : Lane _). x.ended) it.asks.is;
@@ -56,6 +57,7 @@ asks_write layout book l a v lane nothing phase none it data_word own events rec
   writes = it.asks.writes_more;
   entry = it.entry_stays ∙ none;
   is_no_commit = ap (λ (x : Lane _). is_commit x.doing) it.asks.is;
+  is_no_take = λ s k call. (let off : Doing.Write a v ≡ Doing.Take s k = sym (ap (λ (x : Lane _). x.doing) it.asks.is) ∙ call in cc);
   data_word = data_word;
   own = own;
   waits = record { promised = (let e : lane.promised ≡ 2 = ap (λ (x : Lane _). x.promised) it.asks.is in omega (arith, e)); place = it.updates_fit };

@@ -49,7 +49,8 @@ use Rattle.txn_core.proofs.ClearedWords.{HasSoundWords, sound_words, sound_words
 use Rattle.txn_core.proofs.ClearedCalls.{cleared_clears}
 use Rattle.txn_core.proofs.PhasedSteps.{part_phased, paid_phased, clears_on, removal}
 use Rattle.txn_core.proofs.Phasing.{phased_with, left_phased}
-use Rattle.txn_core.proofs.Paid.{goes_with, paid_goes, paid_step, lawful_with, lawful_paid, lanes_paid, steps_world}
+use Rattle.txn_core.proofs.Paid.{goes_with, paid_goes, paid_step, lawful_with, lawful_paid, lanes_paid, count_paid, steps_world}
+use Rattle.txn_core.proofs.Touching.{touches_none, made_leaves}
 
 -- the plain world behind the event
 module _ {E : Type 0} (layout : Layout) (start : Words) (book : Book E) (keeper : LogKeeper) (region behind : Region) (spare left events made l : ℕ) (e : Event)
@@ -108,6 +109,9 @@ cleared_world deeds layout book between later keeper mid kept words region behin
     (part_phased book between later l DROP lt pays moves.is
     (clears_on (lane_at book l).phase (lane_at book l).has_records (lane_at book l).part DROP (lane_at book l).doing removal clears ∙ sym clears))
     (subst (λ (a : Stepped). IsCause layout book keeper counts l a) (sym told) tt)
+    (count_paid book between later l (moved DROP (lane_at between l)) pays (ap (λ (b : Book _). b.lanes) moves.is))
+    (λ base world. touches_none layout region behind later.touched (ap (λ (b : Book _). b.touched) moves.is)
+    (made_leaves layout (start_of layout base) book keeper region behind spare left counts.events after.events l e is world.state))
   where
     clears : clears_in (stage_of (lane_at book l)) ≡ true
     clears = cleared_clears (lane_at book l) at
@@ -134,6 +138,9 @@ cleared_world deeds layout book between later keeper mid kept words region behin
     (λ phased. phased_with between later l (left_lane (end_reply (is_commit (lane_at between l).doing)) (lane_at between l)) None inside
     (ap (λ (b : Book _). b.lanes) moves.is) (left_phased (lane_at between l) (end_reply (is_commit (lane_at between l).doing))) (paid_phased book between l lt pays phased))
     (subst (λ (a : Stepped). IsCause layout book keeper counts l a) (sym told) tt)
+    (count_paid book between later l (left_lane (end_reply (is_commit (lane_at between l).doing)) (lane_at between l)) pays (ap (λ (b : Book _). b.lanes) moves.is))
+    (λ base world. touches_none layout region behind later.touched (ap (λ (b : Book _). b.touched) moves.is)
+    (made_leaves layout (start_of layout base) book keeper region behind spare left counts.events after.events l e is world.state))
   where
     inside : l < length between.lanes.items
     inside = lanes_paid book between l pays lt

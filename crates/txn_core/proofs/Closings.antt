@@ -36,7 +36,8 @@ use Rattle.txn_core.specs.Stepping.{StepsWorld, HasMade, IsCause}
 use Rattle.txn_core.proofs.Latches.{slots_kept, slot_of_lane}
 use Rattle.txn_state.specs.ReadLaws.{clears_in}
 use Rattle.txn_core.proofs.PhasedSteps.{part_phased, clears_on, end_group}
-use Rattle.txn_core.proofs.Paid.{goes_with, paid_goes, paid_step, lawful_with, lawful_paid, lanes_paid, steps_world}
+use Rattle.txn_core.proofs.Paid.{goes_with, paid_goes, paid_step, lawful_with, lawful_paid, lanes_paid, count_paid, steps_world}
+use Rattle.txn_core.proofs.Touching.{touches_none, made_leaves}
 
 -- ---- the keeper behind the event
 
@@ -67,6 +68,9 @@ closing_whole deeds layout book between later keeper mid kept region behind spar
     (part_phased book between later l CLOSE_END lt pays moves.is
     (clears_on (lane_at book l).phase (lane_at book l).has_records (lane_at book l).part CLOSE_END (lane_at book l).doing end_group (ap clears_in at) ∙ sym (ap clears_in at)))
     (subst (λ (a : Stepped). IsCause layout book keeper counts l a) (sym told) tt)
+    (count_paid book between later l (moved CLOSE_END (lane_at between l)) pays (ap (λ (b : Book _). b.lanes) moves.is))
+    (λ base world. touches_none layout region behind later.touched (ap (λ (b : Book _). b.touched) moves.is)
+    (made_leaves layout (start_of layout base) book keeper region behind spare left counts.events after.events l e is world.state))
   where
     inside : l < length between.lanes.items
     inside = lanes_paid book between l pays lt

@@ -2,10 +2,13 @@
 use Rattle.std.proofs.Common.{◌≡◌, ℕ, ◌%◌, ◌<◌, ◌++◌, ◌∷◌, [], true, false, List, length, Option, Some, None, refl, sym, ap, ◌∙◌, subst}
 use Rattle.std.proofs.Math.Logic.{∥∥₁_map, ∥∥₁_elim}
 use Rattle.std.proofs.Math.Bridge.{le_prop}
-use Rattle.persist_model.specs.Region.{Region}
+use Rattle.std.proofs.Math.Nat.{ℕ_set}
+use Rattle.persist_model.specs.Records.{Record}
+use Rattle.persist_model.specs.Region.{Words, Region}
 use Rattle.lane_traits.specs.Device.{Counts}
 use Rattle.region_layout.specs.declared.cell.Cell.{Cell}
 use Rattle.region_layout.specs.declared.layout.Layout.{Layout}
+use Rattle.region_layout.specs.Layout.{layout_shape}
 use Rattle.lane_types.specs.declared.call.Stepped.{Stepped}
 use Rattle.lane_types.specs.declared.face.Entry.{Entry}
 use Rattle.lane_types.specs.Deeds.{Deeds}
@@ -29,7 +32,10 @@ use Rattle.log_keeper.specs.Logged.{Keeping}
 use Rattle.txn_state.specs.declared.parts.TheConstants.{CLOSE}
 use Rattle.txn_state.specs.Changes.{JoinsTo}
 use Rattle.txn_state.specs.Stages.{Ending, stage_of, is_commit}
+use Rattle.txn_laws.specs.Txns.{txn_at}
 use Rattle.txn_state.specs.AppendLaws.{IsNextCell, made_in, closing_begun}
+use Rattle.txn_state.specs.States.{IsStateOf}
+use Rattle.txn_state.specs.Ties.{IsCome, IsEndingIt, under_of}
 use Rattle.txn_state.proofs.EndsSettling.{undone_ends_settle, commit_ends_settle}
 use Rattle.txn_state.proofs.ListRooms.{lists_are_kept}
 use Rattle.txn_core.specs.declared.advancing.Went.TheVariants as Went
@@ -51,6 +57,7 @@ use Rattle.txn_core.proofs.Phasing.{phased_with, other_phased, joined_phased}
 use Rattle.txn_core.proofs.Quieting.{joins_to}
 use Rattle.txn_core.proofs.UnderWay.{begun_paid, begun_world, begun_phased, whole_paid}
 use Rattle.txn_core.proofs.EndedLanes.{paid_inside, paid_stage, paid_doing, paid_transaction, ending_recorded}
+use Rattle.txn_core.proofs.Touching.{TouchesNone, touches_prop, touches_none, advance_leaves, none_with}
 
 -- ---- the keeper's memory
 
@@ -109,6 +116,7 @@ record IsSettled {E : Type 0} (deeds : Deeds E) (layout : Layout) (book between 
   step : Steps deeds between later l answer
   stays : (base : Base) → IsWorld deeds layout base book keeper region spare counts.events → IsWorld deeds layout base later kept behind left after.events
   phased : ArePhased book → ArePhased later
+  touches : TouchesNone between later
 
 -- A step behind the begin of an append is one from before it.
 settled_step : {E : Type 0} (deeds : Deeds E) (layout : Layout) (book begun_book between later : Book E) (keeper begun_log mid kept : LogKeeper)
@@ -129,9 +137,22 @@ settled_step deeds layout book begun_book between later keeper begun_log mid kep
       made = subst (λ (a : Stepped). HasMade a counts after) (sym settled.told) one.counted;
       phased = λ phased. settled.phased (begun_phased layout keeper begun_log book begun_book words l cell lt begun phased);
       cause = subst (λ (a : Stepped). IsCause layout book keeper counts l a) (sym settled.told) tt;
+      count = settled.touches.count ∙ one.paid.goes.lanes.count ∙ paid.goes.lanes.count;
+      touches = λ base stood. ∥∥₁_elim stood (touches_prop layout region behind later.touched) (λ world.
+          touches_none layout region behind later.touched settled.touches.none
+          (advance_leaves deeds layout (start_of layout base) begun_book between begun_log mid region behind spare left counts after l Went.Whole advance
+          (begun_world deeds layout base keeper begun_log book begun_book words region spare counts l cell read lt next begun world).state));
     }
 
 -- ---- an abort
+
+-- where its end comes next, all that it wrote is taken back
+unstored : {E : Type 0} (layout : Layout) (start : Words) (book : Book E) (keeper : LogKeeper) (region : Region) (spare events l : ℕ) → l < length book.lanes.items →
+    stage_of (lane_at book l) ≡ Ending → is_commit (lane_at book l).doing ≡ false → IsStateOf layout start book keeper region spare events → (lane_at book l).stored ≡ 0
+unstored layout start book keeper region spare events l lt at aborts st =
+    let own = st.tied.each l (subst (λ n. l < n) (sym st.tied.lanes) lt) in
+    let come : IsEndingIt _ (txn_at st.w.lanes l) = subst (IsCome st.s.log (under_of (layout_shape layout) st.w l) (txn_at st.w.lanes l)) at own.come in
+    sym own.txn.stored ∙ come.stored_are ∙ ap (λ (rs : List Record). length rs) (come.undone_all (own.txn.commits ∙ aborts))
 
 undone_world : {E : Type 0} (deeds : Deeds E) (layout : Layout) (base : Base) (book between later : Book E) (keeper mid kept : LogKeeper)
     (region behind : Region) (spare left : ℕ) (counts after : Counts) (l : ℕ) (answer : Stepped) →
@@ -155,10 +176,10 @@ undone_world deeds layout base book between later keeper mid kept region behind 
 
 undone_phased : {E : Type 0} (book between later : Book E) (l : ℕ) → l < length book.lanes.items →
     between ≡ with_lane book l (paid_event (lane_at book l)) book.touched →
-    is_commit (lane_at between l).doing ≡ false → later ≡ with_lane between l (moved CLOSE (lane_at between l)) None → ArePhased book → ArePhased later
-undone_phased book between later l lt pays aborts is phased =
+    is_commit (lane_at between l).doing ≡ false → (lane_at between l).stored ≡ 0 → later ≡ with_lane between l (moved CLOSE (lane_at between l)) None → ArePhased book → ArePhased later
+undone_phased book between later l lt pays aborts none is phased =
     phased_with between later l (moved CLOSE (lane_at between l)) None (lanes_paid book between l pays lt) (ap (λ (b : Book _). b.lanes) is)
-    (other_phased (lane_at between l) CLOSE aborts) (paid_phased book between l lt pays phased)
+    (other_phased (lane_at between l) CLOSE aborts (λ on. none)) (paid_phased book between l lt pays phased)
 
 pub undone_settles : {E : Type 0} (deeds : Deeds E) (layout : Layout) (book between later : Book E) (keeper mid kept : LogKeeper) (words : List ℕ)
     (region behind : Region) (spare left : ℕ) (counts after : Counts) (l : ℕ) (cell : Cell) (answer : Stepped) →
@@ -166,12 +187,12 @@ pub undone_settles : {E : Type 0} (deeds : Deeds E) (layout : Layout) (book betw
     IsNextCell region (lane_at book l) cell →
     Appends deeds layout keeper mid words region behind counts after spare left book between l cell Went.Whole →
     HasTurned mid kept (closing_begun (l % layout.partitions) (lane_at book l).transaction (keeping_of mid)) → answer ≡ Stepped.Moved →
-    Moves deeds between later l None answer (moved CLOSE (lane_at between l)) → StepsWorld deeds layout book later keeper kept region behind spare left counts
-    after l answer
+    Moves deeds between later l None answer (moved CLOSE (lane_at between l)) → HasWorld deeds layout book keeper region spare counts →
+    StepsWorld deeds layout book later keeper kept region behind spare left counts after l answer
 undone_settles deeds layout book between later keeper mid kept words region behind spare left counts after l cell answer read lt at aborts next
-    (waits holder is waiting same device) turned told moves = absurd (cc)
+    (waits holder is waiting same device) turned told moves has = absurd (cc)
 undone_settles deeds layout book between later keeper mid kept words region behind spare left counts after l cell answer read lt at aborts next
-    (runs begun_log begun_book begun advance) turned told moves =
+    (runs begun_log begun_book begun advance) turned told moves has =
     let paid = begun_paid layout keeper begun_log book begun_book words l cell lt begun in
     let inside = paid_inside book begun_book l paid in
     let none = ap is_commit (paid_doing book begun_book l paid) ∙ aborts in
@@ -186,7 +207,11 @@ undone_settles deeds layout book between later keeper mid kept words region behi
           moves world;
       phased = undone_phased begun_book between later l inside pays
           (ap (λ (x : Lane _). is_commit x.doing) (goes_with begun_book between l (paid_event (lane_at begun_book l)) begun_book.touched inside pays).lanes.here
-          ∙ none) moves.is;
+          ∙ none)
+          (ap (λ (x : Lane _). x.stored) (goes_with begun_book between l (paid_event (lane_at begun_book l)) begun_book.touched inside pays).lanes.here
+          ∙ ∥∥₁_elim has (ℕ_set _ _) (λ w. unstored layout (start_of layout w.0) begun_book begun_log region spare counts.events l inside (paid_stage book begun_book l paid ∙ at) none
+          (begun_world deeds layout w.0 keeper begun_log book begun_book words region spare counts l cell read lt next begun w.1).state)) moves.is;
+      touches = none_with between later l (moved CLOSE (lane_at between l)) (ap (λ (b : Book _). b.lanes) moves.is) (ap (λ (b : Book _). b.touched) moves.is);
     })
 
 -- ---- a commit
@@ -271,4 +296,6 @@ commit_settles deeds layout book between later keeper mid kept words region behi
           found.1 (joins found.0 found.1) was_book is_book world;
       phased = commit_phased begun_book between later l found.0 inside pays (paid_doing begun_book between l one ∙ call)
           (paid_stage begun_book between l one ∙ stage) (joins found.0 found.1);
+      touches = none_with between later l (moved CLOSE (entered_lane (lane_at between l))) (ap (λ (b : Book _). b.lanes) (joins found.0 found.1))
+          (ap (λ (b : Book _). b.touched) (joins found.0 found.1));
     })

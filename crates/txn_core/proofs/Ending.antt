@@ -30,7 +30,8 @@ use Rattle.txn_core.specs.Making.{Makes, stopped, made}
 use Rattle.txn_core.specs.States.{IsWorld, start_of}
 use Rattle.txn_core.specs.Stepping.{StepsWorld, HasMade, IsCause}
 use Rattle.txn_core.proofs.PhasedSteps.{part_phased, end_open, fence_open}
-use Rattle.txn_core.proofs.Paid.{goes_with, paid_goes, paid_step, lawful_with, lawful_paid, lanes_paid, steps_world, stops_world}
+use Rattle.txn_core.proofs.Paid.{goes_with, paid_goes, paid_step, lawful_with, lawful_paid, lanes_paid, count_paid, steps_world, stops_world}
+use Rattle.txn_core.proofs.Touching.{touches_none, log_leaves}
 
 pub fenced_world : {E : Type 0} (deeds : Deeds E) (layout : Layout) (book between later : Book E) (keeper : LogKeeper) (region behind : Region) (spare left : ℕ) (counts after : Counts) (l : ℕ) (answer : Stepped) → answer ≡ Stepped.Moved →
     l < length book.lanes.items → (stage_of (lane_at book l) ≡ Securing) ⊎ (stage_of (lane_at book l) ≡ Keeping) →
@@ -41,6 +42,8 @@ fenced_world deeds layout book between later keeper region behind spare left cou
     (subst (λ (a : Stepped). HasMade a counts after) (sym told) counted)
     (part_phased book between later l END lt paid moves.is (end_open (lane_at book l).phase (lane_at book l).has_records (lane_at book l).doing ∙ sym (fence_open (stage_of (lane_at book l)) at)))
     (subst (λ (a : Stepped). IsCause layout book keeper counts l a) (sym told) tt)
+    (count_paid book between later l (moved END (lane_at between l)) paid (ap (λ (b : Book _). b.lanes) moves.is))
+    (λ base world. touches_none layout region behind later.touched (ap (λ (b : Book _). b.touched) moves.is) (log_leaves layout region behind l Fence event.cells tt))
   where
     inside : l < length between.lanes.items
     inside = lanes_paid book between l paid lt

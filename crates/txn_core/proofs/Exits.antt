@@ -1,6 +1,6 @@
 -- What each end of a step leaves of the state, and of the faces.
-use Rattle.std.proofs.Common.{◌≡◌, ℕ, ◌%◌, ◌<◌, true, List, length, None, sym, ap, subst, refl}
-use Rattle.std.proofs.Math.Logic.{∥∥₁_map}
+use Rattle.std.proofs.Common.{◌≡◌, ℕ, ◌%◌, ◌<◌, true, List, length, None, sym, ap, ◌∙◌, subst, refl}
+use Rattle.std.proofs.Math.Logic.{∥∥₁_map, ∥∥₁_elim}
 use Rattle.persist_model.specs.Region.{Region}
 use Rattle.lane_traits.specs.Device.{Counts}
 use Rattle.region_layout.specs.declared.cell.Cell.{Cell}
@@ -20,6 +20,7 @@ use Rattle.txn_state.specs.AppendLaws.{IsNextCell, Notices, LetsGoOne, GoesOnTo}
 use Rattle.txn_state.specs.ReadLaws.{appends_in, clears_in}
 use Rattle.txn_core.specs.declared.advancing.Went.{Went}
 use Rattle.txn_core.specs.Advancing.{Advances, Appends}
+use Rattle.txn_core.specs.States.{start_of}
 use Rattle.txn_core.specs.Stepping.{StepsWorld}
 use Rattle.txn_core.specs.Advancing.{WaitsForLatch, IsSameDevice, waits, runs}
 use Rattle.txn_core.proofs.Facts.{IsRead}
@@ -27,6 +28,7 @@ use Rattle.txn_core.proofs.Paying.{IsPaid, paid_then, paid_step, inside_then}
 pub use Rattle.txn_core.proofs.UnderWay.{LetsLatchGo, answered_cause}
 use Rattle.txn_core.proofs.UnderWay.{begun_paid, begun_world_if_free, same_device, noted_world, answered_world, answered_made, answered_step, stored_world, stored_paid, settled_world, whole_paid, begun_phased, answered_phased, stored_phased, whole_phased}
 use Rattle.txn_core.proofs.Phasing.{phased_with, noted_phased}
+use Rattle.txn_core.proofs.Touching.{touches_prop, touches_none, same_leaves, advance_leaves, count_with, answered_none}
 
 -- the lane waits for the latch
 waits_exit : {E : Type 0} (deeds : Deeds E) (layout : Layout) (book later : Book E) (keeper kept : LogKeeper) (region behind : Region) (spare left : ℕ) (counts after : Counts) (l holder : ℕ) →
@@ -42,6 +44,8 @@ waits_exit deeds layout book later keeper kept region behind spare left counts a
   phased = phased_with book later l (noted (Stepped.Waiting (What.Latch (l % layout.partitions)) holder) (lane_at book l)) None lt (ap (λ (b : Book _). b.lanes) waiting.moves.is)
       (noted_phased (lane_at book l) (Stepped.Waiting (What.Latch (l % layout.partitions)) holder));
   cause = record { part = refl; held = waiting.held; some = waiting.some; other = waiting.other };
+  count = count_with book later l (noted (Stepped.Waiting (What.Latch (l % layout.partitions)) holder) (lane_at book l)) (ap (λ (b : Book _). b.lanes) waiting.moves.is);
+  touches = λ base stood. touches_none layout region behind later.touched (ap (λ (b : Book _). b.touched) waiting.moves.is) (same_leaves layout region behind device.region_stays);
 }
 
 same_answer : (answer other : Stepped) → Went.Answered answer ≡ Went.Answered other → answer ≡ other
@@ -73,6 +77,11 @@ append_answered_if_free deeds layout book later keeper kept words region behind 
       phased = λ phased. answered_phased deeds layout between later mid kept region behind spare left counts after l answer inside advance
           (begun_phased layout keeper mid book between words l cell lt begun phased);
       cause = answered_cause deeds layout book keeper between later mid kept region behind spare left counts after l answer advance;
+      count = (answered_none deeds layout between later mid kept region behind spare left counts after l answer advance).count ∙ paid.goes.lanes.count;
+      touches = λ base stood. ∥∥₁_elim stood (touches_prop layout region behind later.touched) (λ world.
+          touches_none layout region behind later.touched (answered_none deeds layout between later mid kept region behind spare left counts after l answer advance).none
+          (advance_leaves deeds layout (start_of layout base) between later mid kept region behind spare left counts after l (Went.Answered answer) advance
+          (begun_world_if_free deeds layout base keeper mid book between words region spare counts l cell read lt next begun world).state));
     }
 
 pub append_answered : {E : Type 0} (deeds : Deeds E) (layout : Layout) (book later : Book E) (keeper kept : LogKeeper) (words : List ℕ) (region behind : Region) (spare left : ℕ) (counts after : Counts) (l : ℕ) (cell : Cell) (answer : Stepped) →
@@ -104,6 +113,11 @@ append_stored_if_free deeds layout book between later keeper kept words region b
       phased = λ phased. stored_phased deeds layout begun_book between later mid kept region behind spare left counts after l c lane inside advance notices moves
           (begun_phased layout keeper mid book begun_book words l cell lt begun phased);
       cause = tt;
+      count = count_with between later l (moved (lane_at between l).part lane) (ap (λ (b : Book _). b.lanes) moves.is) ∙ one.paid.goes.lanes.count ∙ paid.goes.lanes.count;
+      touches = λ base stood. ∥∥₁_elim stood (touches_prop layout region behind later.touched) (λ world.
+          touches_none layout region behind later.touched (ap (λ (b : Book _). b.touched) moves.is)
+          (advance_leaves deeds layout (start_of layout base) begun_book between mid kept region behind spare left counts after l (Went.Stored c) advance
+          (begun_world_if_free deeds layout base keeper mid book begun_book words region spare counts l cell read lt next begun world).state));
     }
 
 pub append_stored : {E : Type 0} (deeds : Deeds E) (layout : Layout) (book between later : Book E) (keeper kept : LogKeeper) (words : List ℕ) (region behind : Region) (spare left : ℕ) (counts after : Counts) (l : ℕ) (cell c : Cell) (lane : Lane E) →
@@ -137,6 +151,11 @@ append_settled_if_free deeds layout book between later keeper mid kept words reg
       phased = λ phased. whole_phased deeds layout begun_book between later begun_log mid region behind spare left counts after l part inside advance goes moves
           (begun_phased layout keeper begun_log book begun_book words l cell lt begun phased);
       cause = tt;
+      count = count_with between later l (moved part (lane_at between l)) (ap (λ (b : Book _). b.lanes) moves.is) ∙ one.paid.goes.lanes.count ∙ paid.goes.lanes.count;
+      touches = λ base stood. ∥∥₁_elim stood (touches_prop layout region behind later.touched) (λ world.
+          touches_none layout region behind later.touched (ap (λ (b : Book _). b.touched) moves.is)
+          (advance_leaves deeds layout (start_of layout base) begun_book between begun_log mid region behind spare left counts after l Went.Whole advance
+          (begun_world_if_free deeds layout base keeper begun_log book begun_book words region spare counts l cell read lt next begun world).state));
     }
 
 pub append_settled : {E : Type 0} (deeds : Deeds E) (layout : Layout) (book between later : Book E) (keeper mid kept : LogKeeper) (words : List ℕ) (region behind : Region) (spare left : ℕ) (counts after : Counts) (l part : ℕ) (cell : Cell) →
@@ -159,4 +178,8 @@ clearing_answered deeds layout book later keeper kept region behind spare left c
   made = answered_made deeds layout book later keeper kept region behind spare left counts after l answer went;
   phased = answered_phased deeds layout book later keeper kept region behind spare left counts after l answer lt went;
   cause = answered_cause deeds layout book keeper book later keeper kept region behind spare left counts after l answer went;
+  count = (answered_none deeds layout book later keeper kept region behind spare left counts after l answer went).count;
+  touches = λ base stood. ∥∥₁_elim stood (touches_prop layout region behind later.touched) (λ world.
+      touches_none layout region behind later.touched (answered_none deeds layout book later keeper kept region behind spare left counts after l answer went).none
+      (advance_leaves deeds layout (start_of layout base) book later keeper kept region behind spare left counts after l (Went.Answered answer) went world.state));
 }

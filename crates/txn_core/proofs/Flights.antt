@@ -17,7 +17,7 @@ use Rattle.history_laws.specs.UnderWay.{UnderWay}
 use Rattle.txn_laws.specs.Txns.{Txn, txn_at, entry_of}
 use Rattle.txn_laws.specs.Flights.{is_flying, flight_of}
 use Rattle.txn_laws.proofs.Moments.{worlds_stand}
-use Rattle.txn_state.specs.Stages.{Stage, Free, Between, Leaving, Naming, Storing, Securing, Opening, Undoing, TakingBack, Keeping, Ending, Closing, ClosingEnd, Dropping, Unbuilt, stage_of}
+use Rattle.txn_state.specs.Stages.{Stage, Free, Between, Leaving, Naming, Storing, Securing, Opening, Undoing, TakingBack, Keeping, Ending, Closing, ClosingEnd, Dropping, Unbuilt, stage_of, Deleting}
 use Rattle.txn_state.specs.Ties.{IsCome, plain_entry, under_of}
 use Rattle.txn_state.specs.ReadLaws.{clears_in}
 use Rattle.txn_state.specs.States.{IsStateOf}
@@ -39,6 +39,7 @@ over_by log u x Ending come = sym come.going.runs
 over_by log u x Closing come = sym come.over.is_over
 over_by log u x ClosingEnd come = sym come.over.is_over
 over_by log u x Dropping come = sym come.over.is_over
+over_by log u x Deleting come = sym come.going.runs
 over_by log u x Unbuilt come = absurd come
 
 -- what a lane has in flight, and its transaction

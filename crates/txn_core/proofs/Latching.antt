@@ -25,7 +25,7 @@ use Rattle.log_keeper.specs.Fitting.{FitsLayout}
 use Rattle.log_keeper.specs.Parts.{LogPart, rests, appends, closes, takes_back, drops}
 use Rattle.log_keeper.specs.Keeper.{keeping_of}
 use Rattle.log_keeper.specs.Logged.{Keeping as Kept, plan_in, with_holder}
-use Rattle.txn_state.specs.Stages.{Stage, Free, Between, Leaving, Naming, Storing, Securing, Opening, Undoing, TakingBack, Keeping, Ending, Closing, ClosingEnd, Dropping, Unbuilt, stage_of}
+use Rattle.txn_state.specs.Stages.{Stage, Free, Between, Leaving, Naming, Storing, Securing, Opening, Undoing, TakingBack, Keeping, Ending, Closing, ClosingEnd, Dropping, Unbuilt, stage_of, Deleting}
 use Rattle.txn_state.specs.AppendLaws.{IsNextCell}
 use Rattle.txn_state.specs.ReadLaws.{makes_events, appends_in, clears_in, HasNextEvent, IsNextPlaceSeen}
 use Rattle.txn_state.proofs.AppendBegins.{appends_begin}
@@ -56,6 +56,7 @@ append_makes Keeping e = cc
 append_makes Closing e = cc
 append_makes ClosingEnd e = cc
 append_makes Dropping e = cc
+append_makes Deleting e = refl
 append_makes Unbuilt e = cc
 
 pub clear_makes : (s : Stage) → clears_in s ≡ true → makes_events s ≡ true
@@ -73,6 +74,7 @@ clear_makes Storing e = cc
 clear_makes Securing e = cc
 clear_makes TakingBack e = cc
 clear_makes Keeping e = cc
+clear_makes Deleting e = cc
 clear_makes Unbuilt e = cc
 
 -- ---- a lane that owes other numbers

@@ -54,3 +54,15 @@ pub mod AbortingLedgers
 pub mod AbortingWords
 pub mod Crossing
 pub mod Unbuilt
+pub mod Touching
+pub mod OpenParts
+pub mod Agreeing
+pub mod Finding
+pub mod Laning
+pub mod Exactly
+pub mod ExactParts
+pub mod ExactJoins
+pub mod AskedExactly
+pub mod WorldLatches
+pub mod Gone
+mod ExactExamples

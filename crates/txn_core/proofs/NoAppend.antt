@@ -16,7 +16,7 @@ use Rattle.log_keeper.specs.Parts.{Running}
 use Rattle.history_laws.specs.UnderWay.{UnderWay, run_of}
 use Rattle.txn_laws.specs.Rooms.{is_append}
 use Rattle.txn_laws.specs.Txns.{Txn}
-use Rattle.txn_state.specs.Stages.{Stage, Free, Between, Leaving, Naming, Storing, Securing, Opening, Undoing, TakingBack, Keeping, Ending, Closing, ClosingEnd, Dropping, Unbuilt, stage_of}
+use Rattle.txn_state.specs.Stages.{Stage, Free, Between, Leaving, Naming, Storing, Securing, Opening, Undoing, TakingBack, Keeping, Ending, Closing, ClosingEnd, Dropping, Unbuilt, stage_of, Deleting}
 use Rattle.txn_state.specs.Ties.{under_of, IsCome}
 use Rattle.txn_state.specs.States.{IsStateOf}
 use Rattle.txn_state.specs.ReadLaws.{clears_in}
@@ -41,6 +41,7 @@ clears_no_append log u x Ending on come = cc
 clears_no_append log u x Closing on come = ap (λ (v : UnderWay). is_append (run_of v).part) come.under_way
 clears_no_append log u x ClosingEnd on come = ap (λ (v : UnderWay). is_append (run_of v).part) come.under_way
 clears_no_append log u x Dropping on come = ap (λ (v : UnderWay). is_append (run_of v).part) come.under_way
+clears_no_append log u x Deleting on come = cc
 clears_no_append log u x Unbuilt on come = absurd come
 
 no_append : {E : Type 0} (layout : Layout) (start : Words) (book : Book E) (keeper : LogKeeper) (region : Region) (spare events l : ℕ) → l < length book.lanes.items →

@@ -1,6 +1,7 @@
 -- What a book's calls change as the laws take it: a lane is another, for an event or a record it has paid, and the faces behind a payment are the same.
 use Rattle.std.proofs.Common.{◌≡◌, ℕ, ◌<◌, true, length, Option, None, inl, inr, refl, sym, ◌∙◌, ap, subst}
-use Rattle.std.proofs.Math.Logic.{∥∥₁_map}
+use Rattle.std.specs.Vec.{with_item}
+use Rattle.std.proofs.Math.Logic.{∥∥₁_map, ∥∥₁_elim}
 use Rattle.std.proofs.lemmas.List.{length-set}
 use Rattle.persist_model.specs.Region.{Region}
 use Rattle.lane_traits.specs.Device.{Counts}
@@ -28,8 +29,9 @@ use Rattle.txn_core.specs.Running.{HasStopped}
 use Rattle.txn_core.specs.Advancing.{Stops}
 use Rattle.txn_core.specs.States.{IsWorld, start_of}
 use Rattle.txn_core.specs.Phases.{ArePhased}
-use Rattle.txn_core.specs.Stepping.{StepsWorld, HasMade, IsCause}
+use Rattle.txn_core.specs.Stepping.{StepsWorld, TouchesWord, HasMade, IsCause}
 use Rattle.txn_core.proofs.Phasing.{phased_with, noted_phased}
+use Rattle.txn_core.proofs.Touching.{TouchesNone, count_with, none_with, same_leaves, touches_none, touches_prop}
 
 -- ---- lanes
 
@@ -107,13 +109,20 @@ pub lanes_paid : {E : Type 0} (book between : Book E) (l : ℕ) → between ≡ 
 lanes_paid book between l is lt = subst (λ (b : Book _). l < length b.lanes.items) (sym is)
     (subst (λ n. l < n) (sym (length-set book.lanes.items l (paid_event (lane_at book l)))) lt)
 
+pub count_paid : {E : Type 0} (book between later : Book E) (l : ℕ) (lane : Lane E) → between ≡ with_lane book l (paid_event (lane_at book l)) book.touched →
+    later.lanes ≡ with_item between.lanes l lane → length later.lanes.items ≡ length book.lanes.items
+count_paid book between later l lane pays is = count_with between later l lane is ∙ count_with book between l (paid_event (lane_at book l)) (ap (λ (b : Book _). b.lanes) pays)
+
 -- ---- steps of the world
 
 pub steps_world : {E : Type 0} (deeds : Deeds E) (layout : Layout) (book later : Book E) (keeper kept : LogKeeper) (region behind : Region) (spare left : ℕ) (counts after : Counts) (l : ℕ) (answer : Stepped) →
     ((base : Base) → IsWorld deeds layout base book keeper region spare counts.events → IsWorld deeds layout base later kept behind left after.events) →
     Steps deeds book later l answer → HasMade answer counts after → (ArePhased book → ArePhased later) → IsCause layout book keeper counts l answer →
+    length later.lanes.items ≡ length book.lanes.items → ((base : Base) → IsWorld deeds layout base book keeper region spare counts.events → TouchesWord layout region behind later.touched) →
     StepsWorld deeds layout book later keeper kept region behind spare left counts after l answer
-steps_world deeds layout book later keeper kept region behind spare left counts after l answer stays step made phased cause = record {
+steps_world deeds layout book later keeper kept region behind spare left counts after l answer stays step made phased cause count touches = record {
+  count = count;
+  touches = λ base is. ∥∥₁_elim is (touches_prop layout region behind later.touched) (touches base);
   phased = phased;
   cause = cause;
   stays = λ base is. ∥∥₁_map is (stays base);
@@ -140,6 +149,12 @@ noted_same answer lane = record {
   entry = refl;
   entered = refl;
   committing = refl;
+  takes = λ s k call. call;
+  due = refl;
+  gives_same = λ k call. call;
+  ending = refl;
+  gates = refl;
+  gates_wait = λ due. refl;
   promised = refl;
   owed_events = refl;
   owed_records = refl;
@@ -167,8 +182,11 @@ pub stops_world : {E : Type 0} (deeds : Deeds E) (layout : Layout) (book later :
 stops_world deeds layout book later keeper region behind spare left counts after l lt device stops =
     steps_world deeds layout book later keeper keeper region behind spare left counts after l Stepped.Stopped stays stops.step (inr device.counted_it)
     (phased_with book later l (noted Stepped.Stopped (lane_at book l)) None lt (ap (λ (b : Book _). b.lanes) stops.is) (noted_phased (lane_at book l) Stepped.Stopped))
-    (inl device.at_budget)
+    (inl device.at_budget) touched.count (λ base world. touches_none layout region behind later.touched touched.none (same_leaves layout region behind device.region_stays))
   where
+    touched : TouchesNone book later
+    touched = none_with book later l (noted Stepped.Stopped (lane_at book l)) (ap (λ (b : Book _). b.lanes) stops.is) (ap (λ (b : Book _). b.touched) stops.is)
+
     here : (base : Base) → IsWorld deeds layout base book keeper region spare counts.events → IsWorld deeds layout base later keeper region spare counts.events
     here base world = record {
       state = notes_keep layout (start_of layout base) book later keeper region spare counts.events l (noted Stepped.Stopped (lane_at book l))

@@ -59,7 +59,7 @@ clears_on Phase.Calling recorded part next Doing.Nothing behind clears = cc
 clears_on phase recorded part next (Doing.Begin set) behind clears = cc
 clears_on phase recorded part next (Doing.Read a) behind clears = cc
 clears_on phase recorded part next (Doing.Write a v) behind clears = absurd (write_open (part == STORE) clears)
-clears_on phase recorded part next (Doing.Take s block) behind clears = cc
+clears_on phase recorded part next (Doing.Take s block) behind clears = absurd (write_open (part == STORE) clears)
 clears_on phase recorded part next (Doing.Give block) behind clears = cc
 clears_on phase recorded part next Doing.Checkpoint behind clears = cc
 clears_on phase recorded part next (Doing.Batch n) behind clears = cc

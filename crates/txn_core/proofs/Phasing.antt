@@ -5,6 +5,7 @@ use Rattle.lane_types.specs.declared.call.Call.{Call}
 use Rattle.lane_types.specs.declared.call.Phase.{Phase}
 use Rattle.lane_types.specs.declared.call.Reply.{Reply}
 use Rattle.lane_types.specs.declared.call.Stepped.{Stepped}
+use Rattle.lane_types.specs.Faces.{phase_after}
 use Rattle.lane_book.specs.declared.book.Book.{Book}
 use Rattle.lane_book.specs.declared.lane.Lane.{Lane}
 use Rattle.lane_book.specs.declared.lane.Doing.{Doing}
@@ -15,6 +16,7 @@ use Rattle.txn_state.specs.Stages.{stage_at, stage_of, is_commit}
 use Rattle.txn_state.specs.ReadLaws.{clears_in}
 use Rattle.txn_state.specs.declared.parts.TheConstants.{CLOSE}
 use Rattle.txn_core.specs.Phases.{IsPhased, ArePhased}
+use Rattle.txn_core.proofs.OpenParts.{rests_open, begins_clear}
 
 -- One lane is another.
 pub phased_with : {E : Type 0} (book later : Book E) (l : ℕ) (lane : Lane E) (touched : Option ℕ) → l < length book.lanes.items → later.lanes ≡ (with_lane book l lane touched).lanes →
@@ -30,30 +32,38 @@ phased_with book later l lane touched lt is step phased k =
 
 module _ {E : Type 0} (lane : Lane E) where
   pub noted_phased : (answer : Stepped) → IsPhased lane → IsPhased (noted answer lane)
-  noted_phased answer phased = record { calling = phased.calling; joined = phased.joined }
+  noted_phased answer phased = record { calling = phased.calling; joined = phased.joined; undone = phased.undone }
 
   pub owing_phased : (events records : ℕ) → IsPhased lane → IsPhased (owing events records lane)
-  owing_phased events records phased = record { calling = phased.calling; joined = phased.joined }
+  owing_phased events records phased = record { calling = phased.calling; joined = phased.joined; undone = phased.undone }
+
+  pub closed_anyway : (reply : Reply) → IsPhased (closed reply lane)
+  closed_anyway reply = record { calling = λ some. absurd (some refl); joined = refl; undone = λ on off. absurd (rests_open (phase_after reply) on) }
 
   pub closed_phased : (reply : Reply) → IsPhased lane → IsPhased (closed reply lane)
-  closed_phased reply phased = record { calling = λ some. absurd (some refl); joined = refl }
+  closed_phased reply phased = closed_anyway reply
 
   pub left_phased : (reply : Reply) → IsPhased lane → IsPhased (left reply lane)
-  left_phased reply phased = record { calling = λ some. absurd (some refl); joined = refl }
+  left_phased reply phased = record { calling = λ some. absurd (some refl); joined = refl; undone = λ on off. refl }
 
   pub begun_phased : (n set joined : ℕ) → IsPhased lane → IsPhased (begun_lane n set joined lane)
-  begun_phased n set joined phased = record { calling = λ some. absurd (some refl); joined = refl }
+  begun_phased n set joined phased = record { calling = λ some. absurd (some refl); joined = refl; undone = λ on off. absurd (rests_open Phase.In on) }
 
   pub commit_left_phased : (reply : Reply) → IsPhased lane → IsPhased (left reply (entered_lane lane))
-  commit_left_phased reply phased = record { calling = λ some. absurd (some refl); joined = refl }
+  commit_left_phased reply phased = record { calling = λ some. absurd (some refl); joined = refl; undone = λ on off. refl }
 
   -- the call goes on at a part that closes or takes out, or not, as the one before
   pub moved_phased : (part : ℕ) → clears_in (stage_of (moved part lane)) ≡ clears_in (stage_of lane) → IsPhased lane → IsPhased (moved part lane)
-  moved_phased part same phased = record { calling = phased.calling; joined = phased.joined ∙ ap (λ (b : Bool). is_commit lane.doing && b) (sym same) }
+  moved_phased part same phased = record {
+    calling = phased.calling;
+    joined = phased.joined ∙ ap (λ (b : Bool). is_commit lane.doing && b) (sym same);
+    undone = λ on off. phased.undone (sym same ∙ on) off;
+  }
 
-  -- or at any, where it is no commit
-  pub other_phased : (part : ℕ) → is_commit lane.doing ≡ false → IsPhased lane → IsPhased (moved part lane)
-  other_phased part off phased = record {
+  -- or at any, where it is no commit, and none of its writes stands if that one closes
+  pub other_phased : (part : ℕ) → is_commit lane.doing ≡ false → (clears_in (stage_of (moved part lane)) ≡ true → lane.stored ≡ 0) → IsPhased lane → IsPhased (moved part lane)
+  other_phased part off undone phased = record {
+    undone = λ on no_commit. undone on;
     calling = phased.calling;
     joined = phased.joined ∙ ap (λ (b : Bool). b && clears_in (stage_of lane)) off ∙ ap (λ (b : Bool). b && clears_in (stage_of (moved part lane))) (sym off);
   }
@@ -63,13 +73,14 @@ module _ {E : Type 0} (lane : Lane E) where
   joined_phased doing recorded phased = record {
     calling = phased.calling;
     joined = sym (λ i. is_commit (doing i) && clears_in (stage_at lane.phase (recorded i) CLOSE (doing i)));
+    undone = λ on off. (let wrong : true ≡ false = sym (ap is_commit doing) ∙ off in absurd (cc));
   }
 
 -- ---- before the first step
 
 -- no lane is calling
 pub fresh_phased : {E : Type 0} (book : Book E) → ((l : ℕ) → lane_at book l ≡ idle_lane) → ArePhased book
-fresh_phased book idle l = subst IsPhased (sym (idle l)) (record { calling = λ some. absurd (some refl); joined = refl })
+fresh_phased book idle l = subst IsPhased (sym (idle l)) (record { calling = λ some. absurd (some refl); joined = refl; undone = λ on off. refl })
 
 -- a call that begins closes nothing
 begins_open : (recorded : Bool) (doing : Doing) → (is_commit doing && clears_in (stage_at Phase.Calling recorded 0 doing)) ≡ false
@@ -92,4 +103,5 @@ pub asked_phased : {E : Type 0} (call : Call E) (doing : Doing) (promised : ℕ)
 asked_phased call doing promised lane rests phased = record {
   calling = λ some. refl;
   joined = phased.joined ∙ ap (λ (d : Doing). is_commit d && clears_in (stage_at lane.phase lane.has_records lane.part d)) rests ∙ sym (begins_open lane.has_records doing);
+  undone = λ on off. (let wrong : true ≡ false = sym on ∙ begins_clear lane.has_records doing in absurd (cc));
 }

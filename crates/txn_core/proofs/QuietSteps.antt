@@ -18,7 +18,7 @@ use Rattle.lane_book.specs.declared.lane.Doing.{Doing}
 use Rattle.lane_book.specs.FacesOf.{lane_at, faces_of}
 use Rattle.lane_book.specs.Lanes.{with_lane, with_history, noted, closed, left, begun_lane, entered_lane}
 use Rattle.lane_book.specs.Steps.{Steps, StepsIf, IsStep, HasEntry, IsNextEntry, held_by}
-use Rattle.lane_book.specs.Books.{IsBook}
+use Rattle.lane_book.specs.Books.{IsBook, ends}
 use Rattle.lane_book.specs.Calls.{Moves}
 use Rattle.lane_book.specs.Locks.{BeginEnds}
 use Rattle.log_keeper.specs.declared.keeper.LogKeeper.{LogKeeper}
@@ -26,16 +26,39 @@ use Rattle.lawful_book.specs.LawfulBooks.{is_inside}
 use Rattle.lawful_book.proofs.Kept as lawful
 use Rattle.lawful_book.proofs.Histories.{Depends}
 use Rattle.lawful_book.proofs.GoingOn.{noted_on, closed_answers, inside_of}
-use Rattle.txn_state.specs.Stages.{Free, Between, Naming, Leaving, stage_of, stage_at, is_commit}
+use Rattle.txn_state.specs.Stages.{Free, Between, Naming, Leaving, stage_of, stage_at, is_commit, Deleting, Unbuilt, idle_stage}
 use Rattle.txn_state.proofs.Begins.{begins_keep}
 use Rattle.txn_state.proofs.SameTransaction.{notes_keep}
 use Rattle.txn_state.proofs.Leaves.{unrecorded_aborts_keep, unrecorded_commits_keep}
 use Rattle.txn_core.specs.States.{IsWorld, IsKept, HasWorld}
 use Rattle.txn_core.specs.Stepping.{HasMade, IsCause}
 use Rattle.txn_core.specs.Quiet.{KeepsWorld}
+use Rattle.txn_core.proofs.Touching.{TouchesNone, none_with}
 use Rattle.txn_core.proofs.Phasing.{phased_with, noted_phased, closed_phased, left_phased, begun_phased, commit_left_phased}
 use Rattle.txn_core.proofs.QuietAnswers.{answer_is, steps_answer, last_is}
 use Rattle.txn_core.proofs.Quieting.{goes_to, stops_to, joins_to, has_begun, quiet, answers_keep}
+use Rattle.txn_state.specs.Ties.{due_by}
+use Rattle.txn_state.proofs.StageSteps.{due_none, ends_at, ends_by}
+
+-- ---- a lane that is as if it had no call
+
+idle_not : (phase : Phase) → idle_stage phase ≢ Deleting
+idle_not Phase.Out e = let off : Free ≡ Deleting = e in cc
+idle_not Phase.In e = let off : Between ≡ Deleting = e in cc
+idle_not Phase.Calling e = let off : Unbuilt ≡ Deleting = e in cc
+
+idle_goes : (phase : Phase) → ends_at (idle_stage phase) ≡ false
+idle_goes Phase.Out = refl
+idle_goes Phase.In = refl
+idle_goes Phase.Calling = refl
+
+-- it is about no give,
+idle_due : {E : Type 0} (lane : Lane E) (reply : Reply) → stage_of (closed reply lane) ≡ stage_of lane → due_by lane.doing ≡ 0
+idle_due lane reply is = due_none lane.phase lane.has_records lane.part lane.doing (idle_stage (phase_after reply)) (sym is) (idle_not (phase_after reply))
+
+-- and about no end
+idle_ends : {E : Type 0} (lane : Lane E) (reply : Reply) → stage_of (closed reply lane) ≡ stage_of lane → ends lane.doing ≡ false
+idle_ends lane reply is = ends_by lane.phase lane.has_records lane.part lane.doing (idle_stage (phase_after reply)) (sym is) ∙ idle_goes (phase_after reply)
 
 module _ {E : Type 0} (deeds : Deeds E) (layout : Layout) (book later : Book E) (keeper : LogKeeper) (region : Region) (spare : ℕ) (counts : Counts) (l : ℕ)
     (lt : l < length book.lanes.items) (kept : IsBook later) where
@@ -61,6 +84,12 @@ module _ {E : Type 0} (deeds : Deeds E) (layout : Layout) (book later : Book E) 
       entry = refl;
       entered = refl;
       committing = refl;
+      takes = λ s k call. call;
+      due = refl;
+      gives_same = λ k call. call;
+      ending = refl;
+      gates = refl;
+      gates_wait = λ due. refl;
       promised = refl;
       owed_events = refl;
       owed_records = refl;
@@ -68,10 +97,15 @@ module _ {E : Type 0} (deeds : Deeds E) (layout : Layout) (book later : Book E) 
     lawful = lawful.steps_keep deeds layout base book b l (noted answer (lane_at book l)) None world.lawful lt is (noted_on answer (lane_at book l));
   }
 
+  -- no word is touched
+  touches_nothing : (lane : Lane E) → later.lanes ≡ (with_lane book l lane None).lanes → later.touched ≡ None → TouchesNone book later
+  touches_nothing lane is none = none_with book later l lane is none
+
   pub notes : (answer : Stepped) → later ≡ with_lane book l (noted answer (lane_at book l)) None → Steps deeds book later l answer → HasMade answer counts counts →
       IsCause layout book keeper counts l answer → KeepsWorld deeds layout book later keeper region spare counts l answer
   notes answer is steps made cause = quiet deeds layout book later keeper region spare counts l answer (λ base world. noted_world base answer later is kept world) (λ base world. steps base) made
       (phased_with book later l (noted answer (lane_at book l)) None lt (ap (λ (b : Book E). b.lanes) is) (noted_phased (lane_at book l) answer)) cause
+      (touches_nothing (noted answer (lane_at book l)) (ap (λ (b : Book E). b.lanes) is) (ap (λ (b : Book E). b.touched) is))
 
   -- the same where the answer is told by the steps
   pub idles : (answer : Stepped) → (lane_at book l).doing ≡ Doing.Nothing → later ≡ with_lane book l (noted Stepped.Idle (lane_at book l)) None → Steps deeds book later l answer →
@@ -100,6 +134,12 @@ module _ {E : Type 0} (deeds : Deeds E) (layout : Layout) (book later : Book E) 
       entry = refl;
       entered = refl;
       committing = refl;
+      takes = λ s k call. call;
+      due = refl;
+      gives_same = λ k call. call;
+      ending = refl;
+      gates = refl;
+      gates_wait = λ due. refl;
       promised = refl;
       owed_events = refl;
       owed_records = refl;
@@ -120,7 +160,8 @@ module _ {E : Type 0} (deeds : Deeds E) (layout : Layout) (book later : Book E) 
       subst (λ (a : Stepped). KeepsWorld deeds layout book later keeper region spare counts l a) (sym at)
       (quiet deeds layout book later keeper region spare counts l Stepped.Stopped (λ base world. stopped_world base is world)
       (λ base world. subst (λ (a : Stepped). Steps deeds book later l a) at steps base) (inl refl)
-      (phased_with book later l (noted Stepped.Stopped (lane_at book l)) None lt (ap (λ (b : Book E). b.lanes) is) (noted_phased (lane_at book l) Stepped.Stopped)) (inr before))
+      (phased_with book later l (noted Stepped.Stopped (lane_at book l)) None lt (ap (λ (b : Book E). b.lanes) is) (noted_phased (lane_at book l) Stepped.Stopped)) (inr before)
+      (touches_nothing (noted Stepped.Stopped (lane_at book l)) (ap (λ (b : Book E). b.lanes) is) (ap (λ (b : Book E). b.touched) is)))
 
   -- ---- a call is answered, and the transaction goes on or there is none
 
@@ -137,7 +178,7 @@ module _ {E : Type 0} (deeds : Deeds E) (layout : Layout) (book later : Book E) 
   closed_world : (base : Base) (reply : Reply) → later ≡ with_lane book l (closed reply (lane_at book l)) None → IsQuiet (lane_at book l) reply →
       IsWorld deeds layout base book keeper region spare counts.events → IsWorld deeds layout base later keeper region spare counts.events
   closed_world base reply is quiet_lane world = record {
-    state = answers_keep layout _ book later keeper region spare counts.events l (closed reply (lane_at book l)) quiet_lane.other (record {
+    state = answers_keep layout _ book later keeper region spare counts.events l (closed reply (lane_at book l)) quiet_lane.other (idle_due (lane_at book l) reply quiet_lane.stage_is) (record {
       stage = quiet_lane.stage_is;
       transaction = refl;
       held = refl;
@@ -154,6 +195,12 @@ module _ {E : Type 0} (deeds : Deeds E) (layout : Layout) (book later : Book E) 
       entry = refl;
       entered = sym (world.state.is_book.entries.others l quiet_lane.no_commit).unentered;
       committing = sym quiet_lane.no_commit;
+      takes = λ s k call. absurd (let off : Doing.Nothing ≡ Doing.Take s k = call in cc);
+      due = sym (idle_due (lane_at book l) reply quiet_lane.stage_is);
+      gives_same = λ k call. absurd (let off : Doing.Nothing ≡ Doing.Give k = call in cc);
+      ending = sym (idle_ends (lane_at book l) reply quiet_lane.stage_is);
+      gates = refl;
+      gates_wait = λ due. refl;
       promised = refl;
       owed_events = refl;
       owed_records = refl;
@@ -167,6 +214,7 @@ module _ {E : Type 0} (deeds : Deeds E) (layout : Layout) (book later : Book E) 
       KeepsWorld deeds layout book later keeper region spare counts l (Stepped.Answered reply)
   closes reply quiet_lane is steps = quiet deeds layout book later keeper region spare counts l (Stepped.Answered reply) (λ base world. closed_world base reply is quiet_lane world) steps (inl refl)
       (phased_with book later l (closed reply (lane_at book l)) None lt (ap (λ (b : Book E). b.lanes) is) (closed_phased (lane_at book l) reply)) tt
+      (touches_nothing (closed reply (lane_at book l)) (ap (λ (b : Book E). b.lanes) is) (ap (λ (b : Book E). b.touched) is))
 
   -- ---- a transaction without a record ends
 
@@ -177,6 +225,7 @@ module _ {E : Type 0} (deeds : Deeds E) (layout : Layout) (book later : Book E) 
     lawful = lawful.leaves_keep deeds layout base book later l Reply.Aborted None world.lawful lt refl is;
   }) (λ base world. steps base) (inl refl)
       (phased_with book later l (left Reply.Aborted (lane_at book l)) None lt (ap (λ (b : Book E). b.lanes) is) (left_phased (lane_at book l) Reply.Aborted)) tt
+      (touches_nothing (left Reply.Aborted (lane_at book l)) (ap (λ (b : Book E). b.lanes) is) (ap (λ (b : Book E). b.touched) is))
 
   pub commits : Depends deeds → (e : Entry E) → stage_of (lane_at book l) ≡ Leaving → (lane_at book l).doing ≡ Doing.Commit → (lane_at book l).entry ≡ Some e → IsBook book →
       later ≡ with_history (book.history.items ++ e ∷ []) (with_lane book l (left Reply.Committed (entered_lane (lane_at book l))) None) →
@@ -187,6 +236,7 @@ module _ {E : Type 0} (deeds : Deeds E) (layout : Layout) (book later : Book E) 
     lawful = lawful.commits_keep deeds depends layout base book later l e world.lawful whole lt entry is;
   }) (λ base world. steps base) (inl refl)
       (phased_with book later l (left Reply.Committed (entered_lane (lane_at book l))) None lt (ap (λ (b : Book E). b.lanes) is) (commit_left_phased (lane_at book l) Reply.Committed)) tt
+      (touches_nothing (left Reply.Committed (entered_lane (lane_at book l))) (ap (λ (b : Book E). b.lanes) is) (ap (λ (b : Book E). b.touched) is))
 
   -- ---- a transaction begins
 
@@ -197,6 +247,7 @@ module _ {E : Type 0} (deeds : Deeds E) (layout : Layout) (book later : Book E) 
       quiet deeds layout book later keeper region spare counts l (Stepped.Waiting (Structure s) holder) (λ base world. noted_world base (Stepped.Waiting (Structure s) holder) later is kept world) steps refl
       (phased_with book later l (noted (Stepped.Waiting (Structure s) holder) (lane_at book l)) None lt (ap (λ (b : Book E). b.lanes) is) (noted_phased (lane_at book l) (Stepped.Waiting (Structure s) holder)))
       (record { set = set; call = doing; least = held })
+      (touches_nothing (noted (Stepped.Waiting (Structure s) holder) (lane_at book l)) (ap (λ (b : Book E). b.lanes) is) (ap (λ (b : Book E). b.touched) is))
   begins set answer doing few whole (BeginEnds.takes loose is) steps =
       quiet deeds layout book later keeper region spare counts l (Stepped.Answered (Reply.Begun book.next_transaction)) (λ base world. record {
         state = begins_keep layout _ book later keeper region spare counts.events l set (record {
@@ -207,6 +258,7 @@ module _ {E : Type 0} (deeds : Deeds E) (layout : Layout) (book later : Book E) 
         lawful = lawful.begins_keep deeds layout base book later l set (Stepped.Answered (Reply.Begun book.next_transaction)) world.lawful lt doing whole (BeginEnds.takes loose is);
       }) steps (inl refl)
       (phased_with book later l (begun_lane book.next_transaction set (length book.history.items) (lane_at book l)) None lt (ap (λ (b : Book E). b.lanes) is) (begun_phased (lane_at book l) book.next_transaction set (length book.history.items))) tt
+      (touches_nothing (begun_lane book.next_transaction set (length book.history.items) (lane_at book l)) (ap (λ (b : Book E). b.lanes) is) (ap (λ (b : Book E). b.touched) is))
 
   -- ---- the answers, as the book's calls tell them
 
@@ -279,6 +331,7 @@ module _ {E : Type 0} (deeds : Deeds E) (layout : Layout) (book later : Book E) 
       (answers_made answer told)
       (phased_with book later l (closed (Reply.Word v) (lane_at book l)) None lt (ap (λ (b : Book E). b.lanes) is) (closed_phased (lane_at book l) (Reply.Word v)))
       (answers_cause answer told)
+      (touches_nothing (closed (Reply.Word v) (lane_at book l)) (ap (λ (b : Book E). b.lanes) is) (ap (λ (b : Book E). b.touched) is))
     where
       told : is_answered answer ≡ true
       told = ∥∥₁_elim world (Coded-set coded_bool _ _) (λ w. is_an_answer (Reply.Word v) answer

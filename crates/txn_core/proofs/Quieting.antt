@@ -26,7 +26,7 @@ use Rattle.log_keeper.specs.Ledger.{newest_log}
 use Rattle.history_laws.specs.UnderWay.{UnderWay}
 use Rattle.txn_laws.specs.Txns.{Txn, txn_at}
 use Rattle.txn_state.specs.Stages.{Naming, stage_of}
-use Rattle.txn_state.specs.Ties.{plain_entry, IsLaneOf, under_of}
+use Rattle.txn_state.specs.Ties.{plain_entry, IsLaneOf, under_of, due_by}
 use Rattle.txn_state.specs.Owing.{OwesEnough}
 use Rattle.txn_state.specs.Changes.{HasLane, GoesTo, JoinsTo}
 use Rattle.txn_state.specs.QuietLaws.{HasSameTransaction}
@@ -38,6 +38,8 @@ use Rattle.txn_core.specs.Phases.{ArePhased}
 use Rattle.txn_core.specs.Stepping.{HasMade, IsCause}
 use Rattle.txn_core.specs.States.{IsWorld, IsKept}
 use Rattle.txn_core.specs.Quiet.{KeepsWorld}
+use Rattle.txn_core.proofs.Touching.{TouchesNone, touches_none, same_leaves}
+use Rattle.txn_state.proofs.Given.{deletes_none}
 
 -- ---- the book
 
@@ -105,14 +107,16 @@ has_begun book later l set lt is = subst (λ (b : Book _). HasLane book b l (beg
 pub quiet : {E : Type 0} (deeds : Deeds E) (layout : Layout) (book later : Book E) (keeper : LogKeeper) (region : Region) (spare : ℕ) (counts : Counts) (l : ℕ) (answer : Stepped) →
     ((base : Base) → IsWorld deeds layout base book keeper region spare counts.events → IsWorld deeds layout base later keeper region spare counts.events) →
     ((base : Base) → IsKept deeds layout base book keeper region spare counts → IsStep deeds (faces_of base book) (faces_of base later) l answer) →
-    HasMade answer counts counts → (ArePhased book → ArePhased later) → IsCause layout book keeper counts l answer →
+    HasMade answer counts counts → (ArePhased book → ArePhased later) → IsCause layout book keeper counts l answer → TouchesNone book later →
     KeepsWorld deeds layout book later keeper region spare counts l answer
-quiet deeds layout book later keeper region spare counts l answer keeps face made phased cause = record {
+quiet deeds layout book later keeper region spare counts l answer keeps face made phased cause touches = record {
   stays = λ base kept. ∥∥₁_map kept (keeps base);
   face = face;
   made = made;
   phased = phased;
   cause = cause;
+  count = touches.count;
+  touches = λ base kept. touches_none layout region region later.touched touches.none (same_leaves layout region region refl);
 }
 
 -- ---- a call is answered
@@ -135,16 +139,14 @@ unfolding cells_of
 no_more_reserved lane = reserves_less lane.has_records lane.ended lane.promised (undo_cells lane)
 
 -- Such a lane is that of the same transaction, but where it waits to append.
-unpromised_of : {E : Type 0} (layout : Layout) (blocks : List Standing) (log newest : Log) (u : UnderWay) (p : ℕ) (lane : Lane E) (x : Txn) → stage_of lane ≢ Naming →
+unpromised_of : {E : Type 0} (layout : Layout) (blocks : List Standing) (log newest : Log) (u : UnderWay) (p : ℕ) (lane : Lane E) (x : Txn) → stage_of lane ≢ Naming → due_by lane.doing ≡ 0 →
     IsLaneOf layout blocks log newest u p lane x → IsLaneOf layout blocks log newest u p (unpromised lane) x
-unpromised_of layout blocks log newest u p lane x other of = record {
+unpromised_of layout blocks log newest u p lane x other none_due of = record {
   txn = record {
     number = of.txn.number;
     here = of.txn.here;
     writes = of.txn.writes;
     stored = of.txn.stored;
-    gifts = of.txn.gifts;
-    gives = of.txn.gives;
     zeroed = of.txn.zeroed;
     commits = of.txn.commits;
     updates = of.txn.updates;
@@ -155,8 +157,12 @@ unpromised_of layout blocks log newest u p lane x other of = record {
     entry = of.txn.entry;
   };
   come = of.come;
-  words = of.words;
-  data_words = of.data_words;
+  given = of.given;
+  counts = of.counts;
+  deleting = deletes_none layout u (unpromised lane) none_due;
+  ends_ungiven = of.ends_ungiven;
+  written_words = of.written_words;
+  taking = of.taking;
   naming = λ is at. absurd (other is);
   recorded = of.recorded;
   begun = of.begun;
@@ -165,9 +171,9 @@ unpromised_of layout blocks log newest u p lane x other of = record {
 
 -- The call is answered, and what was promised to it isn't any more.
 pub answers_keep : {E : Type 0} (layout : Layout) (start : Words) (book later : Book E) (keeper : LogKeeper) (region : Region) (spare events l : ℕ) (lane : Lane E) →
-    stage_of (lane_at book l) ≢ Naming → HasSameTransaction (unpromised (lane_at book l)) lane → GoesTo book later l lane → IsBook later →
+    stage_of (lane_at book l) ≢ Naming → due_by (lane_at book l).doing ≡ 0 → HasSameTransaction (unpromised (lane_at book l)) lane → GoesTo book later l lane → IsBook later →
     IsStateOf layout start book keeper region spare events → IsStateOf layout start later keeper region spare events
-answers_keep layout start book later keeper region spare events l lane other same goes kept state =
+answers_keep layout start book later keeper region spare events l lane other none_due same goes kept state =
     goes_on layout start book later keeper keeper region region spare spare events events l (txn_at state.w.lanes l).number lane state state.opens (record {
       base = state.base;
       s = state.s;
@@ -190,7 +196,7 @@ answers_keep layout start book later keeper region spare events l lane other sam
       held = state.tied.held;
       own = subst (λ bs. IsLaneOf layout bs state.s.log (newest_log state.w.keeping.ledger) (under_of (layout_shape layout) state.w l) (l % layout.partitions) lane (txn_at state.w.lanes l)) (sym goes.lanes.blocks)
           (lane_same layout book.blocks state.s.log (newest_log state.w.keeping.ledger) (under_of (layout_shape layout) state.w l) (l % layout.partitions) (unpromised (lane_at book l)) lane (txn_at state.w.lanes l) same
-          (unpromised_of layout book.blocks state.s.log (newest_log state.w.keeping.ledger) (under_of (layout_shape layout) state.w l) (l % layout.partitions) (lane_at book l) (txn_at state.w.lanes l) other
+          (unpromised_of layout book.blocks state.s.log (newest_log state.w.keeping.ledger) (under_of (layout_shape layout) state.w l) (l % layout.partitions) (lane_at book l) (txn_at state.w.lanes l) other none_due
           (state.tied.each l inside)));
       owes = owes_of (layout_shape layout) state.chains later keeper state.w l lane goes.lanes.here
           (subst (λ st. (wants (layout_shape layout) state.chains state.w l st).events ≤ lane.owed_events) (sym same.stage)

@@ -30,7 +30,7 @@ use Rattle.txn_state.specs.AppendLaws.{IsNextCell, Notices, LetsGoOne, GoesOnTo,
 use Rattle.txn_state.specs.ReadLaws.{IsNextPlaceSeen, clears_in}
 use Rattle.txn_state.specs.States.{reserved_for}
 use Rattle.txn_state.specs.declared.parts.TheConstants.{FIRST, STORE, END, CLOSE, CLOSE_END}
-use Rattle.txn_state.specs.Stages.{Stage, Free, Between, Leaving, Naming, Storing, Securing, Opening, Undoing, TakingBack, Keeping, Ending, Closing, ClosingEnd, Dropping, Unbuilt, stage_at, stage_of, commit_stage, is_commit}
+use Rattle.txn_state.specs.Stages.{Stage, Free, Between, Leaving, Naming, Storing, Securing, Opening, Undoing, TakingBack, Keeping, Ending, Closing, ClosingEnd, Dropping, Unbuilt, stage_at, stage_of, commit_stage, is_commit, Deleting}
 use Rattle.txn_state.proofs.AppendBegins.{appends_begin}
 use Rattle.txn_state.proofs.PartsGoing.{parts_go_on}
 use Rattle.txn_state.proofs.GateStores.{gates_are_stored}
@@ -48,6 +48,7 @@ use Rattle.txn_core.specs.Stepping.{HasMade, IsCause}
 use Rattle.txn_core.specs.Phases.{IsPhased, ArePhased}
 use Rattle.txn_core.proofs.Facts.{IsRead}
 use Rattle.txn_core.proofs.Phasing.{phased_with, noted_phased, owing_phased, moved_phased, other_phased}
+use Rattle.txn_core.proofs.OpenParts.{IsOpenPart, store_part, part_open, undoes_open, naming_open}
 use Rattle.txn_core.proofs.Latches.{part_of_lane, slots_kept}
 use Rattle.txn_core.proofs.Paying.{goes_lane, goes_stopped, goes_then, inside_then, IsPaid, paid_none, paid_lane, paid_step, paid_book, paid_lawful, noted_same, moved_same}
 
@@ -322,6 +323,7 @@ of_commit Ending = true
 of_commit Closing = true
 of_commit ClosingEnd = true
 of_commit Dropping = true
+of_commit Deleting = false
 of_commit Unbuilt = false
 
 commit_told : (recorded : Bool) (part : ℕ) → of_commit (if recorded then commit_stage part else Leaving) ≡ true
@@ -358,15 +360,20 @@ noticed_phased : {E : Type 0} (lane : Lane E) (c : Cell) (later : Lane E) → No
 noticed_phased lane c _ (update is) phased = let off = no_commit_at lane Naming is refl in record {
   calling = phased.calling;
   joined = phased.joined ∙ ap (λ b. b && clears_in (stage_of lane)) off ∙ ap (λ b. b && clears_in (stage_of (moved lane.part (with_update c lane)))) (sym off);
+  undone = λ on no_commit. absurd (naming_open lane.phase lane.has_records lane.part lane.doing is on);
 }
-noticed_phased lane c _ (rollback is) phased = record { calling = phased.calling; joined = phased.joined }
-noticed_phased lane c _ (compensation is) phased = record { calling = phased.calling; joined = phased.joined }
-noticed_phased lane c _ (end is) phased = record { calling = phased.calling; joined = phased.joined }
+noticed_phased lane c _ (rollback is) phased = record { calling = phased.calling; joined = phased.joined; undone = phased.undone }
+noticed_phased lane c _ (compensation is) phased = record { calling = phased.calling; joined = phased.joined; undone = phased.undone }
+noticed_phased lane c _ (end is) phased = record { calling = phased.calling; joined = phased.joined; undone = phased.undone }
+
+-- behind it the call goes on at a part that closes nothing
+open_phased : {E : Type 0} (lane : Lane E) (part : ℕ) → IsOpenPart part → is_commit lane.doing ≡ false → IsPhased lane → IsPhased (moved part lane)
+open_phased lane part is off phased = other_phased lane part off (λ on. absurd (part_open lane.phase lane.has_records part lane.doing is off on)) phased
 
 settled_phased : {E : Type 0} (lane : Lane E) (part : ℕ) → GoesOnTo lane part → IsPhased lane → IsPhased (moved part lane)
-settled_phased lane _ (store_word is) phased = other_phased lane STORE (no_commit_at lane Naming is refl) phased
-settled_phased lane _ (undo is) phased = other_phased lane (undo_part lane) (no_commit_at lane Opening is refl) phased
-settled_phased lane _ (take_back is) phased = other_phased lane STORE (no_commit_at lane Undoing is refl) phased
+settled_phased lane _ (store_word is) phased = open_phased lane STORE store_part (no_commit_at lane Naming is refl) phased
+settled_phased lane _ (undo is) phased = open_phased lane (undo_part lane) (undoes_open (length lane.updates.items == 0)) (no_commit_at lane Opening is refl) phased
+settled_phased lane _ (take_back is) phased = open_phased lane STORE store_part (no_commit_at lane Undoing is refl) phased
 
 paid_phased : {E : Type 0} (book later : Book E) (l events records : ℕ) (touched : Option ℕ) → l < length book.lanes.items →
     later ≡ with_lane book l (owing events records (lane_at book l)) touched → ArePhased book → ArePhased later

@@ -3,7 +3,7 @@ use Rattle.std.proofs.Common.{◌≡◌, ◌≢◌, inr, ℕ, ◌<◌, ◌^◌, 
 use Rattle.std.proofs.Math.Logic.{∥∥₁_map, ∥∥₁_elim}
 use Rattle.std.specs.Coded.{Coded-set, coded_bool, le_prop}
 use Rattle.persist_model.specs.declared.event.Event.TheVariants.{PStore}
-use Rattle.persist_model.specs.Region.{Region}
+use Rattle.persist_model.specs.Region.{Region, newest}
 use Rattle.lane_traits.specs.Device.{Counts}
 use Rattle.lane_traits.specs.declared.device.Done.TheVariants as Done
 use Rattle.region_layout.specs.declared.layout.Layout.{Layout}
@@ -27,16 +27,17 @@ use Rattle.log_keeper.specs.declared.keeper.LogKeeper.{LogKeeper}
 use Rattle.txn_state.specs.Stages.{Storing, stage_of}
 use Rattle.txn_state.proofs.HeapSteps.{writes_are_stored}
 use Rattle.txn_state.proofs.SmallNumbers.{numbers_are_small}
-use Rattle.txn_core.specs.Making.{Makes, made}
+use Rattle.txn_core.specs.Making.{Makes, made, changed_word}
 use Rattle.txn_core.specs.Phases.{IsPhased, ArePhased}
 use Rattle.txn_core.specs.States.{IsWorld, IsKept, HasWorld, start_of}
-use Rattle.txn_core.specs.Stepping.{StepsWorld, HasMade, IsCause}
+use Rattle.txn_core.specs.Stepping.{StepsWorld, TouchesWord, HasMade, IsCause}
 use Rattle.txn_core.proofs.Facts.{IsRead}
-use Rattle.txn_core.proofs.Phasing.{phased_with, closed_phased}
+use Rattle.txn_core.proofs.Phasing.{phased_with, closed_anyway}
 use Rattle.txn_core.proofs.PhasedSteps.{paid_phased}
-use Rattle.txn_core.proofs.Paid.{goes_with, paid_goes, lawful_paid, lanes_paid}
+use Rattle.txn_core.proofs.Paid.{goes_with, paid_goes, lawful_paid, lanes_paid, count_paid}
 use Rattle.txn_core.proofs.Paying.{paid_lane, paid_step}
-use Rattle.txn_core.proofs.WritingWords.{one_write, next_write}
+use Rattle.txn_core.proofs.Touching.{touches_prop, store_touches}
+use Rattle.txn_core.proofs.WritingWords.{one_write, next_write, write_is_data}
 
 -- few writes are stored
 pub few_stored : {E : Type 0} (deeds : Deeds E) (layout : Layout) (book : Book E) (keeper : LogKeeper) (words : _) (region : Region) (spare : ℕ) (counts : Counts) (l : ℕ) → IsRead words region counts →
@@ -88,16 +89,23 @@ module _ {E : Type 0} (deeds : Deeds E) (layout : Layout) (book between later : 
 
   stored_phased : ArePhased book → ArePhased later
   stored_phased phased = phased_with between later l (closed Reply.Written (stored_one (lane_at between l))) touched was.inside (ap (λ (b : Book E). b.lanes) is)
-      (λ (one : IsPhased (lane_at between l)). closed_phased (stored_one (lane_at between l)) Reply.Written (record { calling = one.calling; joined = one.joined }))
+      (λ (one : IsPhased (lane_at between l)). closed_anyway (stored_one (lane_at between l)) Reply.Written)
       (paid_phased book between l lt pays phased)
 
   stored_counted : Makes (PStore a v) region behind counts after spare left book between l Done.Made → HasMade (Stepped.Answered Reply.Written) counts after
   stored_counted (made event counted paid) = inr counted
 
+  stored_touches : Makes (PStore a v) region behind counts after spare left book between l Done.Made → touched ≡ changed_word (newest (region.at a)) v a →
+      (base : Base) → IsWorld deeds layout base book keeper region spare counts.events → TouchesWord layout region behind later.touched
+  stored_touches (made event counted paid) changes base world = store_touches layout region behind l a v later.touched event.cells
+      (write_is_data deeds layout book keeper region spare counts l a v ∣ (base, world) ∣₁ doing) (ap (λ (b : Book E). b.touched) is ∙ changes)
+
   pub word_stored : (answer : Stepped) → answer ≡ Stepped.Answered Reply.Written → HasWorld deeds layout book keeper region spare counts → IsBook later →
       Makes (PStore a v) region behind counts after spare left book between l Done.Made → StepsIf (λ base. has_word (held_by base between l) a ≡ true) deeds between later l answer →
-      StepsWorld deeds layout book later keeper keeper region behind spare left counts after l answer
-  word_stored answer told has kept makes step = record {
+      touched ≡ changed_word (newest (region.at a)) v a → StepsWorld deeds layout book later keeper keeper region behind spare left counts after l answer
+  word_stored answer told has kept makes step changes = record {
+    count = count_paid book between later l (closed Reply.Written (stored_one (lane_at between l))) pays (ap (λ (b : Book E). b.lanes) is);
+    touches = λ base stood. ∥∥₁_elim stood (touches_prop layout region behind later.touched) (λ world. stored_touches makes changes base world);
     stays = λ base stood. ∥∥₁_map stood (stored_state has kept makes base);
     face = λ base stood. paid_step deeds base book between l answer (faces_of base later)
         (paid_lane book between l (paid_event (lane_at book l)).owed_events (lane_at book l).owed_records book.touched lt pays) (step base (holds base stood));

@@ -2,12 +2,14 @@
 use Rattle.std.proofs.Common.{◌≡◌, ◌⊎◌, ℕ, zero, suc, ◌+◌, ◌<◌, ◌++◌, ◌∷◌, List, [], length, reverse, slice_get, slice_index, Some, refl, sym, ap, ◌∙◌, subst, arith}
 use Rattle.std.proofs.Math.Logic.{∥∥₁_elim}
 use Rattle.std.proofs.Math.Bridge.{le_prop}
+use Rattle.std.proofs.Props.{props}
 use Rattle.persist_model.specs.Region.{Words, Region, newest, newest_words}
 use Rattle.persist_model.proofs.Images.{get_or-newest_words, length-newest_words}
 use Rattle.lane_traits.specs.Device.{Counts}
 use Rattle.lane_traits.specs.declared.draft.WordWrite.{WordWrite}
 use Rattle.region_layout.specs.declared.cell.Cell.{Cell}
 use Rattle.region_layout.specs.declared.layout.Layout.{Layout}
+use Rattle.region_layout.specs.Layout.{layout_shape, IsDataWord}
 use Rattle.plan_records.specs.Cells.{cell_of_update}
 use Rattle.lane_types.specs.Deeds.{Deeds}
 use Rattle.lane_book.specs.declared.book.Book.{Book}
@@ -22,8 +24,10 @@ use Rattle.txn_state.specs.Stages.{Naming, Storing, stage_of}
 use Rattle.txn_state.specs.States.{IsStateOf}
 use Rattle.txn_state.specs.AppendLaws.{IsNextCell, of_write, write_cell, top_cell}
 use Rattle.txn_state.proofs.Ready.{lanes_are_ready}
+use Rattle.txn_state.proofs.HeapSteps.{written_heap}
 use Rattle.txn_core.specs.States.{HasWorld}
 use Rattle.txn_core.proofs.Facts.{is_book}
+use Rattle.txn_core.proofs.Unbuilt.{own_data}
 
 -- ---- as the device reads it
 
@@ -73,7 +77,11 @@ module _ {E : Type 0} (deeds : Deeds E) (layout : Layout) (book : Book E) (keepe
   pub next_cell : (cell : Cell) → stage_of (lane_at book l) ≡ Naming → cell ≡ write_cell region (lane_at book l) (one_write a v) → IsNextCell region (lane_at book l) cell
   next_cell cell at is = subst (IsNextCell region (lane_at book l)) (sym is) (of_write (one_write a v) at next_write)
 
-  -- its word is one of the region's
+  -- its word is a data word,
+  pub write_is_data : IsDataWord (layout_shape layout) a
+  write_is_data = ∥∥₁_elim world (hlevel props) (λ y. own_data deeds layout y.0 book l (lane_at book l).stored (one_write a v) y.1.lawful next_write)
+
+  -- which is one of the region's
   pub word_below : l < length book.lanes.items → (stage_of (lane_at book l) ≡ Naming) ⊎ (stage_of (lane_at book l) ≡ Storing) → a < region.size
   word_below lt at = ∥∥₁_elim world le_prop (λ y. by y.1.state)
     where
@@ -81,6 +89,6 @@ module _ {E : Type 0} (deeds : Deeds E) (layout : Layout) (book : Book E) (keepe
       by {start} state =
           let next = lanes_are_ready.to_store layout start book keeper region spare counts.events l lt at state in
           let is = address_of next.0 a v (sym next.1.write ∙ next_write) in
-          let below = next.1.data_word.0.1 in
+          let below = (written_heap (layout_shape layout) next.0.address next.1.written_word).1 in
           let size = state.world.log.logged.size in
           omega (arith, is, below, size)

@@ -1,5 +1,6 @@
 pub mod Running
 pub mod Beginning
+pub mod Exact
 pub mod Making
 pub mod Advancing
 pub mod States
@@ -12,3 +13,4 @@ pub mod Clearing
 pub mod Asking
 pub mod Worlds
 pub mod AskedEnds
+pub mod Laning

@@ -1,8 +1,9 @@
 -- What a step of one lane does to the faces, to the device's counts, and to the state that a world keeps.
-use Rattle.std.specs.Prelude.{◌≡◌, ◌≢◌, ◌⊎◌, ℕ, ◌%◌, true}
-use Rattle.persist_model.specs.Region.{Region}
+use Rattle.std.specs.Prelude.{◌≡◌, ◌≢◌, ◌⊎◌, ℕ, ◌%◌, true, length, Option, Some}
+use Rattle.persist_model.specs.Region.{Region, newest}
 use Rattle.lane_traits.specs.Device.{Counts, counted}
 use Rattle.region_layout.specs.declared.layout.Layout.{Layout}
+use Rattle.region_layout.specs.Layout.{layout_shape, IsDataWord}
 use Rattle.lane_types.specs.declared.call.Stepped.{Stepped}
 use Rattle.lane_types.specs.declared.call.Stepped.TheVariants.{Moved, Answered, Waiting, Stopped, Idle}
 use Rattle.lane_types.specs.Deeds.{Deeds}
@@ -50,11 +51,21 @@ IsCause layout book keeper counts l (Waiting (What.Structure s) holder) = WaitsF
 IsCause layout book keeper counts l Stopped = (counts.events ≡ counts.budget) ⊎ (book.stopped ≡ true)
 IsCause layout book keeper counts l Idle = (lane_at book l).doing ≡ Doing.Nothing
 
+-- What becomes of the words that a read finds: the touched word is a data word of the heap that has another value, and every other data word stays.
+pub record TouchesWord (layout : Layout) (region behind : Region) (touched : Option ℕ) : Type 0 where
+  pub size : behind.size ≡ region.size
+  pub data_word : (a : ℕ) → touched ≡ Some a → IsDataWord (layout_shape layout) a
+  pub changed : (a : ℕ) → touched ≡ Some a → newest (behind.at a) ≢ newest (region.at a)
+  pub others : (a : ℕ) → IsDataWord (layout_shape layout) a → touched ≢ Some a → newest (behind.at a) ≡ newest (region.at a)
+
 -- From one state to the next: it is kept, whatever stood where the world began; the lane's face changes by the row of the answer and no other does;
--- so many events are made; the phases stay those of the calls; and the answer has its cause.
+-- so many events are made; the phases stay those of the calls; the answer has its cause; lanes are as many; and at most the touched one of the heap's
+-- data words has another value.
 pub record StepsWorld {E : Type 0} (deeds : Deeds E) (layout : Layout) (book later : Book E) (keeper kept : LogKeeper) (region behind : Region) (spare left : ℕ) (counts after : Counts) (lane : ℕ) (answer : Stepped) : Type 0 where
   pub stays : (base : Base) → IsKept deeds layout base book keeper region spare counts → IsKept deeds layout base later kept behind left after
   pub face : (base : Base) → IsKept deeds layout base book keeper region spare counts → IsStep deeds (faces_of base book) (faces_of base later) lane answer
   pub made : HasMade answer counts after
   pub phased : ArePhased book → ArePhased later
   pub cause : IsCause layout book keeper counts lane answer
+  pub count : length later.lanes.items ≡ length book.lanes.items
+  pub touches : (base : Base) → IsKept deeds layout base book keeper region spare counts → TouchesWord layout region behind later.touched

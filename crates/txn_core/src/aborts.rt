@@ -5,11 +5,12 @@ ghost use Rattle.lane_types.specs.declared.call.Phase.TheVariants as Phase;
 ghost use Rattle.lane_book.specs.FacesOf.{lane_at};
 ghost use Rattle.txn_state.specs.AppendLaws as AppendLaws;
 ghost use Rattle.txn_state.specs.Stages.{Opening, Undoing, TakingBack, stage_of};
+ghost use Rattle.txn_core.specs.Exact.{GoesExactly};
 ghost use Rattle.txn_core.specs.States.{HasWorld};
 ghost use Rattle.txn_core.specs.Stepping.{StepsWorld};
 
 use crate::advancing::{Went, append};
-use crate::events::make;
+use crate::events::{changed, make};
 use lane_book::Book;
 use lane_traits::{Device, Done};
 use lane_types::{Deed, Stepped};
@@ -53,7 +54,8 @@ pub(crate) fn append_rollback<D: Device, E: Deed>(
     requires calling { (lane_at book.old lane).phase ≡ Phase.Calling }
     requires stage { stage_of (lane_at book.old lane) ≡ Opening }
     requires world { HasWorld E.meaning layout book.old log.old (D.cells device.old) (D.spare device.old) (D.counts device.old) }
-    ensures { StepsWorld E.meaning layout book.old book.new log.old log.new (D.cells device.old) (D.cells device.new) (D.spare device.old) (D.spare device.new) (D.counts device.old) (D.counts device.new) lane result }
+    ensures steps { StepsWorld E.meaning layout book.old book.new log.old log.new (D.cells device.old) (D.cells device.new) (D.spare device.old) (D.spare device.new) (D.counts device.old) (D.counts device.new) lane result }
+    ensures exact { GoesExactly layout book.old book.new log.old (D.counts device.old) (D.counts device.new) lane result }
 {
     let part = book.part(lane);
     let cell = rollback_cell(book.lanes[lane as usize].transaction);
@@ -81,7 +83,8 @@ pub(crate) fn append_compensation<D: Device, E: Deed>(
     requires calling { (lane_at book.old lane).phase ≡ Phase.Calling }
     requires stage { stage_of (lane_at book.old lane) ≡ Undoing }
     requires world { HasWorld E.meaning layout book.old log.old (D.cells device.old) (D.spare device.old) (D.counts device.old) }
-    ensures { StepsWorld E.meaning layout book.old book.new log.old log.new (D.cells device.old) (D.cells device.new) (D.spare device.old) (D.spare device.new) (D.counts device.old) (D.counts device.new) lane result }
+    ensures steps { StepsWorld E.meaning layout book.old book.new log.old log.new (D.cells device.old) (D.cells device.new) (D.spare device.old) (D.spare device.new) (D.counts device.old) (D.counts device.new) lane result }
+    ensures exact { GoesExactly layout book.old book.new log.old (D.counts device.old) (D.counts device.new) lane result }
 {
     let part = book.part(lane);
     let cell = compensation_cell(&newest_update(book, lane));
@@ -107,7 +110,8 @@ pub(crate) fn take_word_back<D: Device, E: Deed>(
     requires calling { (lane_at book.old lane).phase ≡ Phase.Calling }
     requires stage { stage_of (lane_at book.old lane) ≡ TakingBack }
     requires world { HasWorld E.meaning layout book.old log.old (D.cells device.old) (D.spare device.old) (D.counts device.old) }
-    ensures { StepsWorld E.meaning layout book.old book.new log.old log.new (D.cells device.old) (D.cells device.new) (D.spare device.old) (D.spare device.new) (D.counts device.old) (D.counts device.new) lane result }
+    ensures steps { StepsWorld E.meaning layout book.old book.new log.old log.new (D.cells device.old) (D.cells device.new) (D.spare device.old) (D.spare device.new) (D.counts device.old) (D.counts device.new) lane result }
+    ensures exact { GoesExactly layout book.old book.new log.old (D.counts device.old) (D.counts device.new) lane result }
 {
     let kept = &book.lanes[lane as usize];
     let a = kept.writes.as_slice()[kept.stored as usize - 1].address;
@@ -116,7 +120,7 @@ pub(crate) fn take_word_back<D: Device, E: Deed>(
         return book.stop(lane);
     };
     let next = undo_part(book, lane);
-    let touched = if device.word(a) == v { None } else { Some(a) };
+    let touched = changed(device, a, v);
     match make(device, book, lane, Event::PStore(a, v)) {
         Done::Stopped => book.stop(lane),
         Done::Made => book.word_taken_back(lane, touched, next),

@@ -8,6 +8,7 @@ ghost use Rattle.lane_book.specs.declared.lane.Doing.TheVariants as Doing;
 ghost use Rattle.lane_book.specs.FacesOf.{lane_at, faces_of};
 ghost use Rattle.lane_book.specs.Books.{IsBook};
 ghost use Rattle.lane_book.specs.Steps.{IsPlain};
+ghost use Rattle.txn_core.specs.Exact.{KeepsBeside, events_owed};
 ghost use Rattle.txn_core.specs.Asking.{AppendsNothing, ChangesFace, StaysAsked, StaysAlways};
 ghost use Rattle.txn_core.specs.Phases.{ArePhased};
 
@@ -32,6 +33,8 @@ pub(crate) fn ask_quiet<E: Deed>(
     ensures stays { OnOk result (StaysAsked E.meaning call.now book.old book.new lane) }
     ensures still { OnErr result (StaysAlways E.meaning book.old book.new) }
     ensures phased { ArePhased book.old → ArePhased book.new }
+    ensures beside { KeepsBeside book.old book.new lane }
+    ensures owes { OnOk result (events_owed (lane_at book.new lane) ≡ 0) }
     ensures book { IsBook book.new }
 {
     book.ask_plain(lane, call, doing)

@@ -6,6 +6,7 @@ ghost use Rattle.lane_types.specs.declared.call.Phase.TheVariants as Phase;
 ghost use Rattle.lane_book.specs.declared.lane.Doing.TheVariants as Doing;
 ghost use Rattle.lane_book.specs.FacesOf.{lane_at};
 ghost use Rattle.lane_book.specs.Refusals.{is_mine, block_in};
+ghost use Rattle.txn_core.specs.Exact.{KeepsBeside, MayMake};
 ghost use Rattle.txn_core.specs.Asking.{IsAsked, LacksMemory, need_for, room_for};
 ghost use Rattle.txn_core.specs.States.{HasWorld};
 
@@ -39,6 +40,8 @@ pub(crate) fn ask_write<D: Device, E: Deed>(
     ensures counts { D.counts device.new ≡ D.counts device.old }
     ensures asked { OnOk result (IsAsked E.meaning layout (Call.Write a v) book.old book.new log.old log.new (D.cells device.old) (D.spare device.old) (D.spare device.new) (D.counts device.old) lane) }
     ensures lacks { OnErr result (LacksMemory E.meaning layout book.old book.new log.old log.new (D.cells device.old) (D.spare device.old) (D.spare device.new) (D.counts device.old) lane) }
+    ensures beside { KeepsBeside book.old book.new lane }
+    ensures owes { OnOk result (MayMake layout log.old (Call.Write a v) book.old book.new lane) }
 {
     match take_memory(
         device,

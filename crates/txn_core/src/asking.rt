@@ -2,6 +2,7 @@
 ghost use Rattle.std.specs.Prelude.{◌≡◌, ◌<◌, length, OnOk, OnErr, IfErr};
 ghost use Rattle.lane_types.specs.May.{May};
 ghost use Rattle.lane_book.specs.FacesOf.{faces_of};
+ghost use Rattle.txn_core.specs.Exact.{KeepsBeside, MayMake};
 ghost use Rattle.txn_core.specs.Asking.{IsBuilt, IsAsked, LacksMemory, CanBeAsked, Accepts, Refuses};
 ghost use Rattle.txn_core.specs.Phases.{ArePhased};
 ghost use Rattle.txn_core.specs.States.{base_of, IsKept, HasWorld};
@@ -34,6 +35,8 @@ fn ask_plainly<D: Device, E: Deed>(
     ensures counts { D.counts device.new ≡ D.counts device.old }
     ensures asked { OnOk result (IsAsked E.meaning layout call.now book.old book.new log.old log.new (D.cells device.old) (D.spare device.old) (D.spare device.new) (D.counts device.old) lane) }
     ensures lacks { OnErr result (LacksMemory E.meaning layout book.old book.new log.old log.new (D.cells device.old) (D.spare device.old) (D.spare device.new) (D.counts device.old) lane) }
+    ensures beside { KeepsBeside book.old book.new lane }
+    ensures owes { OnOk result (MayMake layout log.old call.now book.old book.new lane) }
 {
     match call {
         Call::Begin(set) => ask_quiet(book, lane, call, Doing::Begin(*set)),
@@ -62,6 +65,8 @@ fn ask_fitting<D: Device, E: Deed>(
     ensures counts { D.counts device.new ≡ D.counts device.old }
     ensures asked { OnOk result (IsAsked E.meaning layout call book.old book.new log.old log.new (D.cells device.old) (D.spare device.old) (D.spare device.new) (D.counts device.old) lane) }
     ensures lacks { OnErr result (LacksMemory E.meaning layout book.old book.new log.old log.new (D.cells device.old) (D.spare device.old) (D.spare device.new) (D.counts device.old) lane) }
+    ensures beside { KeepsBeside book.old book.new lane }
+    ensures owes { OnOk result (MayMake layout log.old call book.old book.new lane) }
     ensures returned { IfErr result (λ refused. refused.1 ≡ call) }
 {
     match call {
@@ -102,6 +107,8 @@ pub fn ask<D: Device, E: Deed>(
     ensures phased { ArePhased book.new }
     ensures accepts { OnOk result (Accepts (base_of layout sorts.now.value (D.words begun.now.value) (D.counts begun.now.value)) call book.old book.new lane) }
     ensures refuses { IfErr result (λ refused. Refuses layout (base_of layout sorts.now.value (D.words begun.now.value) (D.counts begun.now.value)) (D.words device.old) call refused.0 book.old book.new lane) }
+    ensures beside { KeepsBeside book.old book.new lane }
+    ensures owes { OnOk result (MayMake layout log.old call book.old book.new lane) }
     ensures returned { IfErr result (λ refused. refused.1 ≡ call) }
 {
     match refusal(device, layout, book, lane, &call) {

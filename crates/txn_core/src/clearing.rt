@@ -11,6 +11,7 @@ ghost use Rattle.log_keeper.specs.Keeper.{keeping_of};
 ghost use Rattle.txn_state.specs.ClosingLaws.{end_reply};
 ghost use Rattle.txn_state.specs.ReadLaws.{HasLogs};
 ghost use Rattle.txn_state.specs.Stages.{Closing, ClosingEnd, Dropping, stage_of, is_commit};
+ghost use Rattle.txn_core.specs.Exact.{GoesExactly};
 ghost use Rattle.txn_core.specs.Clearing.{Clears};
 ghost use Rattle.txn_core.specs.Phases.{IsPhased};
 ghost use Rattle.txn_core.specs.States.{HasWorld};
@@ -81,7 +82,8 @@ pub(crate) fn close_records<D: Device, E: Deed>(
     requires lane { lane < length book.old.lanes.items }
     requires stage { stage_of (lane_at book.old lane) ≡ Closing }
     requires world { HasWorld E.meaning layout book.old log.old (D.cells device.old) (D.spare device.old) (D.counts device.old) }
-    ensures { StepsWorld E.meaning layout book.old book.new log.old log.new (D.cells device.old) (D.cells device.new) (D.spare device.old) (D.spare device.new) (D.counts device.old) (D.counts device.new) lane result }
+    ensures steps { StepsWorld E.meaning layout book.old book.new log.old log.new (D.cells device.old) (D.cells device.new) (D.spare device.old) (D.spare device.new) (D.counts device.old) (D.counts device.new) lane result }
+    ensures exact { GoesExactly layout book.old book.new log.old (D.counts device.old) (D.counts device.new) lane result }
 {
     let transaction = book.lanes[lane as usize].transaction;
     match advance(device, layout, log, book, lane) {
@@ -107,7 +109,8 @@ pub(crate) fn close_end<D: Device, E: Deed>(
     requires stage { stage_of (lane_at book.old lane) ≡ ClosingEnd }
     requires phased { IsPhased (lane_at book.old lane) }
     requires world { HasWorld E.meaning layout book.old log.old (D.cells device.old) (D.spare device.old) (D.counts device.old) }
-    ensures { StepsWorld E.meaning layout book.old book.new log.old log.new (D.cells device.old) (D.cells device.new) (D.spare device.old) (D.spare device.new) (D.counts device.old) (D.counts device.new) lane result }
+    ensures steps { StepsWorld E.meaning layout book.old book.new log.old log.new (D.cells device.old) (D.cells device.new) (D.spare device.old) (D.spare device.new) (D.counts device.old) (D.counts device.new) lane result }
+    ensures exact { GoesExactly layout book.old book.new log.old (D.counts device.old) (D.counts device.new) lane result }
 {
     match advance(device, layout, log, book, lane) {
         Went::Answered(answer) => answer,
@@ -129,7 +132,8 @@ pub(crate) fn drop_bucket<D: Device, E: Deed>(
     requires stage { stage_of (lane_at book.old lane) ≡ Dropping }
     requires phased { IsPhased (lane_at book.old lane) }
     requires world { HasWorld E.meaning layout book.old log.old (D.cells device.old) (D.spare device.old) (D.counts device.old) }
-    ensures { StepsWorld E.meaning layout book.old book.new log.old log.new (D.cells device.old) (D.cells device.new) (D.spare device.old) (D.spare device.new) (D.counts device.old) (D.counts device.new) lane result }
+    ensures steps { StepsWorld E.meaning layout book.old book.new log.old log.new (D.cells device.old) (D.cells device.new) (D.spare device.old) (D.spare device.new) (D.counts device.old) (D.counts device.new) lane result }
+    ensures exact { GoesExactly layout book.old book.new log.old (D.counts device.old) (D.counts device.new) lane result }
 {
     match advance(device, layout, log, book, lane) {
         Went::Answered(answer) => answer,

@@ -3,6 +3,7 @@ ghost use Rattle.std.specs.Prelude.{◌≡◌, ◌⊎◌, ◌<◌, length};
 ghost use Rattle.lane_book.specs.FacesOf.{lane_at};
 ghost use Rattle.lane_book.specs.declared.lane.Doing.TheVariants as Doing;
 ghost use Rattle.txn_state.specs.Stages.{Securing, Keeping, Ending, stage_of};
+ghost use Rattle.txn_core.specs.Exact.{GoesExactly};
 ghost use Rattle.txn_core.specs.Phases.{IsPhased};
 ghost use Rattle.txn_core.specs.States.{HasWorld};
 ghost use Rattle.txn_core.specs.Stepping.{StepsWorld};
@@ -28,7 +29,8 @@ pub(crate) fn fence<D: Device, E: Deed>(
     requires lane { lane < length book.old.lanes.items }
     requires stage { (stage_of (lane_at book.old lane) ≡ Securing) ⊎ (stage_of (lane_at book.old lane) ≡ Keeping) }
     requires world { HasWorld E.meaning layout book.old log.old (D.cells device.old) (D.spare device.old) (D.counts device.old) }
-    ensures { StepsWorld E.meaning layout book.old book.new log.old log.new (D.cells device.old) (D.cells device.new) (D.spare device.old) (D.spare device.new) (D.counts device.old) (D.counts device.new) lane result }
+    ensures steps { StepsWorld E.meaning layout book.old book.new log.old log.new (D.cells device.old) (D.cells device.new) (D.spare device.old) (D.spare device.new) (D.counts device.old) (D.counts device.new) lane result }
+    ensures exact { GoesExactly layout book.old book.new log.old (D.counts device.old) (D.counts device.new) lane result }
 {
     match make(device, book, lane, Event::Fence) {
         Done::Stopped => book.stop(lane),
@@ -49,7 +51,8 @@ pub(crate) fn append_commit<D: Device, E: Deed>(
     requires doing { (lane_at book.old lane).doing ≡ Doing.Commit }
     requires stage { stage_of (lane_at book.old lane) ≡ Ending }
     requires world { HasWorld E.meaning layout book.old log.old (D.cells device.old) (D.spare device.old) (D.counts device.old) }
-    ensures { StepsWorld E.meaning layout book.old book.new log.old log.new (D.cells device.old) (D.cells device.new) (D.spare device.old) (D.spare device.new) (D.counts device.old) (D.counts device.new) lane result }
+    ensures steps { StepsWorld E.meaning layout book.old book.new log.old log.new (D.cells device.old) (D.cells device.new) (D.spare device.old) (D.spare device.new) (D.counts device.old) (D.counts device.new) lane result }
+    ensures exact { GoesExactly layout book.old book.new log.old (D.counts device.old) (D.counts device.new) lane result }
 {
     let part = book.part(lane);
     let transaction = book.lanes[lane as usize].transaction;
@@ -76,7 +79,8 @@ pub(crate) fn append_undone<D: Device, E: Deed>(
     requires doing { (lane_at book.old lane).doing ≡ Doing.Abort }
     requires stage { stage_of (lane_at book.old lane) ≡ Ending }
     requires world { HasWorld E.meaning layout book.old log.old (D.cells device.old) (D.spare device.old) (D.counts device.old) }
-    ensures { StepsWorld E.meaning layout book.old book.new log.old log.new (D.cells device.old) (D.cells device.new) (D.spare device.old) (D.spare device.new) (D.counts device.old) (D.counts device.new) lane result }
+    ensures steps { StepsWorld E.meaning layout book.old book.new log.old log.new (D.cells device.old) (D.cells device.new) (D.spare device.old) (D.spare device.new) (D.counts device.old) (D.counts device.new) lane result }
+    ensures exact { GoesExactly layout book.old book.new log.old (D.counts device.old) (D.counts device.new) lane result }
 {
     let part = book.part(lane);
     let transaction = book.lanes[lane as usize].transaction;

@@ -1,9 +1,9 @@
 // An event of a lane on its own words.
-ghost use Rattle.std.specs.Prelude.{◌<◌, ◌≤◌, length};
+ghost use Rattle.std.specs.Prelude.{◌≡◌, ◌<◌, ◌≤◌, length, slice_index};
 ghost use Rattle.lane_traits.specs.Device.{IsWithin};
 ghost use Rattle.lane_book.specs.FacesOf.{lane_at};
 ghost use Rattle.lane_book.specs.Books.{IsBook};
-ghost use Rattle.txn_core.specs.Making.{Makes};
+ghost use Rattle.txn_core.specs.Making.{Makes, changed_word};
 
 use lane_book::Book;
 use lane_traits::{Device, Done};
@@ -27,4 +27,12 @@ pub fn make<D: Device, E>(device: &mut D, book: &mut Book<E>, lane: u32, event: 
             Done::Made
         }
     }
+}
+
+// The word at address `a`, where its value is another than `v`.
+pub(crate) fn changed<D: Device>(device: &D, a: u32, v: u64) -> Option<u32>
+    requires { a < length (D.words device.now) }
+    ensures { result ≡ changed_word (slice_index (D.words device.now) a) v a }
+{
+    if device.word(a) == v { None } else { Some(a) }
 }

@@ -15,6 +15,7 @@ mod clearing;
 mod crosses;
 mod ends;
 mod events;
+mod laned;
 pub mod laws;
 mod quiet;
 mod running;

@@ -4,6 +4,7 @@ ghost use Rattle.lane_types.specs.declared.call.Phase.TheVariants as Phase;
 ghost use Rattle.lane_book.specs.FacesOf.{lane_at};
 ghost use Rattle.lane_book.specs.declared.lane.Doing.TheVariants as Doing;
 ghost use Rattle.txn_state.specs.Stages.{Leaving, stage_of};
+ghost use Rattle.txn_core.specs.Exact.{GoesExactly, StepsExactly};
 ghost use Rattle.txn_core.specs.States.{HasWorld};
 ghost use Rattle.txn_core.specs.Quiet.{KeepsWorld};
 
@@ -23,9 +24,11 @@ pub(crate) fn idle<D: Device, E: Deed>(
     lane: u32,
 ) -> Stepped
     requires lane { lane < length book.old.lanes.items }
+    requires running { book.old.stopped ≡ false }
     requires doing { (lane_at book.old lane).doing ≡ Doing.Nothing }
     requires world { HasWorld E.meaning layout book.old log.now (D.cells device.now) (D.spare device.now) (D.counts device.now) }
-    ensures { KeepsWorld E.meaning layout book.old book.new log.now (D.cells device.now) (D.spare device.now) (D.counts device.now) lane result }
+    ensures steps { KeepsWorld E.meaning layout book.old book.new log.now (D.cells device.now) (D.spare device.now) (D.counts device.now) lane result }
+    ensures exact { StepsExactly layout book.old book.new log.now (D.counts device.now) (D.counts device.now) lane result }
 {
     book.idle(lane)
 }
@@ -41,7 +44,8 @@ pub(crate) fn stop<D: Device, E: Deed>(
     requires lane { lane < length book.old.lanes.items }
     requires stopped { book.old.stopped ≡ true }
     requires world { HasWorld E.meaning layout book.old log.now (D.cells device.now) (D.spare device.now) (D.counts device.now) }
-    ensures { KeepsWorld E.meaning layout book.old book.new log.now (D.cells device.now) (D.spare device.now) (D.counts device.now) lane result }
+    ensures steps { KeepsWorld E.meaning layout book.old book.new log.now (D.cells device.now) (D.spare device.now) (D.counts device.now) lane result }
+    ensures exact { StepsExactly layout book.old book.new log.now (D.counts device.now) (D.counts device.now) lane result }
 {
     book.stop(lane)
 }
@@ -59,7 +63,8 @@ pub(crate) fn begin_transaction<D: Device, E: Deed>(
     requires calling { (lane_at book.old lane).phase ≡ Phase.Calling }
     requires doing { (lane_at book.old lane).doing ≡ Doing.Begin set }
     requires world { HasWorld E.meaning layout book.old log.now (D.cells device.now) (D.spare device.now) (D.counts device.now) }
-    ensures { KeepsWorld E.meaning layout book.old book.new log.now (D.cells device.now) (D.spare device.now) (D.counts device.now) lane result }
+    ensures steps { KeepsWorld E.meaning layout book.old book.new log.now (D.cells device.now) (D.spare device.now) (D.counts device.now) lane result }
+    ensures exact { GoesExactly layout book.old book.new log.now (D.counts device.now) (D.counts device.now) lane result }
 {
     book.begin(lane, set)
 }
@@ -77,7 +82,8 @@ pub(crate) fn read_word<D: Device, E: Deed>(
     requires calling { (lane_at book.old lane).phase ≡ Phase.Calling }
     requires doing { (lane_at book.old lane).doing ≡ Doing.Read a }
     requires world { HasWorld E.meaning layout book.old log.now (D.cells device.now) (D.spare device.now) (D.counts device.now) }
-    ensures { KeepsWorld E.meaning layout book.old book.new log.now (D.cells device.now) (D.spare device.now) (D.counts device.now) lane result }
+    ensures steps { KeepsWorld E.meaning layout book.old book.new log.now (D.cells device.now) (D.spare device.now) (D.counts device.now) lane result }
+    ensures exact { GoesExactly layout book.old book.new log.now (D.counts device.now) (D.counts device.now) lane result }
 {
     let value = device.word(a);
     book.read(lane, a, value)
@@ -95,7 +101,8 @@ pub(crate) fn checkpoint<D: Device, E: Deed>(
     requires calling { (lane_at book.old lane).phase ≡ Phase.Calling }
     requires doing { (lane_at book.old lane).doing ≡ Doing.Checkpoint }
     requires world { HasWorld E.meaning layout book.old log.now (D.cells device.now) (D.spare device.now) (D.counts device.now) }
-    ensures { KeepsWorld E.meaning layout book.old book.new log.now (D.cells device.now) (D.spare device.now) (D.counts device.now) lane result }
+    ensures steps { KeepsWorld E.meaning layout book.old book.new log.now (D.cells device.now) (D.spare device.now) (D.counts device.now) lane result }
+    ensures exact { GoesExactly layout book.old book.new log.now (D.counts device.now) (D.counts device.now) lane result }
 {
     book.checkpointed(lane)
 }
@@ -114,7 +121,8 @@ pub(crate) fn commit_unrecorded<D: Device, E: Deed>(
     requires unjoined { (lane_at book.old lane).entered ≡ false }
     requires stage { stage_of (lane_at book.old lane) ≡ Leaving }
     requires world { HasWorld E.meaning layout book.old log.now (D.cells device.now) (D.spare device.now) (D.counts device.now) }
-    ensures { KeepsWorld E.meaning layout book.old book.new log.now (D.cells device.now) (D.spare device.now) (D.counts device.now) lane result }
+    ensures steps { KeepsWorld E.meaning layout book.old book.new log.now (D.cells device.now) (D.spare device.now) (D.counts device.now) lane result }
+    ensures exact { GoesExactly layout book.old book.new log.now (D.counts device.now) (D.counts device.now) lane result }
 {
     book.commit(lane)
 }
@@ -132,7 +140,8 @@ pub(crate) fn abort_unrecorded<D: Device, E: Deed>(
     requires doing { (lane_at book.old lane).doing ≡ Doing.Abort }
     requires stage { stage_of (lane_at book.old lane) ≡ Leaving }
     requires world { HasWorld E.meaning layout book.old log.now (D.cells device.now) (D.spare device.now) (D.counts device.now) }
-    ensures { KeepsWorld E.meaning layout book.old book.new log.now (D.cells device.now) (D.spare device.now) (D.counts device.now) lane result }
+    ensures steps { KeepsWorld E.meaning layout book.old book.new log.now (D.cells device.now) (D.spare device.now) (D.counts device.now) lane result }
+    ensures exact { GoesExactly layout book.old book.new log.now (D.counts device.now) (D.counts device.now) lane result }
 {
     book.aborted(lane)
 }

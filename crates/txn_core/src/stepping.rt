@@ -5,6 +5,7 @@ ghost use Rattle.lane_book.specs.FacesOf.{lane_at};
 ghost use Rattle.lane_book.specs.declared.lane.Doing.TheVariants as Doing;
 ghost use Rattle.txn_state.specs.Stages.{stage_of, end_stage};
 ghost use Rattle.txn_state.specs.declared.parts.TheConstants as parts;
+ghost use Rattle.txn_core.specs.Exact.{GoesExactly, StepsExactly};
 ghost use Rattle.txn_core.specs.Phases.{IsPhased};
 ghost use Rattle.txn_core.specs.States.{HasWorld};
 ghost use Rattle.txn_core.specs.Stepping.{StepsWorld};
@@ -46,7 +47,8 @@ fn step_write<D: Device, E: Deed>(
     requires phased { IsPhased (lane_at book.old lane) }
     requires doing { (lane_at book.old lane).doing ≡ Doing.Write a v }
     requires world { HasWorld E.meaning layout book.old log.old (D.cells device.old) (D.spare device.old) (D.counts device.old) }
-    ensures { StepsWorld E.meaning layout book.old book.new log.old log.new (D.cells device.old) (D.cells device.new) (D.spare device.old) (D.spare device.new) (D.counts device.old) (D.counts device.new) lane result }
+    ensures steps { StepsWorld E.meaning layout book.old book.new log.old log.new (D.cells device.old) (D.cells device.new) (D.spare device.old) (D.spare device.new) (D.counts device.old) (D.counts device.new) lane result }
+    ensures exact { GoesExactly layout book.old book.new log.old (D.counts device.old) (D.counts device.new) lane result }
 {
     let part = book.part(lane);
     if part == STORE {
@@ -69,7 +71,8 @@ fn step_clearing<D: Device, E: Deed>(
     requires stage { stage_of (lane_at book.old lane) ≡ end_stage (lane_at book.old lane).part }
     requires behind { (lane_at book.old lane).part ≢ parts.END }
     requires world { HasWorld E.meaning layout book.old log.old (D.cells device.old) (D.spare device.old) (D.counts device.old) }
-    ensures { StepsWorld E.meaning layout book.old book.new log.old log.new (D.cells device.old) (D.cells device.new) (D.spare device.old) (D.spare device.new) (D.counts device.old) (D.counts device.new) lane result }
+    ensures steps { StepsWorld E.meaning layout book.old book.new log.old log.new (D.cells device.old) (D.cells device.new) (D.spare device.old) (D.spare device.new) (D.counts device.old) (D.counts device.new) lane result }
+    ensures exact { GoesExactly layout book.old book.new log.old (D.counts device.old) (D.counts device.new) lane result }
 {
     let part = book.part(lane);
     if part == CLOSE {
@@ -94,7 +97,8 @@ fn step_commit<D: Device, E: Deed>(
     requires phased { IsPhased (lane_at book.old lane) }
     requires doing { (lane_at book.old lane).doing ≡ Doing.Commit }
     requires world { HasWorld E.meaning layout book.old log.old (D.cells device.old) (D.spare device.old) (D.counts device.old) }
-    ensures { StepsWorld E.meaning layout book.old book.new log.old log.new (D.cells device.old) (D.cells device.new) (D.spare device.old) (D.spare device.new) (D.counts device.old) (D.counts device.new) lane result }
+    ensures steps { StepsWorld E.meaning layout book.old book.new log.old log.new (D.cells device.old) (D.cells device.new) (D.spare device.old) (D.spare device.new) (D.counts device.old) (D.counts device.new) lane result }
+    ensures exact { GoesExactly layout book.old book.new log.old (D.counts device.old) (D.counts device.new) lane result }
 {
     let recorded = has_records(book, lane);
     if !recorded {
@@ -124,7 +128,8 @@ fn step_undo<D: Device, E: Deed>(
     requires doing { (lane_at book.old lane).doing ≡ Doing.Abort }
     requires recorded { (lane_at book.old lane).has_records ≡ true }
     requires world { HasWorld E.meaning layout book.old log.old (D.cells device.old) (D.spare device.old) (D.counts device.old) }
-    ensures { StepsWorld E.meaning layout book.old book.new log.old log.new (D.cells device.old) (D.cells device.new) (D.spare device.old) (D.spare device.new) (D.counts device.old) (D.counts device.new) lane result }
+    ensures steps { StepsWorld E.meaning layout book.old book.new log.old log.new (D.cells device.old) (D.cells device.new) (D.spare device.old) (D.spare device.new) (D.counts device.old) (D.counts device.new) lane result }
+    ensures exact { GoesExactly layout book.old book.new log.old (D.counts device.old) (D.counts device.new) lane result }
 {
     let part = book.part(lane);
     if part == FIRST {
@@ -158,7 +163,8 @@ fn step_abort<D: Device, E: Deed>(
     requires phased { IsPhased (lane_at book.old lane) }
     requires doing { (lane_at book.old lane).doing ≡ Doing.Abort }
     requires world { HasWorld E.meaning layout book.old log.old (D.cells device.old) (D.spare device.old) (D.counts device.old) }
-    ensures { StepsWorld E.meaning layout book.old book.new log.old log.new (D.cells device.old) (D.cells device.new) (D.spare device.old) (D.spare device.new) (D.counts device.old) (D.counts device.new) lane result }
+    ensures steps { StepsWorld E.meaning layout book.old book.new log.old log.new (D.cells device.old) (D.cells device.new) (D.spare device.old) (D.spare device.new) (D.counts device.old) (D.counts device.new) lane result }
+    ensures exact { GoesExactly layout book.old book.new log.old (D.counts device.old) (D.counts device.new) lane result }
 {
     let recorded = has_records(book, lane);
     if recorded {
@@ -178,7 +184,8 @@ pub fn step<D: Device, E: Deed>(
     requires lane { lane < length book.old.lanes.items }
     requires phased { IsPhased (lane_at book.old lane) }
     requires world { HasWorld E.meaning layout book.old log.old (D.cells device.old) (D.spare device.old) (D.counts device.old) }
-    ensures { StepsWorld E.meaning layout book.old book.new log.old log.new (D.cells device.old) (D.cells device.new) (D.spare device.old) (D.spare device.new) (D.counts device.old) (D.counts device.new) lane result }
+    ensures steps { StepsWorld E.meaning layout book.old book.new log.old log.new (D.cells device.old) (D.cells device.new) (D.spare device.old) (D.spare device.new) (D.counts device.old) (D.counts device.new) lane result }
+    ensures exact { StepsExactly layout book.old book.new log.old (D.counts device.old) (D.counts device.new) lane result }
 {
     if book.stopped {
         return stop(device, layout, log, book, lane);

@@ -1,4 +1,4 @@
-ghost use Rattle.std.specs.Prelude.{◌≡◌, ◌<◌, ◌≤◌, ◌-◌, ◌^◌, ◌++◌, [], ℕ, Bool, min, true, length, slice_index, Some, OnOk, IfOk, IfErr};
+ghost use Rattle.std.specs.Prelude.{◌≡◌, ◌≢◌, ◌<◌, ◌≤◌, ◌-◌, ◌^◌, ◌++◌, [], ℕ, Bool, min, true, length, slice_index, Some, OnOk, IfOk, IfErr};
 ghost use Rattle.std.specs.List.{filter};
 ghost use Rattle.std.specs.Option.{option_copied};
 ghost use Rattle.persist_model.specs.Region.{AreSettled};
@@ -11,12 +11,18 @@ ghost use Rattle.lane_book.specs.FacesOf.{lane_at, faces_of};
 ghost use Rattle.lane_book.specs.Flights.{flight_at, flights_of};
 ghost use Rattle.lane_book.specs.Steps.{IsStep, IsLawfulFrom, held_by};
 ghost use Rattle.lane_types.specs.May.{May};
+ghost use Rattle.lane_types.specs.Seen.{AreInAgreement};
 ghost use Rattle.rest_check.specs.Rest.{IsRestCause};
 ghost use Rattle.txn_core.specs.Asking.{IsBuilt, Accepts, Refuses};
+ghost use Rattle.txn_core.specs.Laning.{seen_in};
+ghost use Rattle.log_keeper.specs.declared.slots.TheConstants.{NOBODY};
+ghost use Rattle.log_keeper.specs.Keeper.{keeping_of};
+ghost use Rattle.txn_core.specs.Exact.{HoldsLatch, KeepsBeside, MayMake, StepsExactly};
+ghost use Rattle.txn_core.specs.Images.{LeavesNothing};
 ghost use Rattle.txn_core.specs.Phases.{ArePhased};
 ghost use Rattle.txn_core.specs.Starting.{IsForced, Starts};
 ghost use Rattle.txn_core.specs.States.{base_of, IsKept};
-ghost use Rattle.txn_core.specs.Stepping.{HasMade, IsCause};
+ghost use Rattle.txn_core.specs.Stepping.{HasMade, IsCause, TouchesWord};
 ghost use Rattle.txn_core.specs.Worlds.{IsNew, StandForCommits};
 ghost use Rattle.txn_state.specs.ReadLaws.{room_seen};
 ghost use Rattle.txn_state.specs.States.{reserved_for};
@@ -51,9 +57,13 @@ pub struct World<D: Device, E: Deed> {
     /// The device when the world began, and what the deeds have in common.
     pub(crate) begun: Snapshot<D>,
     pub(crate) sorts: Snapshot<List<u64>>,
+    /// What a commit's entry takes memory from.
+    pub(crate) alloc: Global,
     pub(crate) ghost kept: { IsKept E.meaning layout (base_of layout sorts.value (D.words begun.value) (D.counts begun.value)) book log (D.cells device) (D.spare device) (D.counts device) },
     /// Where a call is in progress, and a commit's entry has joined.
     pub(crate) ghost phased: { ArePhased book },
+    /// What its faces show is in the words.
+    pub(crate) ghost agreed: { AreInAgreement (seen_in (D.words device) (base_of layout sorts.value (D.words begun.value) (D.counts begun.value)) book) },
     pub(crate) ghost none_put: { flight.items ≡ [] },
     pub(crate) ghost room: { 16 ≤ flight.capacity },
 }
@@ -113,6 +123,7 @@ impl<D: Device, E: Deed> World<D, E> {
                 flight,
                 begun,
                 sorts: common,
+                alloc,
             }),
             Err(refused) => Err(refused),
         }
@@ -129,7 +140,7 @@ impl<D: Device, E: Deed> World<D, E> {
     ///
     /// It is refused where the lane is not in the call's phase, where it names what the lane doesn't hold, where its partition of the log has too little
     /// room beside what is reserved, and for want of memory, in this order. Then only the lane's tally is another.
-    pub fn ask(&mut self, alloc: Global, lane: u32, call: Call<E>) -> Result<(), (Refusal, Call<E>)>
+    pub fn ask(&mut self, lane: u32, call: Call<E>) -> Result<(), (Refusal, Call<E>)>
         requires lane { lane < length self.old.book.lanes.items }
         requires built { IsBuilt call }
         requires may { May E.meaning (faces_of (base_of self.old.layout self.old.sorts.value (D.words self.old.begun.value) (D.counts self.old.begun.value)) self.old.book lane) call }
@@ -137,6 +148,8 @@ impl<D: Device, E: Deed> World<D, E> {
         ensures refuses { IfErr result (λ refused. Refuses self.old.layout (base_of self.old.layout self.old.sorts.value (D.words self.old.begun.value) (D.counts self.old.begun.value))
             (D.words self.old.device) call refused.0 self.old.book self.new.book lane) }
         ensures returned { IfErr result (λ refused. refused.1 ≡ call) }
+        ensures beside { KeepsBeside self.old.book self.new.book lane }
+        ensures owes { OnOk result (MayMake self.old.layout self.old.log call self.old.book self.new.book lane) }
         ensures cells { D.cells self.new.device ≡ D.cells self.old.device }
         ensures counts { D.counts self.new.device ≡ D.counts self.old.device }
         ensures layout { self.new.layout ≡ self.old.layout }
@@ -144,7 +157,7 @@ impl<D: Device, E: Deed> World<D, E> {
         ensures sorts { self.new.sorts ≡ self.old.sorts }
     {
         ask(
-            alloc,
+            self.alloc,
             &mut self.device,
             self.layout,
             &mut self.log,
@@ -160,6 +173,8 @@ impl<D: Device, E: Deed> World<D, E> {
     ///
     /// It waits where another lane has the latch of its partition, or the least structure that its begin wants and that is held; it is stopped where
     /// the device is at its budget, or where a step was told so before; and it is idle where the lane has no call in progress.
+    ///
+    /// Of the heap's data words the touched one alone has another value.
     pub fn step(&mut self, lane: u32) -> Stepped
         requires { lane < length self.old.book.lanes.items }
         ensures face { IsStep E.meaning
@@ -167,6 +182,10 @@ impl<D: Device, E: Deed> World<D, E> {
             (faces_of (base_of self.old.layout self.old.sorts.value (D.words self.old.begun.value) (D.counts self.old.begun.value)) self.new.book) lane result }
         ensures made { HasMade result (D.counts self.old.device) (D.counts self.new.device) }
         ensures cause { IsCause self.old.layout self.old.book self.old.log (D.counts self.old.device) lane result }
+        ensures count { length self.new.book.lanes.items ≡ length self.old.book.lanes.items }
+        ensures touches { TouchesWord self.old.layout (D.cells self.old.device) (D.cells self.new.device) self.new.book.touched }
+        ensures gone { LeavesNothing self.old.layout (lane_at self.old.book lane).transaction (D.cells self.new.device) result }
+        ensures exact { StepsExactly self.old.layout self.old.book self.new.book self.old.log (D.counts self.old.device) (D.counts self.new.device) lane result }
         ensures layout { self.new.layout ≡ self.old.layout }
         ensures begun { self.new.begun ≡ self.old.begun }
         ensures sorts { self.new.sorts ≡ self.old.sorts }
@@ -236,8 +255,8 @@ impl<D: Device, E: Deed> World<D, E> {
         self.book.in_flight(lane)
     }
 
-    /// The cells that are reserved in partition p. At the largest number of 64 bits they may be more.
-    pub fn reserved(&self, p: u32) -> u64
+    /// The cells that partition p needs: those that are reserved there. At the largest number of 64 bits they may be more.
+    pub fn need(&self, p: u32) -> u64
         ensures { result ≡ min (reserved_for self.now.layout self.now.book p) (2 ^ 64 - 1) }
     {
         self.book.reserved(self.layout.partitions, 0, p)
@@ -255,6 +274,13 @@ impl<D: Device, E: Deed> World<D, E> {
     /// There is room for what is reserved, in each partition. It does nothing: the clause is the law.
     pub fn rooms_are_enough(&self)
         ensures { (p : ℕ) → p < self.now.layout.partitions → reserved_for self.now.layout self.now.book p ≤ room_seen self.now.layout p (D.words self.now.device) }
+    {}
+
+    /// Who holds a partition's latch has a call in progress that appends there, closes or takes out, and an event is left of what is under way. It does
+    /// nothing: the clause is the law.
+    pub fn latches_are_held(&self)
+        ensures { (p : ℕ) → p < self.now.layout.partitions → (keeping_of self.now.log).holder p ≢ NOBODY
+            → HoldsLatch self.now.layout self.now.book self.now.log p ((keeping_of self.now.log).holder p) }
     {}
 
     /// Whatever a stop leaves of the device stands for the history and those commits in flight that it has. It does nothing: the clause is the law.

@@ -5,11 +5,12 @@ ghost use Rattle.lane_book.specs.FacesOf.{lane_at};
 ghost use Rattle.lane_book.specs.declared.lane.Doing.TheVariants as Doing;
 ghost use Rattle.txn_state.specs.AppendLaws as AppendLaws;
 ghost use Rattle.txn_state.specs.Stages.{Naming, Storing, stage_of};
+ghost use Rattle.txn_core.specs.Exact.{GoesExactly};
 ghost use Rattle.txn_core.specs.States.{HasWorld};
 ghost use Rattle.txn_core.specs.Stepping.{StepsWorld};
 
 use crate::advancing::{Went, append};
-use crate::events::make;
+use crate::events::{changed, make};
 use lane_book::Book;
 use lane_traits::{Device, Done};
 use lane_types::{Deed, Stepped};
@@ -59,7 +60,8 @@ pub(crate) fn append_update<D: Device, E: Deed>(
     requires doing { (lane_at book.old lane).doing ≡ Doing.Write a v }
     requires stage { stage_of (lane_at book.old lane) ≡ Naming }
     requires world { HasWorld E.meaning layout book.old log.old (D.cells device.old) (D.spare device.old) (D.counts device.old) }
-    ensures { StepsWorld E.meaning layout book.old book.new log.old log.new (D.cells device.old) (D.cells device.new) (D.spare device.old) (D.spare device.new) (D.counts device.old) (D.counts device.new) lane result }
+    ensures steps { StepsWorld E.meaning layout book.old book.new log.old log.new (D.cells device.old) (D.cells device.new) (D.spare device.old) (D.spare device.new) (D.counts device.old) (D.counts device.new) lane result }
+    ensures exact { GoesExactly layout book.old book.new log.old (D.counts device.old) (D.counts device.new) lane result }
 {
     let part = book.part(lane);
     let cell = write_cell(device, book, lane, a, v);
@@ -87,9 +89,10 @@ pub(crate) fn store_word<D: Device, E: Deed>(
     requires doing { (lane_at book.old lane).doing ≡ Doing.Write a v }
     requires stage { stage_of (lane_at book.old lane) ≡ Storing }
     requires world { HasWorld E.meaning layout book.old log.old (D.cells device.old) (D.spare device.old) (D.counts device.old) }
-    ensures { StepsWorld E.meaning layout book.old book.new log.old log.new (D.cells device.old) (D.cells device.new) (D.spare device.old) (D.spare device.new) (D.counts device.old) (D.counts device.new) lane result }
+    ensures steps { StepsWorld E.meaning layout book.old book.new log.old log.new (D.cells device.old) (D.cells device.new) (D.spare device.old) (D.spare device.new) (D.counts device.old) (D.counts device.new) lane result }
+    ensures exact { GoesExactly layout book.old book.new log.old (D.counts device.old) (D.counts device.new) lane result }
 {
-    let touched = if device.word(a) == v { None } else { Some(a) };
+    let touched = changed(device, a, v);
     match make(device, book, lane, Event::PStore(a, v)) {
         Done::Stopped => book.stop(lane),
         Done::Made => book.written(lane, a, v, touched),

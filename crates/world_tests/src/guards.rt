@@ -40,7 +40,7 @@ fn is_data(heap: u32, a: u32) -> bool
 }
 
 /// It is a data word of a heap of 16 blocks from this address on.
-fn expect_data(rt: &impl Abort, heap: u32, a: u32)
+pub fn expect_data(rt: &impl Abort, heap: u32, a: u32)
     ensures { (base : Base) → IsSmall heap base → is_data base.heap a ≡ true }
 {
     if !is_data(heap, a) {

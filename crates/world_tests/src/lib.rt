@@ -8,6 +8,8 @@ pub use deed::Named;
 #[cfg(test)]
 mod guards;
 #[cfg(test)]
+mod laned;
+#[cfg(test)]
 mod regions;
 #[cfg(test)]
 mod script;

@@ -4,7 +4,8 @@ ghost use Rattle.txn_core.specs.States.{base_of};
 ghost use Rattle.world_tests.specs.Small.{IsSmall};
 
 use crate::deed::Named;
-use crate::guards::{expect_lane, expect_may};
+use crate::guards::{expect_data, expect_lane, expect_may};
+use crate::laned::write_and_abort;
 use crate::regions::{expect_sizes, loaded};
 use lane_types::{Call, Refusal, Remains, Reply, Stepped};
 use persist_model::List;
@@ -80,11 +81,11 @@ impl Script {
     }
 
     // Asks, and tells a refusal.
-    fn ask(&mut self, rt: &impl Abort, alloc: Global, lane: u32, ask: Ask) -> Option<Refusal> {
+    fn ask(&mut self, rt: &impl Abort, lane: u32, ask: Ask) -> Option<Refusal> {
         let call = call_of(ask);
         expect_lane(&self.world, rt, lane);
         expect_may(&self.world, rt, self.heap, lane, &call);
-        match self.world.ask(alloc, lane, call) {
+        match self.world.ask(lane, call) {
             Ok(()) => None,
             Err((refusal, _)) => Some(refusal),
         }
@@ -125,17 +126,14 @@ impl Script {
         self.world.in_flight(lane).is_some()
     }
 
-    fn turn(&mut self, rt: &impl Abort, alloc: Global, lane: u32, turn: Turn) {
+    fn turn(&mut self, rt: &impl Abort, lane: u32, turn: Turn) {
         match turn {
             Turn::Makes(ask, reply) => {
-                assert_eq!(rt; self.ask(rt, alloc, lane, ask), None);
+                assert_eq!(rt; self.ask(rt, lane, ask), None);
                 assert_eq!(rt; self.answer(rt, lane), reply);
             }
-            Turn::Asks(ask) => assert_eq!(rt; self.ask(rt, alloc, lane, ask), None),
-            Turn::Refused(ask, refusal) => assert_eq!(rt;
-                self.ask(rt, alloc, lane, ask),
-                Some(refusal)
-            ),
+            Turn::Asks(ask) => assert_eq!(rt; self.ask(rt, lane, ask), None),
+            Turn::Refused(ask, refusal) => assert_eq!(rt; self.ask(rt, lane, ask), Some(refusal)),
             Turn::Steps(stepped) => assert_eq!(rt; self.step(rt, lane), stepped),
             Turn::Moves(count) => self.moves(rt, lane, count),
             Turn::Ends(reply) => assert_eq!(rt; self.answer(rt, lane), reply),
@@ -148,10 +146,27 @@ impl Script {
     }
 
     /// Takes these turns, each with its lane. It panics where something else comes of one, and at an ask that may not be made.
-    pub fn play(&mut self, rt: &impl Abort, alloc: Global, turns: &[(u32, Turn)]) {
+    pub fn play(&mut self, rt: &impl Abort, turns: &[(u32, Turn)]) {
         for (lane, turn) in turns {
-            self.turn(rt, alloc, *lane, *turn);
+            self.turn(rt, *lane, *turn);
         }
+    }
+
+    /// The lane writes a word in a transaction, and takes it back, by the calls that any value has which several lanes use. What is left of the world.
+    pub fn write_and_abort(
+        self,
+        rt: &impl Abort,
+        lane: u32,
+        set: u8,
+        a: u32,
+        v: u64,
+    ) -> Remains<PlainCells, Named> {
+        let mut world = self.world;
+        expect_lane(&world, rt, lane);
+        expect_may(&world, rt, self.heap, lane, &Call::Begin(set));
+        expect_data(rt, self.heap, a);
+        write_and_abort(&mut world, rt, lane, set, a, v);
+        world.finish()
     }
 
     /// What is left of the world.

@@ -52,7 +52,7 @@ fn plays(
 ) -> Result<(), Fail> {
     let words = words_of(alloc, region.0, region.1)?;
     let mut script = Script::start(rt, alloc, words.as_slice(), region.2, lanes);
-    script.play(rt, alloc, turns);
+    script.play(rt, turns);
     let remains = script.finish();
     assert_eq!(rt; remains.device.events(), left.0);
     assert_eq!(rt; remains.history.len(), left.1);
@@ -60,7 +60,8 @@ fn plays(
 }
 
 /// The append of the update makes 22 events, the word 1; a fence 1, the append of the end 22, the closing of each record 2, and the removal of a
-/// bucket 7. The commit is in flight between the last two events of its end's append.
+/// bucket 7. So the write makes the 23 that it may make at the most, and the commit 34 of at most 55. The commit is in flight between the last two
+/// events of its end's append.
 const A_COMMIT: &[(u32, Turn)] = &[
     (0, Turn::Makes(Ask::Begin(1), Reply::Begun(1))),
     (0, Turn::Asks(Ask::Write(103, 7))),
@@ -88,7 +89,7 @@ fn a_write_is_committed(rt: HostRuntime) -> Result<(), Fail> {
 
 /// Lane 1 waits for the structure. The log has room for 3 records beside what is reserved, where a second write needs 5. The write makes 23 events,
 /// the appends of the rollback record and of the compensation 22 each, the word and a fence 2, the append of the end 22, the closing of three records
-/// 4, that of the end 2, and the removal of three buckets 21. A commit without records makes none.
+/// 4, that of the end 2, and the removal of three buckets 21: 95 of the 102 that it may make at the most. A commit without records makes none.
 const AN_ABORT: &[(u32, Turn)] = &[
     (0, Turn::Makes(Ask::Begin(1), Reply::Begun(1))),
     (0, Turn::Makes(Ask::Write(103, 7), Reply::Written)),
@@ -170,4 +171,15 @@ const A_LATCH: &[(u32, Turn)] = &[
 #[test]
 fn a_lane_waits_for_a_latch(rt: HostRuntime) -> Result<(), Fail> {
     plays(&rt, rt.alloc(), SPLIT_LOG, 3, A_LATCH, (46, 0))
+}
+
+/// The events of a write and of an abort of it, as above.
+#[test]
+fn a_world_is_used_by_its_trait(rt: HostRuntime) -> Result<(), Fail> {
+    let words = words_of(rt.alloc(), WHOLE_LOG.0, WHOLE_LOG.1)?;
+    let script = Script::start(&rt, rt.alloc(), words.as_slice(), WHOLE_LOG.2, 2);
+    let remains = script.write_and_abort(&rt, 1, 1, 103, 7);
+    assert_eq!(rt; remains.device.events(), 118);
+    assert_eq!(rt; remains.history.len(), 0);
+    Ok(())
 }

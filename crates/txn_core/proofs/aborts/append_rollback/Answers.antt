@@ -1,15 +1,16 @@
-use Rattle.std.proofs.Common.{◌≡◌, ◌%◌, sym, ap, ◌∙◌, subst}
+use Rattle.std.proofs.Common.{◌≡◌, ◌%◌, sym, ap, ◌∙◌, subst, refl}
 use Rattle.lane_book.specs.FacesOf.{lane_at}
 use Rattle.lane_book.proofs.Faces.{lane_read}
 use Rattle.log_keeper.specs.Keeper.{keeping_of}
 use Rattle.txn_state.specs.AppendLaws.{IsNextCell, GoesOnTo, rollback, undo}
-use Rattle.txn_state.specs.ReadLaws.{appends_in}
-use Rattle.txn_core.proofs.Facts.{IsRead, is_book, slots_are, can_begin, runs_behind_if_free}
+use Rattle.txn_state.specs.ReadLaws.{appends_in, makes_events}
+use Rattle.txn_core.proofs.Facts.{IsRead, is_book, slots_are, can_begin, runs_behind_if_free, owes_event}
 use Rattle.txn_core.proofs.Exits.{append_answered_if_free}
 use Rattle.txn_core.proofs.Reading.{read_of}
 use Rattle.txn_core.proofs.Aborting.{next_rollback, can_roll_back, paid_stage, paid_inside, paid_calling, whole_is_paid, whole_rests, stored_is_paid, was_at_gate, stored_step, settled_step}
 use Rattle.txn_core.proofs.aborts.append_rollback.Goals.{After-rollback_cell-cell}
 use Rattle.txn_core.proofs.aborts.append_rollback.Goals as goal
+use Rattle.txn_core.proofs.ExactParts.{append_answered_exactly, append_stored_paid, append_whole_paid, paid_moves}
 
 read : (g : _) (c : After-rollback_cell-cell g) → IsRead (g.D.Look.words c.args.device.now) (g.D.Device.cells c.args.device.now) (g.D.Device.counts c.args.device.now)
 read g c = read_of _ _ (g.D.Device.counts c.args.device.now) (g.met.D.Device.reads c.args.device.now) (g.met.D.Device.full c.args.device.now) (g.met.D.Device.within c.args.device.now)
@@ -61,21 +62,21 @@ go_on-requires g c = paid_calling c.args.book.now _ c.args.lane
     (whole_is_paid _ _ c.args.book.now _ _ _ _ _ _ _ _ (g.D.Device.counts c.args.device.now) (g.D.Device.counts c.append.new.device) c.args.lane _ c.requires.lane c.in-Whole.ensures.appends)
     c.requires.calling c.append.ensures.book
 
-pub returns-in-Answered : goal.returns-in-Answered
-returns-in-Answered g c = let at = (goal.at.returns-in-Answered g c).After-rollback_cell-cell in
+pub returns-in-Answered-clause-steps : goal.returns-in-Answered-clause-steps
+returns-in-Answered-clause-steps g c = let at = (goal.at.returns-in-Answered-clause-steps g c).After-rollback_cell-cell in
     append_answered_if_free g.E.Deed.meaning c.args.layout c.args.book.now _ c.args.log.now _ _ _ _ _ _ (g.D.Device.counts c.args.device.now) (g.D.Device.counts c.append.new.device) c.args.lane _ _
     (read g at) c.requires.lane (ap appends_in c.requires.stage) (next g at) c.in-Answered.ensures.appends
 
-pub returns-in-Stored : goal.returns-in-Stored
-returns-in-Stored g c = let at = (goal.at.returns-in-Stored g c).After-rollback_cell-cell in
+pub returns-in-Stored-clause-steps : goal.returns-in-Stored-clause-steps
+returns-in-Stored-clause-steps g c = let at = (goal.at.returns-in-Stored-clause-steps g c).After-rollback_cell-cell in
     let paid = stored_is_paid _ _ c.args.book.now _ _ _ _ _ _ _ _ (g.D.Device.counts c.args.device.now) (g.D.Device.counts c.append.new.device) c.args.lane _ c.requires.lane _
     c.in-Stored.ensures.appends in
     stored_step g.E.Deed.meaning c.args.layout c.args.book.now c.append.new.book c.args.log.now c.append.new.log _ _ _ _ _ (g.D.Device.counts c.args.device.now)
     (g.D.Device.counts c.append.new.device) c.args.lane _ c.requires.lane (read g at) (ap appends_in c.requires.stage) (next g at) _ _ _ _ _ c.rollback_stored.ensures.result c.part-part.ensures
     c.in-Stored.ensures.appends (rollback (paid_stage c.args.book.now _ c.args.lane paid ∙ c.requires.stage)) c.rollback_stored.ensures.reserved c.rollback_stored.ensures.moves
 
-pub returns-in-Whole : goal.returns-in-Whole
-returns-in-Whole g c = let at = (goal.at.returns-in-Whole g c).After-rollback_cell-cell in
+pub returns-in-Whole-clause-steps : goal.returns-in-Whole-clause-steps
+returns-in-Whole-clause-steps g c = let at = (goal.at.returns-in-Whole-clause-steps g c).After-rollback_cell-cell in
     let paid = whole_is_paid _ _ c.args.book.now _ _ _ _ _ _ _ _ (g.D.Device.counts c.args.device.now) (g.D.Device.counts c.append.new.device) c.args.lane _ c.requires.lane
     c.in-Whole.ensures.appends in
     settled_step g.E.Deed.meaning c.args.layout c.args.book.now c.append.new.book c.args.log.now c.append.new.log _ _ _ _ _ (g.D.Device.counts c.args.device.now)
@@ -84,3 +85,19 @@ returns-in-Whole g c = let at = (goal.at.returns-in-Whole g c).After-rollback_ce
     (subst (GoesOnTo (lane_at c.append.new.book c.args.lane)) (sym c.undo_part-next.ensures) (undo (paid_stage c.args.book.now _ c.args.lane paid ∙ c.requires.stage)))
     (record { kept = c.release_latch.ensures.kept; number = c.release_latch.ensures.number; ledger = c.release_latch.ensures.ledger; slots = c.release_latch.ensures.slots })
     c.go_on.ensures.moves
+
+pub returns-in-Answered-clause-exact : goal.returns-in-Answered-clause-exact
+returns-in-Answered-clause-exact g c = append_answered_exactly g.E.Deed.meaning c.args.layout c.args.book.now c.append.new.book c.args.log.now c.append.new.log _ _ _ _ _ (g.D.Device.counts c.args.device.now) (g.D.Device.counts c.append.new.device) c.args.lane _ _
+    c.requires.lane (ap appends_in c.requires.stage) (ap makes_events c.requires.stage) (owes_event _ _ _ _ _ _ (g.D.Device.counts c.args.device.now) c.args.lane c.requires.lane (ap makes_events c.requires.stage) c.requires.world).0 (g.met.D.Device.within c.append.new.device) c.in-Answered.ensures.appends
+
+pub returns-in-Stored-clause-exact : goal.returns-in-Stored-clause-exact
+returns-in-Stored-clause-exact g c = paid_moves g.E.Deed.meaning c.args.layout c.args.book.now c.append.new.book c.rollback_stored.new.self c.args.log.now (g.D.Device.counts c.args.device.now) (g.D.Device.counts c.append.new.device) c.args.lane _ _ _ c.rollback_stored.ensures.result
+    (append_stored_paid g.E.Deed.meaning c.args.layout c.args.book.now c.append.new.book c.args.log.now c.append.new.log _ _ _ _ _ (g.D.Device.counts c.args.device.now) (g.D.Device.counts c.append.new.device) c.args.lane _ _
+    c.requires.lane (ap makes_events c.requires.stage) (owes_event _ _ _ _ _ _ (g.D.Device.counts c.args.device.now) c.args.lane c.requires.lane (ap makes_events c.requires.stage) c.requires.world).0 c.in-Stored.ensures.appends)
+    (ap makes_events c.requires.stage) (g.met.D.Device.within c.append.new.device) refl refl c.rollback_stored.ensures.moves
+
+pub returns-in-Whole-clause-exact : goal.returns-in-Whole-clause-exact
+returns-in-Whole-clause-exact g c = paid_moves g.E.Deed.meaning c.args.layout c.args.book.now c.append.new.book c.go_on.new.self c.args.log.now (g.D.Device.counts c.args.device.now) (g.D.Device.counts c.append.new.device) c.args.lane _ _ _ c.go_on.ensures.result
+    (append_whole_paid g.E.Deed.meaning c.args.layout c.args.book.now c.append.new.book c.args.log.now c.append.new.log _ _ _ _ _ (g.D.Device.counts c.args.device.now) (g.D.Device.counts c.append.new.device) c.args.lane _
+    c.requires.lane (ap makes_events c.requires.stage) (owes_event _ _ _ _ _ _ (g.D.Device.counts c.args.device.now) c.args.lane c.requires.lane (ap makes_events c.requires.stage) c.requires.world).0 c.in-Whole.ensures.appends)
+    (ap makes_events c.requires.stage) (g.met.D.Device.within c.append.new.device) refl refl c.go_on.ensures.moves

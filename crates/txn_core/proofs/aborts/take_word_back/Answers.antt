@@ -1,14 +1,18 @@
-use Rattle.std.proofs.Common.{◌≡◌, ◌-◌, get_or, Some, None, ap}
+use Rattle.std.proofs.Common.{◌≡◌, ◌∙◌, ◌-◌, get_or, Some, None, ap, refl}
 use Rattle.lane_book.specs.FacesOf.{lane_at}
 use Rattle.lane_book.specs.Stores.{no_write}
 use Rattle.lane_book.proofs.Faces.{lane_read}
-use Rattle.txn_state.specs.ReadLaws.{makes_events}
+use Rattle.txn_state.specs.ReadLaws.{makes_events, appends_in}
 use Rattle.txn_core.proofs.Facts.{few_lanes, is_book, owes_event}
+use Rattle.txn_core.specs.Making.{changed_word}
 use Rattle.txn_core.proofs.Reading.{read_of}
+use Rattle.txn_core.proofs.WritingWords.{word_read}
 use Rattle.txn_core.proofs.Ending.{made_pays, made_stops}
 use Rattle.txn_core.proofs.AbortingWords.{last_stored, last_read, finds_same, some_stored, read_below, read_fits, word_inside, word_seen, some_change, paid_undoes, paid_stored, taken_back_world}
 use Rattle.txn_core.proofs.aborts.take_word_back.Goals.{After-as_slice}
 use Rattle.txn_core.proofs.aborts.take_word_back.Goals as goal
+use Rattle.txn_core.proofs.Exactly.{unblocked_own}
+use Rattle.txn_core.proofs.ExactParts.{make_paid, make_stops, paid_moves}
 
 lane_is : (g : _) (c : After-as_slice g) → c.index-kept.result.now ≡ lane_at c.args.book.now c.args.lane
 lane_is g c = lane_read c.args.book.now c.args.lane c.index-kept.result.now c.requires.lane c.index-kept.ensures
@@ -33,11 +37,11 @@ returns-in_default g c = let at = (goal.at.returns-in_default g c).After-as_slic
     (get_or c.as_slice.result.now (c.index-kept.result.now.stored - 1) no_write) (write_is g at)
     (finds_same c.args.log.now (lane_at c.args.book.now c.args.lane) c.index-kept.result.now _ _ None (lane_is g at) c.from.ensures c.in_default.ensures))
 
-pub word-requires : goal.word-requires
-word-requires g c = word_seen _ _ c.args.book.now _ _ _ (g.D.Device.counts c.args.device.now) c.args.lane c.requires.lane c.requires.stage c.requires.world _
+pub changed-touched-requires : goal.changed-touched-requires
+changed-touched-requires g c = word_seen _ _ c.args.book.now _ _ _ (g.D.Device.counts c.args.device.now) c.args.lane c.requires.lane c.requires.stage c.requires.world _
     (get_or c.as_slice.result.now (c.index-kept.result.now.stored - 1) no_write)
     (read_of _ _ (g.D.Device.counts c.args.device.now) (g.met.D.Device.reads c.args.device.now) (g.met.D.Device.full c.args.device.now) (g.met.D.Device.within c.args.device.now)
-    (g.met.D.Device.budget_fits c.args.device.now)) (write_is g (goal.at.word-requires g c).After-as_slice)
+    (g.met.D.Device.budget_fits c.args.device.now)) (write_is g (goal.at.changed-touched-requires g c).After-as_slice)
 
 pub make-requires-clause-few : goal.make-requires-clause-few
 make-requires-clause-few g c = few_lanes _ _ _ _ _ _ (g.D.Device.counts c.args.device.now) c.requires.world
@@ -66,14 +70,28 @@ word_taken_back-requires-clause-some g c = paid_stored c.args.book.now _ c.args.
     (made_pays _ _ _ (g.D.Device.counts c.args.device.now) (g.D.Device.counts c.make.new.device) _ _ _ _ _ c.in-Made.ensures.makes)
     (some_stored _ _ c.args.book.now _ _ _ (g.D.Device.counts c.args.device.now) c.args.lane c.requires.lane c.requires.stage c.requires.world)
 
-pub returns-in-Stopped : goal.returns-in-Stopped
-returns-in-Stopped g c = made_stops g.E.Deed.meaning c.args.layout c.args.log.now _ _ _ _ _ _ _ c.args.book.now c.make.new.book _ c.args.lane _ c.stop-in-Stopped.ensures.result
+pub returns-in-Stopped-clause-steps : goal.returns-in-Stopped-clause-steps
+returns-in-Stopped-clause-steps g c = made_stops g.E.Deed.meaning c.args.layout c.args.log.now _ _ _ _ _ _ _ c.args.book.now c.make.new.book _ c.args.lane _ c.stop-in-Stopped.ensures.result
     c.requires.lane c.in-Stopped.ensures.makes c.stop-in-Stopped.ensures.is c.stop-in-Stopped.ensures.step c.stop-in-Stopped.ensures.book
 
-pub returns-in-Made : goal.returns-in-Made
-returns-in-Made g c = let at = (goal.at.returns-in-Made g c).After-as_slice in
+pub returns-in-Made-clause-steps : goal.returns-in-Made-clause-steps
+returns-in-Made-clause-steps g c = let at = (goal.at.returns-in-Made-clause-steps g c).After-as_slice in
     taken_back_world g.E.Deed.meaning c.args.layout c.args.book.now c.make.new.book _ c.args.log.now _ _ _ _ (g.D.Device.counts c.args.device.now) (g.D.Device.counts c.make.new.device)
     c.args.lane _ _ (get_or c.as_slice.result.now (c.index-kept.result.now.stored - 1) no_write) _ _ c.word_taken_back.ensures.result c.requires.lane c.requires.stage (write_is g at)
     c.undo_part-next.ensures
     (finds_same c.args.log.now (lane_at c.args.book.now c.args.lane) c.index-kept.result.now _ _ (Some c.in-Some.v) (lane_is g at) c.from.ensures c.in-Some.ensures)
     c.in-Made.ensures.makes c.word_taken_back.ensures.moves
+    (c.changed-touched.ensures ∙ ap (λ n. changed_word n c.in-Some.v (get_or c.as_slice.result.now (c.index-kept.result.now.stored - 1) no_write).address)
+    (word_read _ (g.D.Device.cells c.args.device.now) _ (g.met.D.Device.reads c.args.device.now)
+    (word_inside _ _ c.args.book.now _ _ _ (g.D.Device.counts c.args.device.now) c.args.lane c.requires.lane c.requires.stage c.requires.world
+    (get_or c.as_slice.result.now (c.index-kept.result.now.stored - 1) no_write) (write_is g at))))
+
+pub returns-in-Stopped-clause-exact : goal.returns-in-Stopped-clause-exact
+returns-in-Stopped-clause-exact g c = make_stops c.args.layout c.args.book.now c.make.new.book c.stop-in-Stopped.new.self c.args.log.now _ _ _ (g.D.Device.counts c.args.device.now) (g.D.Device.counts c.make.new.device) _ _ c.args.lane _ c.stop-in-Stopped.ensures.result c.requires.lane
+    (unblocked_own c.args.layout c.args.book.now c.args.log.now c.args.lane (ap makes_events c.requires.stage) (ap appends_in c.requires.stage)) (ap makes_events c.requires.stage) c.in-Stopped.ensures.makes c.stop-in-Stopped.ensures.is
+
+pub returns-in-Made-clause-exact : goal.returns-in-Made-clause-exact
+returns-in-Made-clause-exact g c = paid_moves g.E.Deed.meaning c.args.layout c.args.book.now c.make.new.book c.word_taken_back.new.self c.args.log.now (g.D.Device.counts c.args.device.now) (g.D.Device.counts c.make.new.device) c.args.lane _ _ _ c.word_taken_back.ensures.result
+    (make_paid c.args.layout c.args.book.now c.make.new.book c.args.log.now _ _ _ (g.D.Device.counts c.args.device.now) (g.D.Device.counts c.make.new.device) _ _ c.args.lane c.requires.lane (unblocked_own c.args.layout c.args.book.now c.args.log.now c.args.lane (ap makes_events c.requires.stage) (ap appends_in c.requires.stage))
+    (owes_event _ _ _ _ _ _ (g.D.Device.counts c.args.device.now) c.args.lane c.requires.lane (ap makes_events c.requires.stage) c.requires.world).0 c.in-Made.ensures.makes)
+    (ap makes_events c.requires.stage) (g.met.D.Device.within c.make.new.device) refl refl c.word_taken_back.ensures.moves

@@ -1,6 +1,8 @@
 use Rattle.lane_book.proofs.Asking.{on_ok, on_err}
 use Rattle.txn_core.proofs.Asked.{is_plain, stays_asked, stays_roomier}
 use Rattle.txn_core.proofs.AskedFaces.{asked_phases, roomier_phases, either_way}
+use Rattle.txn_core.proofs.AskedExactly.{beside_with, quiet_owes}
+use Rattle.lane_book.specs.FacesOf.{lane_at}
 use Rattle.txn_core.proofs.ask_calls.ask_quiet.Goals as goal
 
 pub ask_plain-requires-clause-plain : goal.ask_plain-requires-clause-plain
@@ -19,3 +21,12 @@ pub returns-clause-phased : goal.returns-clause-phased
 returns-clause-phased g c = either_way c.ask_plain.result
     (λ asked. asked_phases c.args.book.now c.ask_plain.new.self c.args.lane c.args.call.now c.args.doing _ _ _ c.requires.lane c.requires.nothing asked)
     (λ roomier. roomier_phases c.args.book.now c.ask_plain.new.self c.args.lane c.requires.lane roomier) c.ask_plain.ensures.asked c.ask_plain.ensures.roomier
+
+pub returns-clause-beside : goal.returns-clause-beside
+returns-clause-beside g c = either_way c.ask_plain.result
+    (λ asked. beside_with c.args.book.now c.ask_plain.new.self c.args.lane (lane_at c.ask_plain.new.self c.args.lane) c.args.book.now.touched c.requires.lane asked.is)
+    (λ roomier. beside_with c.args.book.now c.ask_plain.new.self c.args.lane (lane_at c.ask_plain.new.self c.args.lane) c.args.book.now.touched c.requires.lane roomier.is)
+    c.ask_plain.ensures.asked c.ask_plain.ensures.roomier
+
+pub returns-clause-owes : goal.returns-clause-owes
+returns-clause-owes g c = on_ok c.ask_plain.result (λ asked. quiet_owes c.args.book.now c.ask_plain.new.self c.args.lane c.args.call.now c.args.doing c.requires.quiet asked) c.ask_plain.ensures.asked

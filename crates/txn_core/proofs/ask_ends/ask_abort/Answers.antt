@@ -1,3 +1,4 @@
+use Rattle.lane_book.proofs.Asking.{on_ok}
 use Rattle.std.proofs.Common.{false, length, ◌∙◌, ap}
 use Rattle.log_keeper.specs.Keeper.{keeping_of}
 use Rattle.log_keeper.specs.Listing.{gates_in}
@@ -10,6 +11,9 @@ use Rattle.lane_book.proofs.Keeps.{by_result}
 use Rattle.txn_core.proofs.AskedEnds.{on_both, on_both_err, is_between, owes_abort, stays_abort, stays_behind, phased_owing, same_owing, phased_abort, phased_refused, changes_abort, same_refused, always_refused}
 use Rattle.txn_core.proofs.Facts.{is_book, slots_are}
 use Rattle.txn_core.proofs.Latches.{slot_of_lane}
+use Rattle.txn_core.proofs.AskedExactly.{beside_asked, beside_roomier, beside_goes, abort_owes}
+use Rattle.lane_book.specs.Lanes.{owing}
+use Rattle.txn_core.proofs.AskedFaces.{either_way}
 use Rattle.txn_core.proofs.ask_ends.ask_abort.Goals as goal
 
 pub take_memory-requires-clause-book : goal.take_memory-requires-clause-book
@@ -77,3 +81,22 @@ returns-in-Err-clause-still g c = λ base world. c.take_memory.ensures.stays c.a
 
 pub returns-in-Err-clause-phased : goal.returns-in-Err-clause-phased
 returns-in-Err-clause-phased g c = phased_owing c.args.book.now c.take_memory.new.book c.args.lane 0 0 c.in-Err.ensures.owes_nothing
+
+pub returns-in-Ok-clause-beside : goal.returns-in-Ok-clause-beside
+returns-in-Ok-clause-beside g c = either_way c.ask_plain.result
+    (λ asked. beside_asked c.args.book.now c.take_memory.new.book c.ask_plain.new.self c.args.lane c.abort_wants-wants.result.events c.abort_wants-wants.result.records _ _ _ _ _ c.requires.lane c.in-Ok.ensures.owes asked)
+    (λ roomier. beside_roomier c.args.book.now c.take_memory.new.book c.ask_plain.new.self c.args.lane c.abort_wants-wants.result.events c.abort_wants-wants.result.records c.requires.lane c.in-Ok.ensures.owes roomier)
+    c.ask_plain.ensures.asked c.ask_plain.ensures.roomier
+
+pub returns-in-Ok-clause-owes : goal.returns-in-Ok-clause-owes
+returns-in-Ok-clause-owes g c =
+    let lane_is = lane_read c.args.book.now c.args.lane c.index-kept.result.now c.requires.lane c.index-kept.ensures in
+    on_ok c.ask_plain.result
+    (λ asked. abort_owes c.args.layout c.args.log.now c.args.book.now c.take_memory.new.book c.ask_plain.new.self c.args.lane c.abort_wants-wants.result.events c.abort_wants-wants.result.records c.records_of-n.result c.len.result _ c.in-Ok.ensures.owes
+    (c.records_of-n.ensures ∙ ap (λ (x : Lane _). length (gates_in x.transaction false (keeping_of c.args.log.now).ledger)) lane_is)
+    (c.len.ensures ∙ ap (λ (x : Lane _). length x.updates.items) lane_is)
+    c.abort_wants-wants.ensures.events asked)
+    c.ask_plain.ensures.asked
+
+pub returns-in-Err-clause-beside : goal.returns-in-Err-clause-beside
+returns-in-Err-clause-beside g c = beside_goes c.args.book.now c.take_memory.new.book c.args.lane (owing 0 0 (lane_at c.args.book.now c.args.lane)) c.in-Err.ensures.owes_nothing.goes

@@ -11,6 +11,9 @@ use Rattle.lane_book.proofs.Keeps.{by_result}
 use Rattle.txn_core.proofs.AskedEnds.{has_begun, gives_none, none_inside, is_between, owes_commit, stays_commit, stays_behind, stays_stocked, after_owing, same_owing, same_places, commit_changes, phased_owing, phased_places, phased_commit}
 use Rattle.txn_core.proofs.Facts.{is_book, slots_are}
 use Rattle.txn_core.proofs.Latches.{slot_of_lane}
+use Rattle.txn_core.proofs.AskedExactly.{beside_commit, beside_owing, beside_places, beside_goes, commit_owes}
+use Rattle.lane_book.specs.Lanes.{owing}
+use Rattle.txn_core.proofs.AskedFaces.{either_way}
 use Rattle.txn_core.proofs.ask_ends.ask_commit.Goals as goal
 
 pub take_memory-requires-clause-book : goal.take_memory-requires-clause-book
@@ -87,3 +90,21 @@ returns-in-Err-clause-still g c = λ base world. c.take_memory.ensures.stays c.a
 
 pub returns-in-Err-clause-phased : goal.returns-in-Err-clause-phased
 returns-in-Err-clause-phased g c = phased_owing c.args.book.now c.take_memory.new.book c.args.lane 0 0 c.in-Err.ensures.owes_nothing
+
+pub returns-in-Ok-clause-beside : goal.returns-in-Ok-clause-beside
+returns-in-Ok-clause-beside g c = either_way c.ask_entry.result
+    (λ it. beside_commit c.args.layout c.args.deed c.args.book.now c.take_memory.new.book c.ask_entry.new.book c.args.lane c.commit_wants-wants.result.events c.commit_wants-wants.result.records c.requires.lane c.in-Ok.ensures.owes it)
+    (λ places. beside_owing c.args.book.now c.take_memory.new.book c.ask_entry.new.book c.args.lane c.commit_wants-wants.result.events c.commit_wants-wants.result.records c.in-Ok.ensures.owes
+    (beside_places c.take_memory.new.book c.ask_entry.new.book c.args.lane places))
+    c.ask_entry.ensures.asked c.ask_entry.ensures.places
+
+pub returns-in-Ok-clause-owes : goal.returns-in-Ok-clause-owes
+returns-in-Ok-clause-owes g c = on_ok c.ask_entry.result
+    (λ it. commit_owes c.args.layout c.args.log.now c.args.deed c.args.book.now c.take_memory.new.book c.ask_entry.new.book c.args.lane c.commit_wants-wants.result.events c.commit_wants-wants.result.records c.records_of-n.result c.requires.lane c.in-Ok.ensures.owes
+    (c.records_of-n.ensures ∙ ap (λ (x : Lane _). length (gates_in x.transaction false (keeping_of c.args.log.now).ledger))
+    (lane_read c.args.book.now c.args.lane c.index.result.now c.requires.lane c.index.ensures))
+    c.commit_wants-wants.ensures.events it)
+    c.ask_entry.ensures.asked
+
+pub returns-in-Err-clause-beside : goal.returns-in-Err-clause-beside
+returns-in-Err-clause-beside g c = beside_goes c.args.book.now c.take_memory.new.book c.args.lane (owing 0 0 (lane_at c.args.book.now c.args.lane)) c.in-Err.ensures.owes_nothing.goes

@@ -1,8 +1,12 @@
+use Rattle.lane_book.proofs.Asking.{on_ok}
 use Rattle.std.proofs.Common.{arith}
-use Rattle.txn_core.proofs.AskedFaces.{owed_phases}
+use Rattle.txn_core.proofs.AskedFaces.{owed_phases, either_way}
 use Rattle.txn_core.proofs.Facts.{is_book}
 use Rattle.txn_core.proofs.Reading.{read_of}
 use Rattle.txn_core.proofs.AskedWriting.{on_ok_three, on_err_two, write_asked, lacks_at_once, lacks_behind}
+use Rattle.txn_core.proofs.AskedExactly.{beside_asked, beside_roomier, beside_goes, write_owes}
+use Rattle.lane_book.specs.FacesOf.{lane_at}
+use Rattle.lane_book.specs.Lanes.{owing}
 use Rattle.txn_core.proofs.ask_writes.ask_write.Goals as goal
 
 pub take_memory-requires-clause-book : goal.take_memory-requires-clause-book
@@ -35,3 +39,17 @@ returns-in-Err-clause-lacks g c = lacks_at_once g.E.Deed.meaning c.args.layout c
     (read_of _ _ (g.D.Device.counts c.args.device.now) (g.met.D.Device.reads c.args.device.now) (g.met.D.Device.full c.args.device.now) (g.met.D.Device.within c.args.device.now)
     (g.met.D.Device.budget_fits c.args.device.now)) c.requires.lane c.requires.nothing c.requires.phase
     (owed_phases c.args.book.now c.take_memory.new.book c.args.lane _ _ c.in-Err.ensures.owes_nothing) c.take_memory.ensures.stays c.in-Err.ensures.owes_nothing
+
+pub returns-in-Ok-clause-beside : goal.returns-in-Ok-clause-beside
+returns-in-Ok-clause-beside g c = either_way c.ask_write.result
+    (λ asked. beside_asked c.args.book.now c.take_memory.new.book c.ask_write.new.self c.args.lane c.write_wants.result.events c.write_wants.result.records _ _ _ _ _ c.requires.lane c.in-Ok.ensures.owes asked)
+    (λ roomier. beside_roomier c.args.book.now c.take_memory.new.book c.ask_write.new.self c.args.lane c.write_wants.result.events c.write_wants.result.records c.requires.lane c.in-Ok.ensures.owes roomier)
+    c.ask_write.ensures.asked c.ask_write.ensures.roomier
+
+pub returns-in-Ok-clause-owes : goal.returns-in-Ok-clause-owes
+returns-in-Ok-clause-owes g c = on_ok c.ask_write.result
+    (λ asked. write_owes c.args.layout c.args.log.now c.args.book.now c.take_memory.new.book c.ask_write.new.self c.args.lane c.write_wants.result.events c.write_wants.result.records c.args.a c.args.v _ _ _ _ c.in-Ok.ensures.owes c.write_wants.ensures.events asked)
+    c.ask_write.ensures.asked
+
+pub returns-in-Err-clause-beside : goal.returns-in-Err-clause-beside
+returns-in-Err-clause-beside g c = beside_goes c.args.book.now c.take_memory.new.book c.args.lane (owing 0 0 (lane_at c.args.book.now c.args.lane)) c.in-Err.ensures.owes_nothing.goes

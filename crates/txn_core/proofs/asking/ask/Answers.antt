@@ -10,6 +10,8 @@ use Rattle.txn_core.proofs.AskedRoom.{need_is_told}
 use Rattle.txn_core.proofs.Facts.{any_start, is_book, has_logs}
 use Rattle.txn_core.proofs.Reading.{read_of}
 use Rattle.txn_core.proofs.asking.ask.Goals as goal
+use Rattle.txn_core.proofs.AskedExactly.{beside_with}
+use Rattle.lane_book.specs.Lanes.{refused_lane}
 use Rattle.txn_core.proofs.asking.ask.Goals.{After-refusal}
 
 -- ---- behind the look at what stands against it
@@ -110,3 +112,6 @@ returns-in-Err-clause-refuses g c =
       exact = tt;
       face = lacks_face c.args.call c.args.book.now c.ask_fitting.new.book c.args.lane c.in-Err.ensures.lacks.face;
     }
+
+pub returns-in-Some-clause-beside : goal.returns-in-Some-clause-beside
+returns-in-Some-clause-beside g c = beside_with c.args.book.now c.refuse.new.self c.args.lane (refused_lane c.args.call c.in-Some.refusal (lane_at c.args.book.now c.args.lane)) c.args.book.now.touched c.requires.lane c.refuse.ensures.is

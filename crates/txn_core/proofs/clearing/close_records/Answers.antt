@@ -1,10 +1,10 @@
-use Rattle.std.proofs.Common.{◌%◌, ◌∙◌, ap}
+use Rattle.std.proofs.Common.{◌%◌, ◌∙◌, ap, refl}
 use Rattle.log_keeper.specs.Keeper.{keeping_of}
 use Rattle.lane_book.specs.declared.lane.Lane.{Lane}
 use Rattle.lane_book.proofs.Faces.{lane_read}
 use Rattle.txn_state.specs.ClosingLaws.{end_closing_begun}
-use Rattle.txn_state.specs.ReadLaws.{clears_in, makes_events}
-use Rattle.txn_core.proofs.Facts.{is_book, slots_are, can_run}
+use Rattle.txn_state.specs.ReadLaws.{clears_in, makes_events, appends_in}
+use Rattle.txn_core.proofs.Facts.{is_book, slots_are, can_run, owes_event}
 use Rattle.txn_core.proofs.Exits.{clearing_answered}
 use Rattle.txn_core.proofs.Calling.{is_calling}
 use Rattle.txn_core.proofs.Paid.{lanes_paid}
@@ -12,6 +12,8 @@ use Rattle.txn_core.proofs.Ending.{paid_calls}
 use Rattle.txn_core.proofs.Closings.{closing_whole, whole_pays, has_end_room, slot_behind}
 use Rattle.txn_core.proofs.NoAppend.{never_stored}
 use Rattle.txn_core.proofs.clearing.close_records.Goals as goal
+use Rattle.txn_core.proofs.Exactly.{unblocked_own}
+use Rattle.txn_core.proofs.ExactParts.{advance_answered_exactly, advance_whole_paid, paid_moves}
 
 pub advance-requires-clause-slots : goal.advance-requires-clause-slots
 advance-requires-clause-slots g c = slots_are _ _ _ _ _ _ (g.D.Device.counts c.args.device.now) c.requires.world
@@ -42,15 +44,15 @@ go_on-requires g c =
       kept = c.advance.ensures.book;
     }
 
-pub returns-in-Answered : goal.returns-in-Answered
-returns-in-Answered g c = clearing_answered g.E.Deed.meaning c.args.layout c.args.book.now _ c.args.log.now _ _ _ _ _ _ _ c.args.lane _ c.requires.lane (ap clears_in c.requires.stage) c.in-Answered.ensures.advances
+pub returns-in-Answered-clause-steps : goal.returns-in-Answered-clause-steps
+returns-in-Answered-clause-steps g c = clearing_answered g.E.Deed.meaning c.args.layout c.args.book.now _ c.args.log.now _ _ _ _ _ _ _ c.args.lane _ c.requires.lane (ap clears_in c.requires.stage) c.in-Answered.ensures.advances
 
 pub returns-in-Stored : goal.returns-in-Stored
 returns-in-Stored g c = absurd (never_stored g.E.Deed.meaning c.args.layout c.args.book.now _ c.args.log.now _ _ _ _ _ (g.D.Device.counts c.args.device.now) (g.D.Device.counts c.advance.new.device) c.args.lane _
     c.requires.lane (ap clears_in c.requires.stage) c.requires.world c.in-Stored.ensures.advances)
 
-pub returns-in-Whole : goal.returns-in-Whole
-returns-in-Whole g c = closing_whole g.E.Deed.meaning c.args.layout c.args.book.now c.advance.new.book _ c.args.log.now c.advance.new.log _ _ _ _ _ _ _ c.args.lane _ c.go_on.ensures.result
+pub returns-in-Whole-clause-steps : goal.returns-in-Whole-clause-steps
+returns-in-Whole-clause-steps g c = closing_whole g.E.Deed.meaning c.args.layout c.args.book.now c.advance.new.book _ c.args.log.now c.advance.new.log _ _ _ _ _ _ _ c.args.lane _ c.go_on.ensures.result
     c.requires.lane c.requires.stage c.in-Whole.ensures.advances
     (record {
       kept = c.begin_closing_end.ensures.kept ∙ ap (λ (x : Lane _). end_closing_begun (c.args.lane % c.args.layout.partitions) x.transaction (keeping_of c.advance.new.log))
@@ -60,3 +62,13 @@ returns-in-Whole g c = closing_whole g.E.Deed.meaning c.args.layout c.args.book.
       slots = c.begin_closing_end.ensures.slots;
     })
     c.go_on.ensures.moves
+
+pub returns-in-Answered-clause-exact : goal.returns-in-Answered-clause-exact
+returns-in-Answered-clause-exact g c = advance_answered_exactly g.E.Deed.meaning c.args.layout c.args.book.now c.advance.new.book c.args.log.now c.advance.new.log _ _ _ _ (g.D.Device.counts c.args.device.now) (g.D.Device.counts c.advance.new.device) c.args.lane _
+    c.requires.lane (unblocked_own c.args.layout c.args.book.now c.args.log.now c.args.lane (ap makes_events c.requires.stage) (ap appends_in c.requires.stage)) (ap makes_events c.requires.stage) (owes_event _ _ _ _ _ _ (g.D.Device.counts c.args.device.now) c.args.lane c.requires.lane (ap makes_events c.requires.stage) c.requires.world).0 (g.met.D.Device.within c.advance.new.device) c.in-Answered.ensures.advances
+
+pub returns-in-Whole-clause-exact : goal.returns-in-Whole-clause-exact
+returns-in-Whole-clause-exact g c = paid_moves g.E.Deed.meaning c.args.layout c.args.book.now c.advance.new.book c.go_on.new.self c.args.log.now (g.D.Device.counts c.args.device.now) (g.D.Device.counts c.advance.new.device) c.args.lane _ _ _ c.go_on.ensures.result
+    (advance_whole_paid g.E.Deed.meaning c.args.layout c.args.book.now c.advance.new.book c.args.log.now c.advance.new.log _ _ _ _ (g.D.Device.counts c.args.device.now) (g.D.Device.counts c.advance.new.device) c.args.lane
+    c.requires.lane (unblocked_own c.args.layout c.args.book.now c.args.log.now c.args.lane (ap makes_events c.requires.stage) (ap appends_in c.requires.stage)) (owes_event _ _ _ _ _ _ (g.D.Device.counts c.args.device.now) c.args.lane c.requires.lane (ap makes_events c.requires.stage) c.requires.world).0 c.in-Whole.ensures.advances)
+    (ap makes_events c.requires.stage) (g.met.D.Device.within c.advance.new.device) refl refl c.go_on.ensures.moves

@@ -1,6 +1,6 @@
 use Rattle.std.proofs.Common.{inr, ap}
-use Rattle.txn_state.specs.ReadLaws.{clears_in, makes_events}
-use Rattle.txn_core.proofs.Facts.{is_book, slots_are, can_run}
+use Rattle.txn_state.specs.ReadLaws.{clears_in, makes_events, appends_in}
+use Rattle.txn_core.proofs.Facts.{is_book, slots_are, can_run, owes_event}
 use Rattle.txn_core.proofs.Reading.{read_of}
 use Rattle.txn_core.proofs.Exits.{clearing_answered}
 use Rattle.txn_core.proofs.Calling.{is_calling}
@@ -8,6 +8,9 @@ use Rattle.txn_core.proofs.ClearedCalls.{slots_behind, rests_behind, calls_behin
 use Rattle.txn_core.proofs.Cleared.{cleared_logs, cleared_world}
 use Rattle.txn_core.proofs.NoAppend.{never_stored}
 use Rattle.txn_core.proofs.clearing.drop_bucket.Goals as goal
+use Rattle.txn_core.proofs.Exactly.{unblocked_own}
+use Rattle.txn_core.proofs.ExactParts.{advance_answered_exactly, advance_whole_paid}
+use Rattle.txn_core.proofs.ExactJoins.{clears_exactly}
 
 pub advance-requires-clause-slots : goal.advance-requires-clause-slots
 advance-requires-clause-slots g c = slots_are _ _ _ _ _ _ (g.D.Device.counts c.args.device.now) c.requires.world
@@ -56,8 +59,8 @@ clear_next-requires-clause-logs g c = cleared_logs g.E.Deed.meaning c.args.layou
     (g.met.D.Device.within c.advance.new.device) (g.met.D.Device.budget_fits c.advance.new.device))
     c.requires.lane (inr c.requires.stage) c.requires.world c.in-Whole.ensures.advances
 
-pub returns-in-Answered : goal.returns-in-Answered
-returns-in-Answered g c = clearing_answered g.E.Deed.meaning c.args.layout c.args.book.now _ c.args.log.now _ _ _ _ _ _ _ c.args.lane _
+pub returns-in-Answered-clause-steps : goal.returns-in-Answered-clause-steps
+returns-in-Answered-clause-steps g c = clearing_answered g.E.Deed.meaning c.args.layout c.args.book.now _ c.args.log.now _ _ _ _ _ _ _ c.args.lane _
     c.requires.lane (ap clears_in c.requires.stage) c.in-Answered.ensures.advances
 
 pub returns-in-Stored : goal.returns-in-Stored
@@ -65,9 +68,19 @@ returns-in-Stored g c = absurd (never_stored g.E.Deed.meaning c.args.layout c.ar
     (g.D.Device.counts c.args.device.now) (g.D.Device.counts c.advance.new.device) c.args.lane _
     c.requires.lane (ap clears_in c.requires.stage) c.requires.world c.in-Stored.ensures.advances)
 
-pub returns-in-Whole : goal.returns-in-Whole
-returns-in-Whole g c = cleared_world g.E.Deed.meaning c.args.layout c.args.book.now c.advance.new.book _ c.args.log.now c.advance.new.log _
+pub returns-in-Whole-clause-steps : goal.returns-in-Whole-clause-steps
+returns-in-Whole-clause-steps g c = cleared_world g.E.Deed.meaning c.args.layout c.args.book.now c.advance.new.book _ c.args.log.now c.advance.new.log _
     (g.D.Look.words c.advance.new.device) _ _ _ _ _ _ c.args.lane _
     (read_of _ _ (g.D.Device.counts c.advance.new.device) (g.met.D.Device.reads c.advance.new.device) (g.met.D.Device.full c.advance.new.device)
     (g.met.D.Device.within c.advance.new.device) (g.met.D.Device.budget_fits c.advance.new.device))
     c.requires.lane (inr c.requires.stage) c.in-Whole.ensures.advances c.clear_next.ensures
+
+pub returns-in-Answered-clause-exact : goal.returns-in-Answered-clause-exact
+returns-in-Answered-clause-exact g c = advance_answered_exactly g.E.Deed.meaning c.args.layout c.args.book.now c.advance.new.book c.args.log.now c.advance.new.log _ _ _ _ (g.D.Device.counts c.args.device.now) (g.D.Device.counts c.advance.new.device) c.args.lane _
+    c.requires.lane (unblocked_own c.args.layout c.args.book.now c.args.log.now c.args.lane (ap makes_events c.requires.stage) (ap appends_in c.requires.stage)) (ap makes_events c.requires.stage) (owes_event _ _ _ _ _ _ (g.D.Device.counts c.args.device.now) c.args.lane c.requires.lane (ap makes_events c.requires.stage) c.requires.world).0 (g.met.D.Device.within c.advance.new.device) c.in-Answered.ensures.advances
+
+pub returns-in-Whole-clause-exact : goal.returns-in-Whole-clause-exact
+returns-in-Whole-clause-exact g c = clears_exactly g.E.Deed.meaning c.args.layout c.args.book.now c.advance.new.book c.clear_next.new.book c.args.log.now c.advance.new.log _ _ (g.D.Device.counts c.args.device.now) (g.D.Device.counts c.advance.new.device) c.args.lane _
+    (advance_whole_paid g.E.Deed.meaning c.args.layout c.args.book.now c.advance.new.book c.args.log.now c.advance.new.log _ _ _ _ (g.D.Device.counts c.args.device.now) (g.D.Device.counts c.advance.new.device) c.args.lane
+    c.requires.lane (unblocked_own c.args.layout c.args.book.now c.args.log.now c.args.lane (ap makes_events c.requires.stage) (ap appends_in c.requires.stage)) (owes_event _ _ _ _ _ _ (g.D.Device.counts c.args.device.now) c.args.lane c.requires.lane (ap makes_events c.requires.stage) c.requires.world).0 c.in-Whole.ensures.advances)
+    (ap makes_events c.requires.stage) (g.met.D.Device.within c.advance.new.device) c.clear_next.ensures

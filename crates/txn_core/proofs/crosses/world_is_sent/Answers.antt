@@ -5,4 +5,4 @@ use Rattle.txn_core.proofs.crosses.world_is_sent.Goals as goal
 
 pub sent-requires-send-X : goal.sent-requires-send-X
 sent-requires-send-X g c = λ κs lives. let d = c.type_bounds.send-D in let e = c.type_bounds.send-E in
-    search (sendable, crosses, layout_send, book_send, keeper_send, flight_send) depth 12
+    search (sendable, crosses, layout_send, book_send, keeper_send, flight_send) depth 20

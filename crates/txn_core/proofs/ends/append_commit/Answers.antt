@@ -1,4 +1,4 @@
-use Rattle.std.proofs.Common.{◌≡◌, ◌%◌, if◌then◌else◌, false, refl, ap}
+use Rattle.std.proofs.Common.{◌∙◌, ◌≡◌, ◌%◌, if◌then◌else◌, false, refl, ap}
 use Rattle.persist_model.specs.declared.kinds.Outcome.TheVariants.{Committed, RolledBack}
 use Rattle.lane_book.specs.declared.lane.Lane.{Lane}
 use Rattle.lane_book.specs.declared.lane.Doing.TheVariants as Doing
@@ -9,7 +9,7 @@ use Rattle.txn_state.specs.Stages.{Ending, is_commit}
 use Rattle.txn_state.specs.AppendLaws.{IsNextCell}
 use Rattle.txn_state.specs.ReadLaws.{appends_in, makes_events}
 use Rattle.txn_core.proofs.Calling.{is_calling}
-use Rattle.txn_core.proofs.Facts.{IsRead, is_book, slots_are, can_begin, runs_behind}
+use Rattle.txn_core.proofs.Facts.{IsRead, is_book, slots_are, can_begin, runs_behind, owes_event}
 use Rattle.txn_core.proofs.Reading.{read_of}
 use Rattle.txn_core.proofs.Exits.{append_answered}
 use Rattle.txn_core.proofs.Paying.{IsPaid}
@@ -20,6 +20,8 @@ use Rattle.txn_core.proofs.EndedStores.{ends_open, end_is_stored}
 use Rattle.txn_core.proofs.EndedWhole.{has_records_room, end_slot, closing_turned, commit_settles}
 use Rattle.txn_core.proofs.ends.append_commit.Goals as goal
 use Rattle.txn_core.proofs.ends.append_commit.Goals.{After-end_cell-cell, In-Whole}
+use Rattle.txn_core.proofs.ExactParts.{append_answered_exactly, append_stored_paid, append_whole_paid, paid_moves}
+use Rattle.txn_core.proofs.ExactJoins.{commit_joins, ending_recorded}
 
 -- the device's laws
 read : (g : _) (c : After-end_cell-cell g) → IsRead (g.D.Look.words c.args.device.now) (g.D.Device.cells c.args.device.now) (g.D.Device.counts c.args.device.now)
@@ -111,24 +113,24 @@ join-requires-clause-room g c =
     place_on c.args.book.now c.append.new.book c.args.lane (joining g at.In-Whole)
     (has_place _ _ _ _ _ _ (g.D.Device.counts c.args.device.now) c.args.lane c.requires.lane c.requires.doing (new g at.In-Whole) c.requires.world)
 
-pub returns-in-Answered : goal.returns-in-Answered
-returns-in-Answered g c =
-    let at = goal.at.returns-in-Answered g c in
+pub returns-in-Answered-clause-steps : goal.returns-in-Answered-clause-steps
+returns-in-Answered-clause-steps g c =
+    let at = goal.at.returns-in-Answered-clause-steps g c in
     append_answered g.E.Deed.meaning c.args.layout c.args.book.now c.append.new.book c.args.log.now c.append.new.log _ _ _ _ _
     (g.D.Device.counts c.args.device.now) (g.D.Device.counts c.append.new.device) c.args.lane _ _
     (read g at.After-end_cell-cell) c.requires.lane (ap appends_in c.requires.stage) (next g at.After-end_cell-cell) c.in-Answered.ensures.appends
 
-pub returns-in-Stored : goal.returns-in-Stored
-returns-in-Stored g c =
-    let at = goal.at.returns-in-Stored g c in
+pub returns-in-Stored-clause-steps : goal.returns-in-Stored-clause-steps
+returns-in-Stored-clause-steps g c =
+    let at = goal.at.returns-in-Stored-clause-steps g c in
     end_is_stored g.E.Deed.meaning c.args.layout c.args.book.now c.append.new.book c.end_stored.new.self c.args.log.now c.append.new.log _ _ _ _ _
     (g.D.Device.counts c.args.device.now) (g.D.Device.counts c.append.new.device) c.args.lane
     _ _ _ _ (read g at.After-end_cell-cell) c.requires.lane c.requires.stage (next g at.After-end_cell-cell) c.in-Stored.ensures.appends c.part-part.ensures
     c.end_stored.ensures.result c.end_stored.ensures.reserved c.end_stored.ensures.moves
 
-pub returns-in-Whole : goal.returns-in-Whole
-returns-in-Whole g c =
-    let at = goal.at.returns-in-Whole g c in
+pub returns-in-Whole-clause-steps : goal.returns-in-Whole-clause-steps
+returns-in-Whole-clause-steps g c =
+    let at = goal.at.returns-in-Whole-clause-steps g c in
     commit_settles g.E.Deed.meaning c.args.layout c.args.book.now c.append.new.book _ c.args.log.now c.append.new.log c.begin_closing.new.self _ _ _ _ _
     (g.D.Device.counts c.args.device.now) (g.D.Device.counts c.append.new.device) c.args.lane _ _
     g.met.E.Deed.depends (read g at.After-end_cell-cell) c.requires.lane c.requires.stage c.requires.doing (next g at.After-end_cell-cell) c.in-Whole.ensures.appends
@@ -136,3 +138,22 @@ returns-in-Whole g c =
     (ap (λ (x : Lane _). x.transaction) (lane_read c.args.book.now c.args.lane c.index.result.now c.requires.lane c.index.ensures))
     c.begin_closing.ensures.kept c.begin_closing.ensures.number c.begin_closing.ensures.ledger c.begin_closing.ensures.slots)
     c.join.ensures.result (entry g at.In-Whole) c.join.ensures.is c.append.ensures.book c.join.ensures.book c.join.ensures.step
+
+pub returns-in-Answered-clause-exact : goal.returns-in-Answered-clause-exact
+returns-in-Answered-clause-exact g c = append_answered_exactly g.E.Deed.meaning c.args.layout c.args.book.now c.append.new.book c.args.log.now c.append.new.log _ _ _ _ _ (g.D.Device.counts c.args.device.now) (g.D.Device.counts c.append.new.device) c.args.lane _ _
+    c.requires.lane (ap appends_in c.requires.stage) (ap makes_events c.requires.stage) (owes_event _ _ _ _ _ _ (g.D.Device.counts c.args.device.now) c.args.lane c.requires.lane (ap makes_events c.requires.stage) c.requires.world).0 (g.met.D.Device.within c.append.new.device) c.in-Answered.ensures.appends
+
+pub returns-in-Stored-clause-exact : goal.returns-in-Stored-clause-exact
+returns-in-Stored-clause-exact g c = paid_moves g.E.Deed.meaning c.args.layout c.args.book.now c.append.new.book c.end_stored.new.self c.args.log.now (g.D.Device.counts c.args.device.now) (g.D.Device.counts c.append.new.device) c.args.lane _ _ _ c.end_stored.ensures.result
+    (append_stored_paid g.E.Deed.meaning c.args.layout c.args.book.now c.append.new.book c.args.log.now c.append.new.log _ _ _ _ _ (g.D.Device.counts c.args.device.now) (g.D.Device.counts c.append.new.device) c.args.lane _ _
+    c.requires.lane (ap makes_events c.requires.stage) (owes_event _ _ _ _ _ _ (g.D.Device.counts c.args.device.now) c.args.lane c.requires.lane (ap makes_events c.requires.stage) c.requires.world).0 c.in-Stored.ensures.appends)
+    (ap makes_events c.requires.stage) (g.met.D.Device.within c.append.new.device) refl refl c.end_stored.ensures.moves
+
+pub returns-in-Whole-clause-exact : goal.returns-in-Whole-clause-exact
+returns-in-Whole-clause-exact g c = let at = (goal.at.returns-in-Whole-clause-exact g c).In-Whole in
+    commit_joins c.args.layout c.args.book.now c.append.new.book c.join.new.self c.args.log.now (g.D.Device.counts c.args.device.now) (g.D.Device.counts c.append.new.device) c.args.lane _ c.join.ensures.result
+    (append_whole_paid g.E.Deed.meaning c.args.layout c.args.book.now c.append.new.book c.args.log.now c.append.new.log _ _ _ _ _ (g.D.Device.counts c.args.device.now) (g.D.Device.counts c.append.new.device) c.args.lane _
+    c.requires.lane (ap makes_events c.requires.stage) (owes_event _ _ _ _ _ _ (g.D.Device.counts c.args.device.now) c.args.lane c.requires.lane (ap makes_events c.requires.stage) c.requires.world).0 c.in-Whole.ensures.appends)
+    (ap makes_events c.requires.stage) (g.met.D.Device.within c.append.new.device) c.requires.stage c.requires.doing
+    (ap (λ (x : Lane _). x.has_records) (joining g at).goes.lanes.here ∙ ending_recorded (lane_at c.args.book.now c.args.lane) c.requires.doing c.requires.stage)
+    (ap (λ (x : Lane _). x.entry) (joining g at).goes.lanes.here) (entry g at) c.join.ensures.is

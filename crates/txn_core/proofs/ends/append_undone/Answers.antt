@@ -8,7 +8,7 @@ use Rattle.txn_state.specs.Stages.{is_commit}
 use Rattle.txn_state.specs.AppendLaws.{IsNextCell}
 use Rattle.txn_state.specs.ReadLaws.{appends_in, makes_events}
 use Rattle.txn_core.proofs.Calling.{is_calling}
-use Rattle.txn_core.proofs.Facts.{IsRead, is_book, slots_are, can_begin, runs_behind}
+use Rattle.txn_core.proofs.Facts.{IsRead, is_book, slots_are, can_begin, runs_behind, owes_event}
 use Rattle.txn_core.proofs.Reading.{read_of}
 use Rattle.txn_core.proofs.Exits.{append_answered}
 use Rattle.txn_core.proofs.EndedLanes.{next_end, calls_on, may_end, stored_pays, whole_pays}
@@ -16,6 +16,7 @@ use Rattle.txn_core.proofs.EndedStores.{ends_open, end_is_stored}
 use Rattle.txn_core.proofs.EndedWhole.{has_records_room, end_slot, closing_turned, undone_settles}
 use Rattle.txn_core.proofs.ends.append_undone.Goals as goal
 use Rattle.txn_core.proofs.ends.append_undone.Goals.{After-end_cell-cell}
+use Rattle.txn_core.proofs.ExactParts.{append_answered_exactly, append_stored_paid, append_whole_paid, paid_moves}
 
 -- the device's laws
 read : (g : _) (c : After-end_cell-cell g) → IsRead (g.D.Look.words c.args.device.now) (g.D.Device.cells c.args.device.now) (g.D.Device.counts c.args.device.now)
@@ -86,28 +87,44 @@ go_on-requires g c = calls_on c.args.book.now c.append.new.book c.args.lane
     (g.D.Device.counts c.append.new.device) c.args.lane _ c.requires.lane c.in-Whole.ensures.appends)
     (is_calling _ _ _ _ _ _ (g.D.Device.counts c.args.device.now) c.args.lane (ap makes_events c.requires.stage) c.requires.world) c.append.ensures.book
 
-pub returns-in-Answered : goal.returns-in-Answered
-returns-in-Answered g c =
-    let at = goal.at.returns-in-Answered g c in
+pub returns-in-Answered-clause-steps : goal.returns-in-Answered-clause-steps
+returns-in-Answered-clause-steps g c =
+    let at = goal.at.returns-in-Answered-clause-steps g c in
     append_answered g.E.Deed.meaning c.args.layout c.args.book.now c.append.new.book c.args.log.now c.append.new.log _ _ _ _ _
     (g.D.Device.counts c.args.device.now) (g.D.Device.counts c.append.new.device) c.args.lane _ _
     (read g at.After-end_cell-cell) c.requires.lane (ap appends_in c.requires.stage) (next g at.After-end_cell-cell) c.in-Answered.ensures.appends
 
-pub returns-in-Stored : goal.returns-in-Stored
-returns-in-Stored g c =
-    let at = goal.at.returns-in-Stored g c in
+pub returns-in-Stored-clause-steps : goal.returns-in-Stored-clause-steps
+returns-in-Stored-clause-steps g c =
+    let at = goal.at.returns-in-Stored-clause-steps g c in
     end_is_stored g.E.Deed.meaning c.args.layout c.args.book.now c.append.new.book c.end_stored.new.self c.args.log.now c.append.new.log _ _ _ _ _
     (g.D.Device.counts c.args.device.now) (g.D.Device.counts c.append.new.device) c.args.lane
     _ _ _ _ (read g at.After-end_cell-cell) c.requires.lane c.requires.stage (next g at.After-end_cell-cell) c.in-Stored.ensures.appends c.part-part.ensures
     c.end_stored.ensures.result c.end_stored.ensures.reserved c.end_stored.ensures.moves
 
-pub returns-in-Whole : goal.returns-in-Whole
-returns-in-Whole g c =
-    let at = goal.at.returns-in-Whole g c in
+pub returns-in-Whole-clause-steps : goal.returns-in-Whole-clause-steps
+returns-in-Whole-clause-steps g c =
+    let at = goal.at.returns-in-Whole-clause-steps g c in
     undone_settles g.E.Deed.meaning c.args.layout c.args.book.now c.append.new.book _ c.args.log.now c.append.new.log c.begin_closing.new.self _ _ _ _ _
     (g.D.Device.counts c.args.device.now) (g.D.Device.counts c.append.new.device) c.args.lane _ _
     (read g at.After-end_cell-cell) c.requires.lane c.requires.stage (ap is_commit c.requires.doing) (next g at.After-end_cell-cell) c.in-Whole.ensures.appends
     (closing_turned (c.args.lane % c.args.layout.partitions) c.index.result.now.transaction _ c.append.new.log c.begin_closing.new.self
     (ap (λ (x : Lane _). x.transaction) (lane_read c.args.book.now c.args.lane c.index.result.now c.requires.lane c.index.ensures))
     c.begin_closing.ensures.kept c.begin_closing.ensures.number c.begin_closing.ensures.ledger c.begin_closing.ensures.slots)
-    c.go_on.ensures.result c.go_on.ensures.moves
+    c.go_on.ensures.result c.go_on.ensures.moves c.requires.world
+
+pub returns-in-Answered-clause-exact : goal.returns-in-Answered-clause-exact
+returns-in-Answered-clause-exact g c = append_answered_exactly g.E.Deed.meaning c.args.layout c.args.book.now c.append.new.book c.args.log.now c.append.new.log _ _ _ _ _ (g.D.Device.counts c.args.device.now) (g.D.Device.counts c.append.new.device) c.args.lane _ _
+    c.requires.lane (ap appends_in c.requires.stage) (ap makes_events c.requires.stage) (owes_event _ _ _ _ _ _ (g.D.Device.counts c.args.device.now) c.args.lane c.requires.lane (ap makes_events c.requires.stage) c.requires.world).0 (g.met.D.Device.within c.append.new.device) c.in-Answered.ensures.appends
+
+pub returns-in-Stored-clause-exact : goal.returns-in-Stored-clause-exact
+returns-in-Stored-clause-exact g c = paid_moves g.E.Deed.meaning c.args.layout c.args.book.now c.append.new.book c.end_stored.new.self c.args.log.now (g.D.Device.counts c.args.device.now) (g.D.Device.counts c.append.new.device) c.args.lane _ _ _ c.end_stored.ensures.result
+    (append_stored_paid g.E.Deed.meaning c.args.layout c.args.book.now c.append.new.book c.args.log.now c.append.new.log _ _ _ _ _ (g.D.Device.counts c.args.device.now) (g.D.Device.counts c.append.new.device) c.args.lane _ _
+    c.requires.lane (ap makes_events c.requires.stage) (owes_event _ _ _ _ _ _ (g.D.Device.counts c.args.device.now) c.args.lane c.requires.lane (ap makes_events c.requires.stage) c.requires.world).0 c.in-Stored.ensures.appends)
+    (ap makes_events c.requires.stage) (g.met.D.Device.within c.append.new.device) refl refl c.end_stored.ensures.moves
+
+pub returns-in-Whole-clause-exact : goal.returns-in-Whole-clause-exact
+returns-in-Whole-clause-exact g c = paid_moves g.E.Deed.meaning c.args.layout c.args.book.now c.append.new.book c.go_on.new.self c.args.log.now (g.D.Device.counts c.args.device.now) (g.D.Device.counts c.append.new.device) c.args.lane _ _ _ c.go_on.ensures.result
+    (append_whole_paid g.E.Deed.meaning c.args.layout c.args.book.now c.append.new.book c.args.log.now c.append.new.log _ _ _ _ _ (g.D.Device.counts c.args.device.now) (g.D.Device.counts c.append.new.device) c.args.lane _
+    c.requires.lane (ap makes_events c.requires.stage) (owes_event _ _ _ _ _ _ (g.D.Device.counts c.args.device.now) c.args.lane c.requires.lane (ap makes_events c.requires.stage) c.requires.world).0 c.in-Whole.ensures.appends)
+    (ap makes_events c.requires.stage) (g.met.D.Device.within c.append.new.device) refl refl c.go_on.ensures.moves

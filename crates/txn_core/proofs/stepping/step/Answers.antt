@@ -1,14 +1,15 @@
 use Rattle.std.proofs.Common.{refl, sym, ◌∙◌}
 use Rattle.lane_book.specs.declared.lane.Doing.TheVariants as Doing
-use Rattle.txn_core.proofs.Unbuilt.{unbuilt_never}
+use Rattle.txn_core.proofs.Unbuilt.{unbuilt_never, take_never, give_never}
+use Rattle.txn_core.proofs.Exactly.{goes_on_exactly}
 use Rattle.txn_core.proofs.stepping.step.Goals as goal
 
 pub stop-requires-in-Take-clause-stopped : goal.stop-requires-in-Take-clause-stopped
-stop-requires-in-Take-clause-stopped g c = absurd (unbuilt_never _ _ _ _ _ _ (g.D.Device.counts c.args.device.now) c.args.lane (Doing.Take c.in-Take.field-0 c.in-Take.field-1) c.requires.lane (sym c.doing.ensures ∙ c.in-Take.is) refl
+stop-requires-in-Take-clause-stopped g c = absurd (take_never _ _ _ _ _ _ (g.D.Device.counts c.args.device.now) c.args.lane c.in-Take.field-0 c.in-Take.field-1 c.requires.lane (sym c.doing.ensures ∙ c.in-Take.is)
     c.requires.world)
 
 pub stop-requires-in-Give-clause-stopped : goal.stop-requires-in-Give-clause-stopped
-stop-requires-in-Give-clause-stopped g c = absurd (unbuilt_never _ _ _ _ _ _ (g.D.Device.counts c.args.device.now) c.args.lane (Doing.Give c.in-Give.field-0) c.requires.lane (sym c.doing.ensures ∙ c.in-Give.is) refl
+stop-requires-in-Give-clause-stopped g c = absurd (give_never _ _ _ _ _ _ (g.D.Device.counts c.args.device.now) c.args.lane c.in-Give.field-0 c.requires.lane (sym c.doing.ensures ∙ c.in-Give.is)
     c.requires.world)
 
 pub stop-requires-in-Batch-clause-stopped : goal.stop-requires-in-Batch-clause-stopped
@@ -22,3 +23,27 @@ stop-requires-in-Savepoint-clause-stopped g c = absurd (unbuilt_never _ _ _ _ _ 
 pub stop-requires-in-RollbackTo-clause-stopped : goal.stop-requires-in-RollbackTo-clause-stopped
 stop-requires-in-RollbackTo-clause-stopped g c = absurd (unbuilt_never _ _ _ _ _ _ (g.D.Device.counts c.args.device.now) c.args.lane (Doing.RollbackTo c.in-RollbackTo.field-0) c.requires.lane (sym c.doing.ensures ∙ c.in-RollbackTo.is) refl
     c.requires.world)
+
+pub returns-in-Begin-clause-exact : goal.returns-in-Begin-clause-exact
+returns-in-Begin-clause-exact g c = goes_on_exactly c.args.layout c.args.book.now c.begin_transaction.new.book c.args.log.now (g.D.Device.counts c.args.device.now) (g.D.Device.counts c.args.device.now) c.args.lane _ (Doing.Begin c.in-Begin.set) c.if-book.false
+    (sym c.doing.ensures ∙ c.in-Begin.is) tt c.begin_transaction.ensures.exact
+
+pub returns-in-Read-clause-exact : goal.returns-in-Read-clause-exact
+returns-in-Read-clause-exact g c = goes_on_exactly c.args.layout c.args.book.now c.read_word.new.book c.args.log.now (g.D.Device.counts c.args.device.now) (g.D.Device.counts c.args.device.now) c.args.lane _ (Doing.Read c.in-Read.a) c.if-book.false
+    (sym c.doing.ensures ∙ c.in-Read.is) tt c.read_word.ensures.exact
+
+pub returns-in-Write-clause-exact : goal.returns-in-Write-clause-exact
+returns-in-Write-clause-exact g c = goes_on_exactly c.args.layout c.args.book.now c.step_write.new.book c.args.log.now (g.D.Device.counts c.args.device.now) (g.D.Device.counts c.step_write.new.device) c.args.lane _ (Doing.Write c.in-Write.a c.in-Write.v) c.if-book.false
+    (sym c.doing.ensures ∙ c.in-Write.is) tt c.step_write.ensures.exact
+
+pub returns-in-Commit-clause-exact : goal.returns-in-Commit-clause-exact
+returns-in-Commit-clause-exact g c = goes_on_exactly c.args.layout c.args.book.now c.step_commit.new.book c.args.log.now (g.D.Device.counts c.args.device.now) (g.D.Device.counts c.step_commit.new.device) c.args.lane _ Doing.Commit c.if-book.false
+    (sym c.doing.ensures ∙ c.in-Commit.is) tt c.step_commit.ensures.exact
+
+pub returns-in-Abort-clause-exact : goal.returns-in-Abort-clause-exact
+returns-in-Abort-clause-exact g c = goes_on_exactly c.args.layout c.args.book.now c.step_abort.new.book c.args.log.now (g.D.Device.counts c.args.device.now) (g.D.Device.counts c.step_abort.new.device) c.args.lane _ Doing.Abort c.if-book.false
+    (sym c.doing.ensures ∙ c.in-Abort.is) tt c.step_abort.ensures.exact
+
+pub returns-in-Checkpoint-clause-exact : goal.returns-in-Checkpoint-clause-exact
+returns-in-Checkpoint-clause-exact g c = goes_on_exactly c.args.layout c.args.book.now c.checkpoint.new.book c.args.log.now (g.D.Device.counts c.args.device.now) (g.D.Device.counts c.args.device.now) c.args.lane _ Doing.Checkpoint c.if-book.false
+    (sym c.doing.ensures ∙ c.in-Checkpoint.is) tt c.checkpoint.ensures.exact

@@ -1,8 +1,8 @@
-use Rattle.std.proofs.Common.{ap, inl}
+use Rattle.std.proofs.Common.{ap, inl, refl}
 use Rattle.lane_book.specs.FacesOf.{lane_at}
 use Rattle.txn_state.specs.AppendLaws.{IsNextCell}
 use Rattle.txn_state.specs.ReadLaws.{appends_in, makes_events}
-use Rattle.txn_core.proofs.Facts.{IsRead, few_lanes, is_book, slots_are, can_begin, runs_behind}
+use Rattle.txn_core.proofs.Facts.{IsRead, few_lanes, is_book, slots_are, can_begin, runs_behind, owes_event}
 use Rattle.txn_core.proofs.Calling.{is_calling}
 use Rattle.txn_core.proofs.Exits.{append_answered}
 use Rattle.txn_core.proofs.Reading.{read_of}
@@ -10,6 +10,7 @@ use Rattle.txn_core.proofs.WritingWords.{next_cell, word_below}
 use Rattle.txn_core.proofs.WritingUpdates.{stored_is_paid, whole_is_paid, paid_is_calling, can_update, update_stored, slot_behind_append, rests_behind_append, update_settled}
 use Rattle.txn_core.proofs.writes.append_update.Goals as goal
 use Rattle.txn_core.proofs.writes.append_update.Goals.{After-write_cell-cell}
+use Rattle.txn_core.proofs.ExactParts.{append_answered_exactly, append_stored_paid, append_whole_paid, paid_moves}
 
 -- the device's laws,
 reads : (g : _) (c : After-write_cell-cell g) → IsRead (g.D.Look.words c.args.device.now) (g.D.Device.cells c.args.device.now) (g.D.Device.counts c.args.device.now)
@@ -73,24 +74,40 @@ go_on-requires g c = paid_is_calling c.args.book.now c.append.new.book c.args.la
     c.args.lane _ c.requires.lane c.in-Whole.ensures.appends)
     (is_calling _ _ _ _ _ _ (g.D.Device.counts c.args.device.now) c.args.lane (ap makes_events c.requires.stage) c.requires.world) c.append.ensures.book
 
-pub returns-in-Answered : goal.returns-in-Answered
-returns-in-Answered g c =
-    let place = (goal.at.returns-in-Answered g c).After-write_cell-cell in
+pub returns-in-Answered-clause-steps : goal.returns-in-Answered-clause-steps
+returns-in-Answered-clause-steps g c =
+    let place = (goal.at.returns-in-Answered-clause-steps g c).After-write_cell-cell in
     append_answered g.E.Deed.meaning c.args.layout c.args.book.now c.append.new.book c.args.log.now c.append.new.log _ _ _ _ _ (g.D.Device.counts c.args.device.now) (g.D.Device.counts c.append.new.device)
     c.args.lane _ _ (reads g place) c.requires.lane (ap appends_in c.requires.stage) (next g place) c.in-Answered.ensures.appends
 
-pub returns-in-Stored : goal.returns-in-Stored
-returns-in-Stored g c =
-    let place = (goal.at.returns-in-Stored g c).After-write_cell-cell in
+pub returns-in-Stored-clause-steps : goal.returns-in-Stored-clause-steps
+returns-in-Stored-clause-steps g c =
+    let place = (goal.at.returns-in-Stored-clause-steps g c).After-write_cell-cell in
     update_stored g.E.Deed.meaning c.args.layout c.args.book.now c.append.new.book c.args.log.now c.append.new.log _ _ _ _ _ (g.D.Device.counts c.args.device.now) (g.D.Device.counts c.append.new.device) c.args.lane _
     (reads g place) c.requires.lane c.requires.stage (next g place)
     c.update_stored.new.self c.in-Stored.stored c.part-part.result c.update_stored.result c.update_stored.ensures.result c.part-part.ensures c.in-Stored.ensures.appends
     c.update_stored.ensures.reserved c.update_stored.ensures.moves
 
-pub returns-in-Whole : goal.returns-in-Whole
-returns-in-Whole g c =
-    let place = (goal.at.returns-in-Whole g c).After-write_cell-cell in
+pub returns-in-Whole-clause-steps : goal.returns-in-Whole-clause-steps
+returns-in-Whole-clause-steps g c =
+    let place = (goal.at.returns-in-Whole-clause-steps g c).After-write_cell-cell in
     update_settled g.E.Deed.meaning c.args.layout c.args.book.now c.append.new.book c.args.log.now c.append.new.log _ _ _ _ _ (g.D.Device.counts c.args.device.now) (g.D.Device.counts c.append.new.device) c.args.lane _
     (reads g place) c.requires.lane c.requires.stage (next g place)
     c.go_on.new.self c.release_latch.new.self c.go_on.result c.go_on.ensures.result c.in-Whole.ensures.appends
     (record { kept = c.release_latch.ensures.kept; number = c.release_latch.ensures.number; ledger = c.release_latch.ensures.ledger; slots = c.release_latch.ensures.slots }) c.go_on.ensures.moves
+
+pub returns-in-Answered-clause-exact : goal.returns-in-Answered-clause-exact
+returns-in-Answered-clause-exact g c = append_answered_exactly g.E.Deed.meaning c.args.layout c.args.book.now c.append.new.book c.args.log.now c.append.new.log _ _ _ _ _ (g.D.Device.counts c.args.device.now) (g.D.Device.counts c.append.new.device) c.args.lane _ _
+    c.requires.lane (ap appends_in c.requires.stage) (ap makes_events c.requires.stage) (owes_event _ _ _ _ _ _ (g.D.Device.counts c.args.device.now) c.args.lane c.requires.lane (ap makes_events c.requires.stage) c.requires.world).0 (g.met.D.Device.within c.append.new.device) c.in-Answered.ensures.appends
+
+pub returns-in-Stored-clause-exact : goal.returns-in-Stored-clause-exact
+returns-in-Stored-clause-exact g c = paid_moves g.E.Deed.meaning c.args.layout c.args.book.now c.append.new.book c.update_stored.new.self c.args.log.now (g.D.Device.counts c.args.device.now) (g.D.Device.counts c.append.new.device) c.args.lane _ _ _ c.update_stored.ensures.result
+    (append_stored_paid g.E.Deed.meaning c.args.layout c.args.book.now c.append.new.book c.args.log.now c.append.new.log _ _ _ _ _ (g.D.Device.counts c.args.device.now) (g.D.Device.counts c.append.new.device) c.args.lane _ _
+    c.requires.lane (ap makes_events c.requires.stage) (owes_event _ _ _ _ _ _ (g.D.Device.counts c.args.device.now) c.args.lane c.requires.lane (ap makes_events c.requires.stage) c.requires.world).0 c.in-Stored.ensures.appends)
+    (ap makes_events c.requires.stage) (g.met.D.Device.within c.append.new.device) refl refl c.update_stored.ensures.moves
+
+pub returns-in-Whole-clause-exact : goal.returns-in-Whole-clause-exact
+returns-in-Whole-clause-exact g c = paid_moves g.E.Deed.meaning c.args.layout c.args.book.now c.append.new.book c.go_on.new.self c.args.log.now (g.D.Device.counts c.args.device.now) (g.D.Device.counts c.append.new.device) c.args.lane _ _ _ c.go_on.ensures.result
+    (append_whole_paid g.E.Deed.meaning c.args.layout c.args.book.now c.append.new.book c.args.log.now c.append.new.log _ _ _ _ _ (g.D.Device.counts c.args.device.now) (g.D.Device.counts c.append.new.device) c.args.lane _
+    c.requires.lane (ap makes_events c.requires.stage) (owes_event _ _ _ _ _ _ (g.D.Device.counts c.args.device.now) c.args.lane c.requires.lane (ap makes_events c.requires.stage) c.requires.world).0 c.in-Whole.ensures.appends)
+    (ap makes_events c.requires.stage) (g.met.D.Device.within c.append.new.device) refl refl c.go_on.ensures.moves
