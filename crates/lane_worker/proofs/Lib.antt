@@ -1,0 +1,15 @@
+pub mod Mixing
+pub mod Keeping
+pub mod Lists
+pub mod Alike
+pub mod Ledgers
+pub mod Ending
+pub mod Writing
+pub mod Blocks
+pub mod Giving
+pub mod Taking
+pub mod Beginning
+pub mod Refusing
+pub mod Fewer
+pub mod Starting
+pub mod Asking

@@ -1,0 +1,9 @@
+pub mod Texts
+pub mod Shown
+pub mod Ledger
+pub mod Stages
+pub mod Standing
+pub mod Drafts
+pub mod Acts
+pub mod Starts
+pub mod Laws
