@@ -1,5 +1,6 @@
 -- A transaction's undo point is the number of the newest update that is left to undo.
 use Rattle.std.proofs.Common.{◌≡◌, ◌⊎◌, inl, inr, ℕ, [], ◌∷◌, refl, sym, ap, ◌∙◌, subst, arith}
+use Rattle.persist_model.specs.Kinds.{COMPENSATION}
 use Rattle.persist_model.specs.Records.{Record, Log, IsOf, IsRunning}
 use Rattle.persist_model.specs.Order.{undo_point}
 use Rattle.persist_model.specs.Need.{to_undo}
@@ -32,7 +33,7 @@ pub undo_point_own : (t : ℕ) (log : Log) → undo_point t (own_records t log) 
 undo_point_own t log = undo_point_stays log (own_records t log) t (own_twice t log)
 
 -- a compensation's UNDO_NEXT is the undo point behind it
-pub undo_point_less : (t : ℕ) (r : Record) (log : Log) → r.kind ≡ 2 → r.transaction ≡ t → undo_point t (r ∷ log) ≡ r.undo_next
+pub undo_point_less : (t : ℕ) (r : Record) (log : Log) → r.kind ≡ COMPENSATION → r.transaction ≡ t → undo_point t (r ∷ log) ≡ r.undo_next
 undo_point_less t r log is own = by (is_to t r)
   where
     by : IsTo t r → undo_point t (r ∷ log) ≡ r.undo_next

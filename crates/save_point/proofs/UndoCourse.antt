@@ -1,5 +1,6 @@
 -- Wherever a lane has come in going back, its next part may begin: what is left of the undo fits the transaction's own records.
 use Rattle.std.proofs.Common.{◌≡◌, ◌↔◌, inl, inr, ℕ, ◌≤◌, List, [], ◌∷◌, ◌++◌, refl, sym, ap, ◌∙◌, subst, arith}
+use Rattle.persist_model.specs.Kinds.{COMPENSATION}
 use Rattle.persist_model.specs.Records.{Record, Log, IsAmong, Has, HasNo, IsOf, IsUpdate, IsRollback, IsRunning}
 use Rattle.persist_model.specs.Shape.{Shape, part_of}
 use Rattle.persist_model.specs.Need.{rest, to_undo}
@@ -68,17 +69,17 @@ module _ (policy : Policy) (shape : Shape) (p t : ℕ) (left first : Log) where
   enter o (u ∷ us) stays before = compensates u us stays before
 
   -- the compensation of the update on top
-  compensated : (o : Log) (v : Record) (below : Log) (c : Record) → Stays shape p t first o → to_undo t o ≡ v ∷ below → c.kind ≡ 2 → c.transaction ≡ t →
+  compensated : (o : Log) (v : Record) (below : Log) (c : Record) → Stays shape p t first o → to_undo t o ≡ v ∷ below → c.kind ≡ COMPENSATION → c.transaction ≡ t →
       c.undo_next ≡ v.undo_next → part_of shape c.at ≡ p → Stays shape p t first (c ∷ o)
   compensated o v below c stays top two own next inside = record {
     going = going_more shape p t o c stays.going (λ four. absurd (omega (arith, two, four))) inside;
     not_rolled = λ x m roll. elim m [
-      | inl same ↦ (let three = roll.1 in let k : x.kind ≡ 2 = ap (λ (y : Record). y.kind) same ∙ two in absurd (omega (arith, three, k)))
+      | inl same ↦ (let three = roll.1 in let k : x.kind ≡ COMPENSATION = ap (λ (y : Record). y.kind) same ∙ two in absurd (omega (arith, three, k)))
       | inr k ↦ stays.not_rolled x k roll
     ];
     deletions = λ d is. (
       (λ m. elim m [
-        | inl same ↦ (let six = is.0 in let k : d.kind ≡ 2 = ap (λ (y : Record). y.kind) same ∙ two in absurd (omega (arith, six, k)))
+        | inl same ↦ (let six = is.0 in let k : d.kind ≡ COMPENSATION = ap (λ (y : Record). y.kind) same ∙ two in absurd (omega (arith, six, k)))
         | inr k ↦ (stays.deletions d is).0 k
       ]),
       (λ m. inr ((stays.deletions d is).1 m)),
@@ -91,7 +92,7 @@ module _ (policy : Policy) (shape : Shape) (p t : ℕ) (left first : Log) where
   }
 
   pub after_append : (o : Log) (cell : Cell) (place : Place) (number : ℕ) (others : List Part) → Fits policy shape p t left first o (Append cell ∷ others) →
-      part_of shape (place_address place) ≡ p → (cell.transaction ≡ t) × (cell.kind ≡ 2) × Fits policy shape p t left first (appended place number cell ∷ o) others
+      part_of shape (place_address place) ≡ p → (cell.transaction ≡ t) × (cell.kind ≡ COMPENSATION) × Fits policy shape p t left first (appended place number cell ∷ o) others
   after_append o _ place number _ (compensates u us stays before) inside =
       let top = first_cell u us left (to_undo t o) before in
       let v = to_undo_among t o top.0 (subst (λ l. IsAmong l top.0) (sym top.2) (inl refl)) in

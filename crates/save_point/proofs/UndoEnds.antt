@@ -1,6 +1,7 @@
 -- What stands of a transaction behind the going back, and that it may end from there.
 use Rattle.std.proofs.Common.{◌≡◌, inl, inr, ℕ, ◌<◌, List, [], ◌∷◌, length, take, refl, sym, ap, ◌∙◌, subst, arith}
 use Rattle.std.proofs.lemmas.List.{take_all}
+use Rattle.persist_model.specs.Kinds.{DELETION}
 use Rattle.persist_model.specs.Region.{Words}
 use Rattle.persist_model.specs.Progress.{Reaches, start, advance_all}
 use Rattle.persist_model.specs.Records.{Record, Log, IsAmong, HasNo, IsOf, IsEnd}
@@ -61,7 +62,7 @@ undone_there policy shape p t s x left sound running (done stay is) =
 
 -- ---- a log without some deletions
 
-module _ (D : Record → Type 0) (six : (d : Record) → D d → d.kind ≡ 6) where
+module _ (D : Record → Type 0) (six : (d : Record) → D d → d.kind ≡ DELETION) where
   to_undo_less : (t : ℕ) (later log : Log) → IsSublog D later log → to_undo t later ≡ to_undo t log
   to_undo_less t _ _ empty = refl
   to_undo_less t _ _ (stays r part) = rw (to_undo_less t _ _ part) refl

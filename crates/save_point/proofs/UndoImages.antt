@@ -1,5 +1,6 @@
 -- Each image that going back leaves is sound, with the same standing words, and its transaction is open in it.
 use Rattle.std.proofs.Common.{◌≡◌, ◌⊎◌, inl, inr, ℕ, ◌≤◌, if◌then◌else◌, nat_lt, List, [], ◌∷◌, refl, sym, ap, ◌∙◌, subst, arith}
+use Rattle.persist_model.specs.Kinds.{COMPENSATION}
 use Rattle.persist_model.specs.declared.event.Event.{Event}
 use Rattle.persist_model.specs.Region.{Words}
 use Rattle.persist_model.specs.Records.{Record, Log, IsAmong, HasNo, IsOf, IsRollback, IsRunning}
@@ -41,14 +42,14 @@ record IsOpen (t : ℕ) (log : Log) : Type 0 where
 open_there : (shape : Shape) (p t : ℕ) (first : Log) (x : State) → Stays shape p t first (own_records t x.log) → IsOpen t x.log
 open_there shape p t first x stays = record { running = (going_all shape p t x.log stays.going).running; not_rolled = rolls_nowhere shape p t first x stays }
 
-open_more : (t : ℕ) (c : Record) (log : Log) → c.kind ≡ 2 → IsOpen t log → IsOpen t (inserted c log)
+open_more : (t : ℕ) (c : Record) (log : Log) → c.kind ≡ COMPENSATION → IsOpen t log → IsOpen t (inserted c log)
 open_more t c log two h = record {
   running = λ e m end. elim (inserted_out c log e m) [
-    | inl same ↦ (let four = end.0 in let k : e.kind ≡ 2 = ap (λ (y : Record). y.kind) same ∙ two in absurd (omega (arith, four, k)))
+    | inl same ↦ (let four = end.0 in let k : e.kind ≡ COMPENSATION = ap (λ (y : Record). y.kind) same ∙ two in absurd (omega (arith, four, k)))
     | inr k ↦ h.running e k end
   ];
   not_rolled = λ x m roll. elim (inserted_out c log x m) [
-    | inl same ↦ (let three = roll.1 in let k : x.kind ≡ 2 = ap (λ (y : Record). y.kind) same ∙ two in absurd (omega (arith, three, k)))
+    | inl same ↦ (let three = roll.1 in let k : x.kind ≡ COMPENSATION = ap (λ (y : Record). y.kind) same ∙ two in absurd (omega (arith, three, k)))
     | inr k ↦ h.not_rolled x k roll
   ];
 }
@@ -65,12 +66,12 @@ open_image shape t v s x h keeps = record {
 
 -- ---- appends
 
-append_kind : (policy : Policy) (shape : Shape) (p t : ℕ) (left first o : Log) (cell : Cell) (others : List Part) → Fits policy shape p t left first o (Append cell ∷ others) → cell.kind ≡ 2
+append_kind : (policy : Policy) (shape : Shape) (p t : ℕ) (left first o : Log) (cell : Cell) (others : List Part) → Fits policy shape p t left first o (Append cell ∷ others) → cell.kind ≡ COMPENSATION
 append_kind policy shape p t left first o _ _ (compensates u us stays before) = refl
 
 append_kept : (policy : Policy) (shape : Shape) (p t : ℕ) (s : State) (us : List Cell) (left : Log) (cell : Cell) (others : List Part) (x : State)
     (w : Words) (chain : List ℕ) (place : Place) (number : ℕ) → CanGoBack shape p t s.log us left → Undoes policy shape p t s us (Append cell ∷ others) x →
-    MayAppend shape p w x chain place (appended place number cell) → cell.kind ≡ 2 → AppendKeeps shape p w x place (appended place number cell) (λ h. Unit {0})
+    MayAppend shape p w x chain place (appended place number cell) → cell.kind ≡ COMPENSATION → AppendKeeps shape p w x place (appended place number cell) (λ h. Unit {0})
 append_kept policy shape p t s us left cell others x w chain place number can course may two =
     (backs_go_on policy shape p t s us left can (Append cell) others x course w chain place number may).keeps
     (λ one. absurd (omega (arith, one, two))) (λ four. absurd (omega (arith, four, two))) (λ six. absurd (omega (arith, six, two))) (λ three. absurd (omega (arith, three, two)))

@@ -1,5 +1,6 @@
 -- Going back leaves, by the records, each word's value before the updates.
 use Rattle.std.proofs.Common.{◌≡◌, inl, inr, ℕ, ◌==◌, if◌then◌else◌, List, [], ◌∷◌, refl, sym, ap, ◌∙◌, subst, arith}
+use Rattle.persist_model.specs.Kinds.{COMPENSATION}
 use Rattle.persist_model.specs.Records.{Record, Log}
 use Rattle.persist_model.specs.Order.{last_new}
 use Rattle.persist_model.specs.Shape.{Shape}
@@ -37,7 +38,7 @@ last_new_own t a d (r ∷ log) = by (is_to t r) (last_new_own t a d log)
       ]
     ]
 
-last_new_less : (t a d : ℕ) (r : Record) (log : Log) → r.kind ≡ 2 → r.transaction ≡ t → last_new t a d (r ∷ log) ≡ (if r.word == a then r.after else last_new t a d log)
+last_new_less : (t a d : ℕ) (r : Record) (log : Log) → r.kind ≡ COMPENSATION → r.transaction ≡ t → last_new t a d (r ∷ log) ≡ (if r.word == a then r.after else last_new t a d log)
 last_new_less t a d r log is own = by (is_to t r)
   where
     by : IsTo t r → last_new t a d (r ∷ log) ≡ (if r.word == a then r.after else last_new t a d log)

@@ -1,6 +1,7 @@
 -- Under force a lane that goes back stays in step with its transaction's records.
 use Rattle.std.proofs.Common.{◌≡◌, ◌≢◌, ◌⊎◌, inl, inr, ℕ, true, false, ◌<◌, ◌≤◌, ◌==◌, List, [], ◌∷◌, ◌++◌, refl, sym, ap, ◌∙◌, subst, arith}
 use Rattle.std.proofs.lemmas.Bool.Decides.{eqb_tells}
+use Rattle.persist_model.specs.Kinds.{COMPENSATION}
 use Rattle.persist_model.specs.declared.event.Event.{Event}
 use Rattle.persist_model.specs.declared.event.Event.TheVariants.{Store, PStore, WriteBack, Fence}
 use Rattle.persist_model.specs.Progress.{Progress, Wrote, advance, advance_all}
@@ -116,7 +117,7 @@ module _ (shape : Shape) (p t : ℕ) where
 
   after_append : (o : Log) (z : Progress) (cell : Cell) (others : List Part) (place : Place) (number : ℕ) → Going shape t o z (Append cell ∷ others) →
       ((x : Record) → IsAmong o x → IsOf t x → x.lsn < number) → AreOnLog shape (region_append shape p place (appended place number cell)) →
-      (cell.transaction ≡ t) × (cell.kind ≡ 2) × Going shape t (appended place number cell ∷ o) (advance_all z (region_append shape p place (appended place number cell))) others
+      (cell.transaction ≡ t) × (cell.kind ≡ COMPENSATION) × Going shape t (appended place number cell ∷ o) (advance_all z (region_append shape p place (appended place number cell))) others
   after_append o z _ _ place number (compensates u us high h) above on =
       let c : Record = appended place number (cell_of_compensation u) in
       (high.0, refl, restores u us high.2 (steps_changed shape t o z c (region_append shape p place c) (inr refl) high.0 high.1 above on h))
