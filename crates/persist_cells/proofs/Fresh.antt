@@ -51,10 +51,3 @@ module _ (xs : List ℕ) (root : slice_index xs 16 ≡ 1) (others : (a : ℕ) �
 
 pub none_aside : (s : Space) → AreSetAside (of_structure 0 s.land) []
 none_aside s = record { own = λ b m. absurd m; not_root = λ b m. absurd m; once = tt }
-
--- words of which one was set
-pub one_set : (xs : List ℕ) → ◌≡◌ {A = List ℕ} xs (replicate 32 0) → (a : ℕ) → a ≢ 16 → ◌≡◌ {A = ℕ} (slice_index (slice_set xs 16 1) a) 0
-one_set xs e a ne = get_or-set_other xs 16 a 1 0 ne ∙ ap (λ ys. get_or ys a 0) e ∙ each
-  where
-    each : ◌≡◌ {A = ℕ} (get_or (replicate 32 0) a 0) 0
-    each = elim (cases_lt a 32) [ inl lt ↦ get_or-replicate 32 a 0 0 lt | inr past ↦ get_or_past (replicate 32 0) a 0 past ]

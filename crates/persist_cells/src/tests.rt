@@ -9,47 +9,13 @@ use persist_model::List;
 use std::alloc::{AllocError, Global};
 use std::process::Abort;
 use std::test::Fail;
-
-#[derive(Drop)]
-struct Memory {
-    words: Vec<u64>,
-}
-
-impl Reads for Memory {
-    ghost space = { λ m. record {
-      land = record {
-        heap = 16;
-        structure = 0;
-        owner = slice_index m.words.items;
-        start = record { word = slice_index m.words.items; owner = slice_index m.words.items };
-      };
-      word = slice_index m.words.items;
-      spare = [];
-      writes = 0;
-    } };
-
-    ghost readable = { λ m a. nat_lt a (length m.words.items) };
-
-    fn read(&mut self, a: u32) -> u64 {
-        self.words[a as usize]
-    }
-}
-
-fn owned_words(alloc: Global) -> Result<Vec<u64>, AllocError>
-    ensures root { IfOk result (λ words. slice_index words.items 16 ≡ 1) }
-    ensures others { IfOk result (λ words. (a : ℕ) → a ≢ 16 → slice_index words.items a ≡ 0) }
-    ensures size { IfOk result (λ words. length words.items ≡ 32) }
-{
-    let mut words = vec![in alloc; 0; 32]?;
-    words[16] = 1;
-    Ok(words)
-}
+use test_words::{Memory, owned_words};
 
 /// An empty map.
 fn fresh(alloc: Global) -> Result<Draft<Memory>, AllocError>
     ensures { IfOk result (λ draft. HoldsMap (⟦<Draft<Memory> as Reads>⟧.space draft) 16) }
 {
-    let words = owned_words(alloc)?;
+    let words = owned_words(alloc, 1)?;
     Ok(Draft::new(alloc, Memory { words }, 0, List::new(alloc)))
 }
 

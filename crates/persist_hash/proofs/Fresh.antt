@@ -8,7 +8,8 @@ use Rattle.persist_model.specs.Chain.{HasNoRepeats}
 use Rattle.lane_traits.specs.Space.{Land, Space, IsOwn, root_block, taken}
 use Rattle.lane_traits.specs.Draft.{is_among, of_structure, drafted, AreSetAside}
 use Rattle.lane_traits.specs.DraftLaws.{of_among, owner_of}
-use Rattle.lane_traits.proofs.Among.{among_of, among_last, among_front, among_end, once_more}
+use Rattle.lane_traits.proofs.Among.{among_of}
+use Rattle.test_words.specs.Blocks.{AreOthers}
 use Rattle.region_layout.specs.HashMap.{Chains, IsHashMap}
 use Rattle.persist_hash.specs.Calls.{HasMap, Took, GivesBlock}
 use Rattle.persist_hash.proofs.Blocks.{IsPlaced, of_placed}
@@ -48,11 +49,6 @@ empty_map land w root own zero_is alone = record {
 }
 
 -- ---- a draft over words that are all 0
-
-pub record AreOthers (n : ℕ) (spare : List ℕ) : Type 0 where
-  pub each : (b : ℕ) → IsAmong spare b → (k : ℕ) × (0 < k) × (k < n) × (b ≡ 16 + 16 * k)
-  pub all : (k : ℕ) → 0 < k → k < n → IsAmong spare (16 + 16 * k)
-  pub once : HasNoRepeats spare
 
 abbrev pub blank_owner : ℕ → ℕ → ℕ
 blank_owner n b = if nat_lt b (16 + 16 * n) then 1 else 0
@@ -108,28 +104,6 @@ blank_map n spare some h = record {
         (λ positive. absurd (let ne = positive.1 in
         not_both (is_among spare b) (of_among spare b (subst (IsAmong spare) (sym place) (h.all own.0.number (omega (arith, ne)) (omega (arith, lt, place))))) parts.1))
         (eqb_tells own.0.number 0)
-
--- ---- the list of the others grows at its end
-
-pub others_none : AreOthers 1 []
-others_none = record {
-  each = λ b among. absurd among;
-  all = λ k some lt. absurd (omega (arith, some, lt));
-  once = tt;
-}
-
-pub others_more : (n : ℕ) (spare : List ℕ) → 1 ≤ n → AreOthers n spare → AreOthers (n + 1) (spare ++ (16 + 16 * n) ∷ [])
-others_more n spare some h = record {
-  each = λ b among. ⊎_elim
-      (λ k. let at = h.each b k in let lt = at.2 in (at.0, at.1, omega (arith, lt), at.3))
-      (λ e. (n, omega (arith, some), omega arith, e))
-      (among_last spare (16 + 16 * n) b among);
-  all = λ k pos lt. ⊎_elim
-      (λ same. subst (λ j. IsAmong (spare ++ (16 + 16 * n) ∷ []) (16 + 16 * j)) (sym same.1) (among_end spare (16 + 16 * n)))
-      (λ other. let ne = other.1 in among_front spare (16 + 16 * n) (16 + 16 * k) (h.all k pos (omega (arith, lt, ne))))
-      (eqb_tells k n);
-  once = once_more spare (16 + 16 * n) h.once (λ among. let at = h.each (16 + 16 * n) among in let lt = at.2 in let e = at.3 in omega (arith, lt, e));
-}
 
 -- ---- the root stays where it is
 

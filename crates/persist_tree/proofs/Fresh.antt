@@ -8,25 +8,9 @@ use Rattle.persist_model.specs.Records.{IsAmong}
 use Rattle.persist_model.specs.Chain.{HasNoRepeats, IsAbsent}
 use Rattle.lane_traits.specs.Space.{Space, IsOwn, IsDataWordOf, root_block}
 use Rattle.lane_traits.specs.Draft.{is_among, of_structure, drafted, AreSetAside}
+use Rattle.test_words.specs.Blocks.{AreOthers}
 use Rattle.region_layout.specs.TreeMap.{Leaf}
 use Rattle.persist_tree.specs.Calls.{HoldsMap, KeepsBlocks, TakesOne, GivesOne}
-use Rattle.persist_tree.proofs.Nodes.{among_left, among_right, among_either}
-
--- ---- a list grows at its end
-
-pub among_end : (xs : List ℕ) (x c : ℕ) → IsAmong (xs ++ x ∷ []) c → IsAmong xs c ⊎ (c ≡ x)
-among_end xs x c h = elim (among_either xs (x ∷ []) c h) [ inl m ↦ inl m | inr m ↦ (elim m [ inl e ↦ inr e | inr k ↦ absurd k ]) ]
-
-pub at_end : (xs : List ℕ) (x : ℕ) → IsAmong (xs ++ x ∷ []) x
-at_end xs x = among_right xs (x ∷ []) x (inl refl)
-
-absent_end : (b : ℕ) (xs : List ℕ) (x : ℕ) → IsAbsent b xs → b ≢ x → IsAbsent b (xs ++ x ∷ [])
-absent_end b [] x h ne = (ne, tt)
-absent_end b (y ∷ ys) x h ne = (h.0, absent_end b ys x h.1 ne)
-
-pub once_end : (xs : List ℕ) (x : ℕ) → HasNoRepeats xs → (IsAmong xs x → ⊥) → HasNoRepeats (xs ++ x ∷ [])
-once_end [] x h out = (tt, tt)
-once_end (y ∷ ys) x h out = (absent_end y ys x h.0 (λ e. out (inl (sym e))), once_end ys x h.1 (λ m. out (inr m)))
 
 among_told : (xs : List ℕ) (b : ℕ) → (IsAmong xs b × (is_among xs b ≡ true)) ⊎ ((IsAmong xs b → ⊥) × (is_among xs b ≡ false))
 among_told [] b = inr ((λ m. m), refl)
@@ -46,9 +30,7 @@ pub record IsMemory (xs : List ℕ) (n : ℕ) (spare : List ℕ) : Type 0 where
   pub size : length xs ≡ 16 + 16 * n
   pub owners : (k : ℕ) → k < n → slice_index xs (16 + 16 * k) ≡ 1
   pub top_is : slice_index xs 17 ≡ 0
-  pub each : (b : ℕ) → IsAmong spare b → (k : ℕ) × (0 < k) × (k < n) × (b ≡ 16 + 16 * k)
-  pub all : (k : ℕ) → 0 < k → k < n → IsAmong spare (16 + 16 * k)
-  pub once : HasNoRepeats spare
+  pub others : AreOthers n spare
 
 abbrev pub memory_space : List ℕ → Space
 memory_space xs = record {
@@ -61,10 +43,10 @@ memory_space xs = record {
 module _ (xs : List ℕ) (n : ℕ) (spare : List ℕ) (m : IsMemory xs n spare) where
   pub memory_aside : AreSetAside (of_structure 0 (memory_space xs).land) spare
   memory_aside = record {
-    own = λ b h. (let k = m.each b h in let lt = k.2 in let e = k.3 in let few = m.few in
+    own = λ b h. (let k = m.others.each b h in let lt = k.2 in let e = k.3 in let few = m.few in
         (record { number = k.0; place = e; positive = omega (arith, e); fits = omega (arith, e, lt, few) }, ap (slice_index xs) e ∙ m.owners k.0 lt));
-    not_root = λ b h e. (let k = m.each b h in let some = k.1 in let is = k.3 in omega (arith, e, some, is));
-    once = m.once;
+    not_root = λ b h e. (let k = m.others.each b h in let some = k.1 in let is = k.3 in omega (arith, e, some, is));
+    once = m.others.once;
   }
 
   pub memory_readable : (a : ℕ) → IsDataWordOf (of_structure 0 (memory_space xs).land) a → IsTrue (nat_lt a (length xs))
@@ -82,7 +64,7 @@ module _ (xs : List ℕ) (n : ℕ) (spare : List ℕ) (m : IsMemory xs n spare) 
         elim (eqb_tells own.0.number 0) [
           | inl e ↦ (let zero_is = e.1 in omega (arith, place, zero_is))
           | inr ne ↦ absurd (elim (cases_lt b (length xs)) [
-            | inl lt ↦ (let apart = ne.1 in out.0 (subst (IsAmong spare) (sym place) (m.all own.0.number (omega (arith, apart)) (omega (arith, lt, place, size)))))
+            | inl lt ↦ (let apart = ne.1 in out.0 (subst (IsAmong spare) (sym place) (m.others.all own.0.number (omega (arith, apart)) (omega (arith, lt, place, size)))))
             | inr past ↦ (let none = get_or_past xs b 0 past in omega (arith, none, owned))
           ])
         ])
@@ -109,7 +91,7 @@ module _ (xs : List ℕ) (n : ℕ) (spare : List ℕ) (m : IsMemory xs n spare) 
   }
     where
       root_owner : (IsAmong spare 16 × (is_among spare 16 ≡ true)) ⊎ ((IsAmong spare 16 → ⊥) × (is_among spare 16 ≡ false)) → (if is_among [] 16 || is_among spare 16 then 0 else slice_index xs 16) ≡ 1
-      root_owner (inl there) = absurd (let k = m.each 16 there.0 in let some = k.1 in let is = k.3 in omega (arith, some, is))
+      root_owner (inl there) = absurd (let k = m.others.each 16 there.0 in let some = k.1 in let is = k.3 in omega (arith, some, is))
       root_owner (inr out) = let off = out.1 in rw off (m.owners 0 (let some = m.some in omega (arith, some)))
 
 -- ---- the root stays where it is
@@ -126,23 +108,3 @@ module _ {E : Type 0} (s u : Space) where
   root_removed (Ok None) kept is = ap root_block kept.land ∙ is
   root_removed (Ok (Some v)) gave is = ap root_block gave.land ∙ is
   root_removed (Err e) _ is = tt
-
--- ---- the blocks but the root, one after the other
-
-pub record AreOthers (found : List ℕ) (n : ℕ) : Type 0 where
-  pub each : (b : ℕ) → IsAmong found b → (j : ℕ) × (0 < j) × (j < n) × (b ≡ 16 + 16 * j)
-  pub all : (j : ℕ) → 0 < j → j < n → IsAmong found (16 + 16 * j)
-  pub once : HasNoRepeats found
-
-pub one_more : (found later : List ℕ) (n : ℕ) → 0 < n → AreOthers found n → later ≡ found ++ (16 + 16 * n) ∷ [] → AreOthers later (n + 1)
-one_more found later n positive h made = subst (λ (xs : List ℕ). AreOthers xs (n + 1)) (sym made) (record {
-  each = λ b m. elim (among_end found (16 + 16 * n) b m) [
-    | inl there ↦ (let j = h.each b there in let lt = j.2 in (j.0, j.1, omega (arith, lt), j.3))
-    | inr e ↦ (n, positive, omega arith, e)
-  ];
-  all = λ j some lt. elim (eqb_tells j n) [
-    | inl e ↦ subst (λ i. IsAmong (found ++ (16 + 16 * n) ∷ []) (16 + 16 * i)) (sym e.1) (at_end found (16 + 16 * n))
-    | inr ne ↦ (let apart = ne.1 in among_left found ((16 + 16 * n) ∷ []) (16 + 16 * j) (h.all j some (omega (arith, lt, apart))))
-  ];
-  once = once_end found (16 + 16 * n) h.once (λ m. let j = h.each (16 + 16 * n) m in let lt = j.2 in let e = j.3 in omega (arith, lt, e));
-})

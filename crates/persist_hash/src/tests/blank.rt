@@ -8,6 +8,7 @@ ghost use Rattle.persist_hash.specs.Calls.{HasMap};
 use lane_traits::{Draft, Reads};
 use persist_model::{List, NoMemory};
 use std::alloc::Global;
+use test_words::other_blocks;
 
 #[derive(Clone, Copy)]
 pub struct Blank {
@@ -32,21 +33,6 @@ impl Reads for Blank {
     fn read(&mut self, _a: u32) -> u64 {
         0
     }
-}
-
-// All blocks but the root.
-fn other_blocks(alloc: Global, blocks: u32) -> Result<List<u32>, NoMemory>
-    requires few { blocks ≤ 64 }
-    requires some { 1 ≤ blocks }
-    ensures each { IfOk result (λ found. (b : ℕ) → IsAmong found b → (k : ℕ) × (0 < k) × (k < blocks) × (b ≡ 16 + 16 * k)) }
-    ensures all { IfOk result (λ found. (k : ℕ) → 0 < k → k < blocks → IsAmong found (16 + 16 * k)) }
-    ensures once { IfOk result (λ found. HasNoRepeats found) }
-{
-    let mut found = List::new(alloc);
-    for k in 1..blocks {
-        found.push(16 + 16 * k).map_err(|_| NoMemory)?;
-    }
-    Ok(found)
 }
 
 /// An empty map, and so many blocks that can be taken.

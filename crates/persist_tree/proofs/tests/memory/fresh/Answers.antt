@@ -10,8 +10,6 @@ returns-clause-map c = subst (λ (s : Space). HoldsMap s 16) (sym c.new.ensures.
   few = (let most = c.requires in omega (arith, most));
   size = c.in_ok-words.ensures.size;
   owners = c.in_ok-words.ensures.owners;
-  top_is = c.in_ok-words.ensures.top;
-  each = c.in_ok-others.ensures.each;
-  all = c.in_ok-others.ensures.all;
-  once = c.in_ok-others.ensures.once;
+  top_is = c.in_ok-words.ensures.others 17 (λ k lt e. omega (arith, e));
+  others = c.in_ok-others.ensures;
 }))

@@ -1,6 +1,7 @@
 use Rattle.std.proofs.Common.{◌≡◌, ◌+◌, ◌*◌, ◌++◌, List, [], ◌∷◌, ℕ, sym, subst, arith, rules}
-use Rattle.persist_hash.proofs.Fresh.{AreOthers, others_more}
-use Rattle.persist_hash.proofs.tests.blank.other_blocks.Goals as goal
+use Rattle.test_words.specs.Blocks.{AreOthers}
+use Rattle.test_words.proofs.Others.{others_more}
+use Rattle.test_words.proofs.memory.other_blocks.Goals as goal
 
 pub loop-k-preserved : goal.loop-k-preserved
 loop-k-preserved c =
