@@ -1,18 +1,25 @@
 -- A world whose heap keeps its newest values and gains no candidate.
 use Rattle.std.proofs.Common.{◌≡◌, ◌≢◌, inl, inr, ℕ, ◌+◌, ◌<◌, Bool, List, length, refl, sym, ap, ◌∙◌, subst, arith}
 use Rattle.std.proofs.lemmas.Bool.Decides.{eqb_tells}
+use Rattle.persist_model.specs.declared.event.Event.{Event}
 use Rattle.persist_model.specs.declared.event.Event.TheVariants.{WriteBack, Fence}
 use Rattle.persist_model.specs.declared.event.Candidate.{Candidate}
 use Rattle.persist_model.specs.Region.{Words, Region, IsCandidate, after, mark_last}
-use Rattle.persist_model.specs.Shape.{Shape}
+use Rattle.persist_model.specs.Shape.{Shape, IsShape}
 use Rattle.persist_model.specs.State.{State}
 use Rattle.persist_model.proofs.Candidates.{IsCandidate_same_values, map-value_of-mark_last, length-mark_last}
 use Rattle.persist_model.proofs.Images.{at-with_word, at-with_word_other}
 use Rattle.noforce_policy.proofs.Sweeps.{sweeps_settle}
 use Rattle.log_keeper.specs.declared.slots.TheConstants.{NOBODY}
 use Rattle.log_keeper.specs.Parts.{waits_for, Running}
-use Rattle.log_keeper.specs.Logged.{Keeping, resting}
+use Rattle.log_keeper.specs.Making.{made_part}
+use Rattle.log_keeper.specs.Logged.{Keeping, resting, plan_in}
+use Rattle.log_keeper.specs.Events.{IsNextEvent, region_made}
 use Rattle.log_keeper.proofs.EventsPass.{events_pass, fences_pass}
+use Rattle.log_keeper.proofs.Progressing.{size_after}
+use Rattle.log_keeper.proofs.Made.{events_go_on}
+use Rattle.log_keeper.proofs.Orders.{orders_keep}
+use Rattle.log_keeper.proofs.Runs.{runs_keep, parts_spare}
 use Rattle.history_laws.specs.Histories.{fold}
 use Rattle.txn_laws.specs.Worlds.{World, IsLogOf}
 use Rattle.txn_laws.proofs.LogEvents.{LeavesHeap}
@@ -70,6 +77,19 @@ fence_log shape base s chains k next region l few run log = record {
   sound = log.sound;
   ordered = log.ordered;
   fits = log.fits;
+  numbers = log.numbers;
+}
+
+-- an event of a part that isn't its last
+pub log_goes_on : (shape : Shape) (base : Words) (s : State) (chains : ℕ → List ℕ) (k : Keeping) (next : ℕ) (region : Region) (p : ℕ) (e : Event) → IsNextEvent shape k p e →
+    (k.runs p).made + 1 < length (plan_in shape k p) → IsLogOf shape base s chains k next region → IsLogOf shape base s chains (made_part shape p k) next (region_made k p e region)
+log_goes_on shape base s chains k next region p e is more log = record {
+  of_shape = log.of_shape;
+  header = subst (λ n. IsShape n base) (sym (size_after region (k.holder p) e)) log.header;
+  logged = events_go_on shape base s chains k region p e is more log.ordered.newest_first log.fits log.logged;
+  sound = log.sound;
+  ordered = orders_keep.made shape p next k log.ordered;
+  fits = runs_keep.made shape p k is.inside log.ordered.newest_first (parts_spare shape base s chains k region p is.inside log.fits log.logged) log.fits;
   numbers = log.numbers;
 }
 

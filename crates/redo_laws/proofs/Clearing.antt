@@ -1,5 +1,5 @@
 -- A group of a checkpoint's closing begins.
-use Rattle.std.proofs.Common.{◌≡◌, ℕ, ◌<◌, nat_lt, true, List, refl, sym, ap, ◌∙◌, subst, arith}
+use Rattle.std.proofs.Common.{◌≡◌, ℕ, ◌<◌, nat_lt, true, refl, sym, ap, ◌∙◌, subst, arith}
 use Rattle.std.proofs.lemmas.Bool.Decides.{nat_tests}
 use Rattle.persist_model.specs.Progress.{start, Tracks, AreSettledAt}
 use Rattle.persist_model.specs.Runs.{progress_at}
@@ -20,19 +20,19 @@ use Rattle.redo_laws.specs.Checkpoints.{Group, zeroed, shuts, shutting_part, shu
 use Rattle.redo_laws.specs.Clears.{shutting, GroupsBegin}
 use Rattle.redo_laws.proofs.Beside.{leaves_itself, beside, stage_is}
 
--- where no append is under way before and behind, the ledger fits
-fits_closing : (shape : Shape) (k x : Keeping) → x.ledger ≡ k.ledger → ((p : ℕ) → p < shape.partitions → (place : Place) (r : Record) → (k.runs p).part ≡ adds place r → ⊥) →
+-- where no append is under way before and behind, a ledger with no more records fits
+pub fits_closing : (shape : Shape) (k x : Keeping) → ((n : Noted) → IsAmong x.ledger n → IsAmong k.ledger n) → ((p : ℕ) → p < shape.partitions → (place : Place) (r : Record) → (k.runs p).part ≡ adds place r → ⊥) →
     ((p : ℕ) → p < shape.partitions → (place : Place) (r : Record) → (x.runs p).part ≡ adds place r → ⊥) → FitsRuns shape k → FitsRuns shape x
-fits_closing shape k x same before behind fits = record {
+fits_closing shape k x fewer before behind fits = record {
   noted = λ p place r lt is. absurd (behind p lt place r is);
   apart = λ p q place there r y lt lq ne is other. absurd (behind p lt place r is);
-  others = λ n m ne. (let h = fits.others n (subst (λ (ledger : List Noted). IsAmong ledger n) same m) ne in absurd (before h.0 h.1 h.2 n.entry h.3));
+  others = λ n m ne. (let h = fits.others n (fewer n m) ne in absurd (before h.0 h.1 h.2 n.entry h.3));
 }
 
-no_append_rests : (run : Running) (place : Place) (r : Record) → run ≡ resting → run.part ≡ adds place r → ⊥
+pub no_append_rests : (run : Running) (place : Place) (r : Record) → run ≡ resting → run.part ≡ adds place r → ⊥
 no_append_rests run place r is e = let f : rests ≡ adds place r = sym (ap (λ (x : Running). x.part) is) ∙ e in cc
 
-no_append_shuts : (run : Running) (g : Group) (p : ℕ) (place : Place) (r : Record) → run ≡ shutting_run g p → run.part ≡ adds place r → ⊥
+pub no_append_shuts : (run : Running) (g : Group) (p : ℕ) (place : Place) (r : Record) → run ≡ shutting_run g p → run.part ≡ adds place r → ⊥
 no_append_shuts run g p place r is e = let f : shutting_part g p ≡ adds place r = sym (ap (λ (x : Running). x.part) is) ∙ e in cc
 
 shutting_is : (shape : Shape) (g : Group) (k : Keeping) (p : ℕ) → p < shape.partitions → (shutting shape g k).runs p ≡ shutting_run g p
@@ -47,7 +47,7 @@ groups_begin shape base s chains start_heap z region l g is may world =
       logged = logged;
       sound = world.log.sound;
       ordered = orders_keep.stays z.world.next z.world.keeping (shutting shape g z.world.keeping) refl world.log.ordered;
-      fits = fits_closing shape z.world.keeping (shutting shape g z.world.keeping) refl (λ p lt place r e. no_append_rests (z.world.keeping.runs p) place r (may.run p lt) e)
+      fits = fits_closing shape z.world.keeping (shutting shape g z.world.keeping) (λ n m. m) (λ p lt place r e. no_append_rests (z.world.keeping.runs p) place r (may.run p lt) e)
           (λ p lt place r e. no_append_shuts ((shutting shape g z.world.keeping).runs p) g p place r (shutting_is shape g z.world.keeping p lt) e) world.log.fits;
       numbers = world.log.numbers;
     }) (leaves_itself shape region) (record {

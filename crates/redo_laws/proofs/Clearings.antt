@@ -1,23 +1,16 @@
 -- A removal of a checkpoint's clearing begins.
-use Rattle.std.proofs.Common.{◌≡◌, ◌≢◌, ℕ, ◌<◌, ◌==◌, if◌then◌else◌, List, refl, sym, ap, ◌∙◌, subst}
-use Rattle.persist_model.specs.Region.{Words, Region}
-use Rattle.persist_model.specs.Shape.{Shape}
-use Rattle.persist_model.specs.State.{State}
-use Rattle.log_keeper.specs.Parts.{Running}
+use Rattle.std.proofs.Common.{◌≡◌, ℕ, ◌<◌, ◌==◌, if◌then◌else◌, refl, sym, ◌∙◌, subst}
 use Rattle.log_keeper.specs.Keeper.{begun_in}
-use Rattle.log_keeper.specs.Logged.{Keeping, begun}
+use Rattle.log_keeper.specs.Logged.{begun}
 use Rattle.log_keeper.proofs.Progressing.{by_part}
 use Rattle.log_keeper.proofs.EventsPass.{parts_begin as parts_begin_logged}
 use Rattle.log_keeper.proofs.Orders.{orders_keep}
 use Rattle.log_keeper.proofs.Runs.{runs_keep}
 use Rattle.history_laws.specs.Histories.{fold}
-use Rattle.history_laws.specs.UnderWay.{nothing, drops, run_of}
-use Rattle.txn_laws.specs.Txns.{txn_at}
-use Rattle.txn_laws.specs.PartsOf.{Fits}
+use Rattle.history_laws.specs.UnderWay.{drops, run_of}
 use Rattle.txn_laws.specs.Asks.{begun_part}
 use Rattle.redo_laws.specs.Checkpoints.{zeroed}
 use Rattle.redo_laws.specs.Stages.{IsIdle, IsAtStage}
-use Rattle.redo_laws.specs.Worlds.{RedoWorld, with_world, IsRedoWorldAt}
 use Rattle.redo_laws.specs.Clears.{ClearingsRemove}
 use Rattle.redo_laws.proofs.Beside.{stage_is}
 use Rattle.redo_laws.proofs.LaneStages.{idle_fits}

@@ -5,16 +5,14 @@ use Rattle.persist_model.specs.Region.{Words, Region, newest}
 use Rattle.persist_model.specs.Progress.{latest}
 use Rattle.persist_model.specs.Records.{Record, Log, HasNo}
 use Rattle.persist_model.specs.Standing.{IsToDelete}
-use Rattle.persist_model.specs.Shape.{Shape, IsShape}
+use Rattle.persist_model.specs.Shape.{Shape}
 use Rattle.persist_model.specs.State.{State}
 use Rattle.log_keeper.specs.Parts.{rests, appends as adds, closes as shuts, takes_back as drops_deletions, drops as takes_out, waits_for, LogPart, Running}
 use Rattle.log_keeper.specs.Making.{made_part}
 use Rattle.log_keeper.specs.Logged.{Keeping, one_more, plan_in}
 use Rattle.log_keeper.specs.Events.{IsNextEvent, region_made}
-use Rattle.log_keeper.proofs.Progressing.{by_part, size_after, waits_is}
-use Rattle.log_keeper.proofs.Made.{goes_on, events_go_on}
-use Rattle.log_keeper.proofs.Orders.{orders_keep}
-use Rattle.log_keeper.proofs.Runs.{runs_keep, parts_spare}
+use Rattle.log_keeper.proofs.Progressing.{by_part, waits_is}
+use Rattle.log_keeper.proofs.Made.{goes_on}
 use Rattle.history_laws.specs.Histories.{fold}
 use Rattle.history_laws.specs.UnderWay.{Added, an_update, a_deletion, a_rollback, a_compensation, an_undone_end, a_commit_end, record_of_adding, UnderWay, nothing, appends, closes, takes_back, drops, run_of}
 use Rattle.txn_laws.specs.Txns.{Txn, txn_at, with_txn, written}
@@ -24,6 +22,7 @@ use Rattle.txn_laws.specs.NextRecords.{ComesNext, ended_by}
 use Rattle.txn_laws.specs.PartsOf.{Fits, IsPartIn}
 use Rattle.txn_laws.specs.Worlds.{World, IsLogOf}
 use Rattle.redo_laws.specs.Stages.{IsNoClosing}
+use Rattle.redo_laws.proofs.Beside.{log_goes_on}
 use Rattle.redo_laws.proofs.Plain.{IsPlainAt, plain_found}
 use Rattle.redo_laws.proofs.LaneTxns.{transactions_with}
 use Rattle.txn_laws.specs.Going.{with_under, further, txn_further, gone_on}
@@ -90,12 +89,18 @@ further_fits shape s h p x (closes gates ends made) fits = fits
 further_fits shape s h p x (takes_back gates made) fits = fits
 further_fits shape s h p x (drops r made) fits = tt
 
-further_run : (u : UnderWay) → (run_of u).part ≢ rests → one_more (run_of u) ≡ run_of (further u)
+pub further_run : (u : UnderWay) → (run_of u).part ≢ rests → one_more (run_of u) ≡ run_of (further u)
 further_run nothing ne = absurd (ne refl)
 further_run (appends adding made) ne = refl
 further_run (closes gates ends made) ne = refl
 further_run (takes_back gates made) ne = refl
 further_run (drops r made) ne = refl
+
+-- where a part has a next event something is under way
+pub next_runs : (shape : Shape) (k : Keeping) (p : ℕ) (e : Event) → IsNextEvent shape k p e → (k.runs p).part ≢ rests
+next_runs shape k p e next e0 =
+    let e1 = waits_is shape p (k.runs p).part 0 (k.runs p).made e next.next in
+    let e2 = ap (λ (part : LogPart). waits_for part 0) e0 in omega (arith, e1, e2)
 
 module _ (shape : Shape) (base : Words) (s : State) (chains : ℕ → List ℕ) (start_heap : Words) (w : World) (region : Region) (p : ℕ) (e : Event)
     (inside : w.keeping.holder p < length w.lanes) (next : IsNextEvent shape w.keeping p e) (more : (w.keeping.runs p).made + 1 < length (plan_in shape w.keeping p))
@@ -131,15 +136,7 @@ module _ (shape : Shape) (base : Words) (s : State) (chains : ℕ → List ℕ) 
   owners_there = owners_same shape l y w.lanes inside words_is world.owners
 
   log_there : IsLogOf shape base s chains (made_part shape p w.keeping) w.next later
-  log_there = record {
-    of_shape = world.log.of_shape;
-    header = subst (λ n. IsShape n base) (sym (size_after region l e)) world.log.header;
-    logged = events_go_on shape base s chains w.keeping region p e next more world.log.ordered.newest_first world.log.fits world.log.logged;
-    sound = world.log.sound;
-    ordered = orders_keep.made shape p w.next w.keeping world.log.ordered;
-    fits = runs_keep.made shape p w.keeping next.inside world.log.ordered.newest_first (parts_spare shape base s chains w.keeping region p next.inside world.log.fits world.log.logged) world.log.fits;
-    numbers = world.log.numbers;
-  }
+  log_there = log_goes_on shape base s chains w.keeping w.next region p e next more world.log
 
   found_there : IsFound shape s.log h (with_txn l y w.lanes) later
   found_there = record {
@@ -153,10 +150,6 @@ module _ (shape : Shape) (base : Words) (s : State) (chains : ℕ → List ℕ) 
 
   -- ---- the parts
 
-  run_there : (w.keeping.runs p).part ≢ rests
-  run_there e0 = (let e1 = waits_is shape p (w.keeping.runs p).part 0 (w.keeping.runs p).made e next.next in
-      let e2 = ap (λ (part : LogPart). waits_for part 0) e0 in omega (arith, e1, e2))
-
   runs_there : (q : ℕ) → (made_part shape p w.keeping).runs q ≡ (if q == p then one_more (w.keeping.runs p) else w.keeping.runs q)
   runs_there q = ap (λ (k : Keeping). k.runs q) (goes_on shape w.keeping p more)
 
@@ -168,7 +161,7 @@ module _ (shape : Shape) (base : Words) (s : State) (chains : ℕ → List ℕ) 
     where
       run : (made_part shape p w.keeping).runs q ≡ run_of (with_under p (further (w.under p)) w.under q)
       run = runs_there q ∙ by_part (λ n t. n < shape.partitions → (if t then one_more (w.keeping.runs p) else w.keeping.runs n) ≡ run_of (if t then further (w.under p) else w.under n)) p q
-          (λ lt. ap one_more (world.parts p lt).run ∙ further_run (w.under p) (λ e0. run_there (ap (λ (r : Running). r.part) (world.parts p lt).run ∙ e0)))
+          (λ lt. ap one_more (world.parts p lt).run ∙ further_run (w.under p) (λ e0. next_runs shape w.keeping p e next (ap (λ (r : Running). r.part) (world.parts p lt).run ∙ e0)))
           (λ ne lt. (world.parts q lt).run) lt
 
       here : Fits shape s h p (txn_at (with_txn l y w.lanes) l) (further (w.under p))

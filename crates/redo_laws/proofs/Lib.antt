@@ -29,3 +29,11 @@ pub mod Removing
 pub mod Clearing
 mod Examples
 pub mod Clearings
+pub mod TakingBack
+pub mod ShuttingGates
+pub mod GoingClear
+pub mod FencingGroupsRows
+pub mod FencingGroupsClears
+pub mod FencingGroupsLog
+pub mod FencingGroupsTxns
+pub mod FencingGroups

@@ -1,7 +1,6 @@
 -- The append of a checkpoint's record, but for its last event.
-use Rattle.std.proofs.Common.{◌≡◌, ◌≢◌, inl, inr, ℕ, ◌+◌, ◌==◌, if◌then◌else◌, ◌∷◌, refl, sym, ap, ◌∙◌, subst, arith}
+use Rattle.std.proofs.Common.{◌≡◌, ◌≢◌, inl, inr, ℕ, ◌+◌, ◌==◌, if◌then◌else◌, ◌∷◌, refl, sym, ap, ◌∙◌, arith}
 use Rattle.std.proofs.lemmas.Bool.Decides.{eqb_tells}
-use Rattle.persist_model.specs.Shape.{IsShape}
 use Rattle.plan_records.proofs.Passing.{passes_above}
 use Rattle.log_keeper.specs.Parts.{appends as adds, Running}
 use Rattle.log_keeper.specs.Ledger.{Drawn}
@@ -9,16 +8,15 @@ use Rattle.log_keeper.specs.Making.{made_part}
 use Rattle.log_keeper.specs.Keeper.{appending}
 use Rattle.log_keeper.specs.Logged.{Keeping, one_more}
 use Rattle.log_keeper.specs.Events.{region_made}
-use Rattle.log_keeper.proofs.Progressing.{size_after}
 use Rattle.log_keeper.proofs.EventsPass.{parts_begin as parts_begin_logged}
-use Rattle.log_keeper.proofs.Made.{goes_on, events_go_on}
+use Rattle.log_keeper.proofs.Made.{goes_on}
 use Rattle.log_keeper.proofs.Orders.{orders_keep}
-use Rattle.log_keeper.proofs.Runs.{runs_keep, parts_spare}
+use Rattle.log_keeper.proofs.Runs.{runs_keep}
 use Rattle.history_laws.specs.Histories.{fold}
 use Rattle.txn_laws.proofs.LogEvents.{next_is_log, leaves_heap}
 use Rattle.redo_laws.specs.Checkpoints.{swept, notes, checkpoint_record, noting_run}
 use Rattle.redo_laws.specs.Notes.{NotesBegin, NotesGoOn}
-use Rattle.redo_laws.proofs.Beside.{leaves_itself, beside, stage_is}
+use Rattle.redo_laws.proofs.Beside.{leaves_itself, beside, log_goes_on, stage_is}
 use Rattle.redo_laws.proofs.Idle.{numbered_below}
 use Rattle.redo_laws.proofs.Telling.{log_stores_none, told_beside}
 
@@ -63,15 +61,7 @@ notes_go_on shape base s chains start z region l place number made e is next mor
     let k = z.world.keeping in
     let on = next_is_log shape base s chains k region 0 e next world.log.logged in
     beside shape base s chains start z region (region_made k 0 e region) (made_part shape 0 k) z.world.next z.dirty (notes l place number (made + 1))
-    (record {
-      of_shape = world.log.of_shape;
-      header = subst (λ n. IsShape n base) (sym (size_after region (k.holder 0) e)) world.log.header;
-      logged = events_go_on shape base s chains k region 0 e next more world.log.ordered.newest_first world.log.fits world.log.logged;
-      sound = world.log.sound;
-      ordered = orders_keep.made shape 0 z.world.next k world.log.ordered;
-      fits = runs_keep.made shape 0 k next.inside world.log.ordered.newest_first (parts_spare shape base s chains k region 0 next.inside world.log.fits world.log.logged) world.log.fits;
-      numbers = world.log.numbers;
-    })
+    (log_goes_on shape base s chains k z.world.next region 0 e next more world.log)
     (leaves_heap shape region (k.holder 0) e on) (record {
       told = told_beside shape z.dirty region (k.holder 0) e (λ a m. log_stores_none shape a e m on) stage.told;
       all_swept = stage.all_swept;

@@ -1,11 +1,12 @@
 -- Whose a word is that a record bars others from, where no checkpoint record is in the log.
-use Rattle.std.proofs.Common.{◌≡◌, ◌≢◌, inl, inr, ℕ, List, sym, ◌∙◌, subst}
+use Rattle.std.proofs.Common.{◌≡◌, ◌≢◌, inl, inr, ℕ, ◌+◌, ◌*◌, ◌<◌, List, sym, ◌∙◌, subst, arith}
 use Rattle.persist_model.specs.Region.{Words}
 use Rattle.persist_model.specs.Kinds.{CHECKPOINT}
-use Rattle.persist_model.specs.Records.{Record, Log, IsAmong, HasNo, IsOf, IsRunning}
+use Rattle.persist_model.specs.Records.{Record, Log, IsAmong, Has, HasNo, IsOf, IsDeletion, IsRunning}
 use Rattle.persist_model.specs.Standing.{IsToDelete}
 use Rattle.persist_model.specs.Order.{Bars}
-use Rattle.persist_model.specs.Shape.{Shape}
+use Rattle.persist_model.specs.Shape.{Shape, heap, IsHeapWord, IsPlainOwner}
+use Rattle.persist_model.specs.State.{State, IsSoundState}
 use Rattle.txn_laws.specs.Txns.{Txn, txn_at}
 use Rattle.txn_laws.specs.Owners.{IsMine, AreOwners}
 use Rattle.txn_laws.proofs.Records.{names_plain}
@@ -15,6 +16,16 @@ use Rattle.redo_laws.specs.Transactions.{AreRedoTransactions}
 pub bars_plain : (log : Log) (r : Record) → Bars log r → r.kind ≢ CHECKPOINT
 bars_plain log r (inl k) = names_plain r k.0
 bars_plain log r (inr k) = names_plain r (inr k.0)
+
+-- deletions name words of the heap
+pub deletion_inside : (shape : Shape) (s : State) → IsSoundState shape s → (r : Record) → IsAmong s.log r → IsDeletion r → IsHeapWord shape r.word
+deletion_inside shape s sound r m deletion = plain_is r.word ((sound.formed r m).deletion deletion)
+  where
+    plain_is : (b : ℕ) → IsPlainOwner shape b → IsHeapWord shape b
+    plain_is b k = let e : b ≡ heap shape + 16 * k.0 = k.3 in let lt : k.0 < shape.blocks = k.2 in (omega (arith, e), omega (arith, e, lt))
+
+pub deleted_inside : (shape : Shape) (s : State) → IsSoundState shape s → (a : ℕ) → Has (IsToDelete s.log a) s.log → IsHeapWord shape a
+deleted_inside shape s sound a d = subst (IsHeapWord shape) d.2.1 (deletion_inside shape s sound d.0 d.1 d.2.0)
 
 module _ (shape : Shape) (log : Log) (h : Words) (lanes : List Txn) (owners : AreOwners shape lanes) (all : AreRedoTransactions shape log h lanes) where
   -- whoever's record bars others from a word has it, or its transaction is committed

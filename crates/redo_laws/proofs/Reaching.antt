@@ -65,7 +65,7 @@ take_closes zero gates le = refl
 take_closes (suc k) [] le = absurd (omega (arith, le))
 take_closes (suc k) (a ∷ gates) le = ap (λ z. PStore a 0 ∷ z) (take_closes k gates (omega (arith, le)))
 
-take_group : (k : ℕ) (gates : List ℕ) → k ≤ length gates → take k (group gates) ≡ closes (take k gates)
+pub take_group : (k : ℕ) (gates : List ℕ) → k ≤ length gates → take k (group gates) ≡ closes (take k gates)
 take_group zero gates le = refl
 take_group (suc k) [] le = absurd (omega (arith, le))
 take_group (suc k) (a ∷ gates) le = ap (λ z. PStore a 0 ∷ z) (take_closes k gates (omega (arith, le)))

@@ -1,10 +1,10 @@
 -- The last event of a removal, and the end of a checkpoint.
-use Rattle.std.proofs.Common.{◌≡◌, inl, inr, ℕ, ◌+◌, ◌*◌, ◌<◌, ◌≤◌, ◌==◌, if◌then◌else◌, Bool, true, false, List, refl, sym, ap, ◌∙◌, subst, arith}
+use Rattle.std.proofs.Common.{◌≡◌, inl, inr, ℕ, ◌+◌, ◌<◌, ◌≤◌, ◌==◌, if◌then◌else◌, Bool, true, false, List, refl, sym, ap, ◌∙◌, subst, arith}
 use Rattle.std.proofs.lemmas.Bool.Decides.{eqb_tells}
 use Rattle.persist_model.specs.declared.event.Event.{Event}
 use Rattle.persist_model.specs.Region.{Words, Region}
-use Rattle.persist_model.specs.Records.{Record, Has}
-use Rattle.persist_model.specs.Shape.{Shape, part_of, heap, heap_words, IsHeapWord, IsPlainOwner, IsShape}
+use Rattle.persist_model.specs.Records.{Record}
+use Rattle.persist_model.specs.Shape.{Shape, part_of, heap_words, IsShape}
 use Rattle.persist_model.specs.State.{State}
 use Rattle.log_laws.specs.MoveRoom.{HasCells, HasItsCells}
 use Rattle.atomic_list.specs.declared.plans.Remove.{Remove}
@@ -28,7 +28,6 @@ use Rattle.history_laws.specs.Stands.{IsHeader}
 use Rattle.history_laws.specs.UnderWay.{Added, an_update, a_deletion, a_rollback, a_compensation, an_undone_end, a_commit_end, record_of_adding, UnderWay, nothing, appends, closes, takes_back, drops, run_of}
 use Rattle.history_laws.proofs.Headers.{header_is_none's, same_shape, is_shape}
 use Rattle.log_clearing.proofs.RemovalStates.{room_keeps}
-use Rattle.persist_model.specs.Standing.{IsToDelete}
 use Rattle.txn_laws.specs.Txns.{Txn, txn_at}
 use Rattle.txn_laws.specs.NextRecords.{ComesNext}
 use Rattle.txn_laws.specs.PartsOf.{Fits, IsPartIn}
@@ -41,6 +40,7 @@ use Rattle.redo_laws.specs.Worlds.{RedoWorld, with_world, IsRedoWorldAt}
 use Rattle.redo_laws.specs.Parts.{RemovalsSettle}
 use Rattle.redo_laws.specs.Clears.{CheckpointsEnd}
 use Rattle.redo_laws.proofs.Beside.{leaves_itself, beside, stage_is}
+use Rattle.redo_laws.proofs.Owned.{deleted_inside}
 use Rattle.redo_laws.proofs.LaneStages.{idle_fits}
 use Rattle.redo_laws.proofs.Sweeping.{latched_log}
 use Rattle.redo_laws.proofs.Telling.{log_stores_none, told_beside}
@@ -162,17 +162,11 @@ module _ (shape : Shape) (base : Words) (s : State) (chains : ℕ → List ℕ) 
   stage_there (zeroed l) k = record {
     told = told_there k.told;
     skipped = k.skipped;
-    zero = λ a u d is. k.zero a u d (leaves.fewer a u (deleted_inside a d) is);
+    zero = λ a u d is. k.zero a u d (leaves.fewer a u (deleted_inside shape s world.log.sound a d) is);
     held = record { holder = λ q lt. holder_there q ∙ k.held.holder q lt; landed = k.held.landed };
     parts = part_there k.parts;
     idle = λ q lt. by_part (λ n t. n < shape.partitions → IsIdle (if t then nothing else z.world.under n)) p q (λ lt. tt) (λ ne lt. k.idle q lt) lt;
   }
-    where
-      deleted_inside : (a : ℕ) → Has (IsToDelete s.log a) s.log → IsHeapWord shape a
-      deleted_inside a d = subst (IsHeapWord shape) d.2.1 (plain_is d.0.word ((world.log.sound.formed d.0 d.1).deletion d.2.0))
-        where
-          plain_is : (b : ℕ) → IsPlainOwner shape b → IsHeapWord shape b
-          plain_is b k = let e : b ≡ heap shape + 16 * k.0 = k.3 in let lt : k.0 < shape.blocks = k.2 in (omega (arith, e), omega (arith, e, lt))
   stage_there (shuts l g) k = (let f = sym (ap (λ (x : Running). x.part) (k.run p part_in)) ∙ last.under_way in absurd (not_closes f))
     where
       not_closes : {gates ends checkpoints : List ℕ} → shuts_part gates ends checkpoints ≡ takes_out r → ⊥

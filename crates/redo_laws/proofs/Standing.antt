@@ -1,18 +1,15 @@
 -- What a stop leaves of a world of lanes.
-use Rattle.std.proofs.Common.{◌≡◌, ◌⊎◌, inl, inr, ℕ, zero, suc, ◌+◌, ◌*◌, ◌<◌, ◌≤◌, false, List, [], ◌∷◌, length, take, refl, sym, ap, ◌∙◌, subst, arith}
+use Rattle.std.proofs.Common.{◌≡◌, ◌⊎◌, inl, inr, ℕ, zero, suc, ◌<◌, ◌≤◌, false, List, [], ◌∷◌, length, take, refl, sym, ap, ◌∙◌, subst, arith}
 use Rattle.std.proofs.lemmas.List.{take_all}
 use Rattle.std.proofs.lemmas.Bool.Decides.{eqb_tells}
 use Rattle.persist_model.specs.Region.{Words, Region, MayStand, IsCandidate}
 use Rattle.persist_model.specs.Progress.{Progress, Wrote, Reaches}
 use Rattle.persist_model.specs.Runs.{progress_at}
-use Rattle.persist_model.specs.Records.{Record, IsAmong, Has, IsDeletion, IsCommitted, IsSkipped}
-use Rattle.persist_model.specs.Standing.{IsToUndo, Stands, undone, deleted, redone, kept}
-use Rattle.persist_model.specs.Shape.{Shape, shape_of, part_of, heap, heap_words, log_words, IsHeapWord, IsPlainOwner}
+use Rattle.persist_model.specs.Records.{Record, IsAmong}
+use Rattle.persist_model.specs.Shape.{Shape, shape_of, heap, heap_words, log_words, IsHeapWord}
 use Rattle.persist_model.specs.Chain.{view}
 use Rattle.persist_model.specs.State.{State}
-use Rattle.log_laws.specs.Closing.{IsApplied, MayClear}
-use Rattle.log_laws.proofs.Standings.{stands_one}
-use Rattle.log_laws.proofs.Growing.{numbered}
+use Rattle.log_laws.specs.Closing.{MayClear}
 use Rattle.bucket_log.specs.declared.append.Place.{Place}
 use Rattle.bucket_log.specs.Appends.{CanAppend, region_append}
 use Rattle.bucket_log.specs.Words.{IsPartWord}
@@ -36,7 +33,7 @@ use Rattle.bucket_log.proofs.Partitions.{few_parts}
 use Rattle.txn_laws.specs.Txns.{Txn, txn_at}
 use Rattle.txn_laws.specs.Flights.{is_flying, flight_of}
 use Rattle.txn_laws.proofs.Finding.{stands_word}
-use Rattle.redo_laws.specs.Checkpoints.{Kind, of_others, of_ends, of_checkpoints, other_gates, end_gates, checkpoint_gates, Group, Checkpoint, none, sweeps, swept, notes, noted, zeroed, shuts, checkpoint_record, shutting_part}
+use Rattle.redo_laws.specs.Checkpoints.{other_gates, end_gates, checkpoint_gates, Group, Checkpoint, none, sweeps, swept, notes, noted, zeroed, shuts, checkpoint_record, shutting_part}
 use Rattle.redo_laws.specs.Stages.{IsIdle, IsAllHeld, IsHeldAtRest, IsNoting, IsShutting, all_gates, IsInGroup, IsAtStage}
 use Rattle.redo_laws.specs.Worlds.{RedoWorld, IsRedoWorldAt}
 use Rattle.redo_laws.specs.Laws.{WorldsStand}
@@ -44,7 +41,9 @@ use Rattle.redo_laws.proofs.Plain.{plain_of}
 use Rattle.redo_laws.proofs.Moments.{moment}
 use Rattle.redo_laws.proofs.Idle.{numbered_below, idle_moment}
 use Rattle.redo_laws.proofs.SweptWords.{swept_in}
-use Rattle.redo_laws.proofs.Reaching.{part_or_header, kind_plan, group_at, zeros, zeros_among, zeros_there, in_row, from_row}
+use Rattle.redo_laws.proofs.Reaching.{part_or_header, kind_plan, group_at, zeros, zeros_among, zeros_there, in_row}
+use Rattle.redo_laws.proofs.FencingGroupsRows.{row_groups}
+use Rattle.redo_laws.proofs.FencingGroupsClears.{group_clears}
 
 -- no commit is in flight
 pub no_flight : (lanes : List Txn) → ((k : ℕ) → is_flying (txn_at lanes k) ≡ false) → flight_of lanes ≡ []
@@ -159,54 +158,11 @@ module _ (base : Words) (s : State) (chains : ℕ → List ℕ) (start : Words) 
         can_shut p lt = subst (λ (r : Running). CanRun shape p base s (chains p) r.part) (stage.run p lt) (world.log.logged.can p lt)
 
         groups : AreGroups s.log (other_gates g.kind row) (end_gates g.kind row) (checkpoint_gates g.kind row)
-        groups = by g.kind (λ p lt. (can_shut p lt).0)
-          where
-            by : (kind : Kind) → ((p : ℕ) → p < shape.partitions → AreGroups s.log (other_gates kind (g.gates p)) (end_gates kind (g.gates p)) (checkpoint_gates kind (g.gates p))) →
-                AreGroups s.log (other_gates kind row) (end_gates kind row) (checkpoint_gates kind row)
-            by of_others each = record {
-              of_gates = λ a m. (let k = from_row g.gates shape.partitions a m in (each k.0 k.1).of_gates a k.2);
-              of_ends = λ a m. absurd m;
-              of_checkpoints = λ a m. absurd m;
-            }
-            by of_ends each = record {
-              of_gates = λ a m. absurd m;
-              of_ends = λ a m. (let k = from_row g.gates shape.partitions a m in (each k.0 k.1).of_ends a k.2);
-              of_checkpoints = λ a m. absurd m;
-            }
-            by of_checkpoints each = record {
-              of_gates = λ a m. absurd m;
-              of_ends = λ a m. absurd m;
-              of_checkpoints = λ a m. (let k = from_row g.gates shape.partitions a m in (each k.0 k.1).of_checkpoints a k.2);
-            }
-
-        plain_is : (a : ℕ) → IsPlainOwner shape a → IsHeapWord shape a
-        plain_is a k = let e : a ≡ heap shape + 16 * k.0 = k.3 in let lt : k.0 < shape.blocks = k.2 in (omega (arith, e), omega (arith, e, lt))
-
-        applied_word : (r : Record) → IsAmong s.log r → IsDeletion r → IsCommitted s.log r.transaction → Has (IsToUndo s.log r.word) s.log ⊎ IsApplied shape.policy s.log (heap_words shape i) r.word
-        applied_word r m deletion committed = by (world.stands r.word (i r.word) inside (image r.word inside))
-          where
-            inside : IsHeapWord shape r.word
-            inside = plain_is r.word ((world.log.sound.formed r m).deletion deletion)
-
-            here : (u : ℕ) → Stands shape.policy s.log (λ b. i r.word) r.word u → Stands shape.policy s.log (heap_words shape i) r.word u
-            here u st = stands_word shape.policy s.log (λ b. i r.word) (heap_words shape i) r.word u (sym (heap_word_is shape i r.word inside)) st
-
-            by : Stands shape.policy s.log (λ b. i r.word) r.word (h r.word) → Has (IsToUndo s.log r.word) s.log ⊎ IsApplied shape.policy s.log (heap_words shape i) r.word
-            by (undone u first e) = inl (u, first.among, first.has)
-            by (deleted nu d e) = inr (λ v st.
-                stands_one shape.policy s.log (heap_words shape i) r.word v (h r.word) (numbered (part_of shape) s.log s.log world.log.sound.order) st (here (h r.word) (deleted nu d e))
-                ∙ e ∙ sym (heap_word_is shape i r.word inside ∙ stage.zero r.word (i r.word) (r, m, (deletion, refl, committed)) (image r.word inside)))
-            by (redone nu nd q last e) = absurd (nd r m (deletion, refl, committed))
-            by (kept nu nd nr e) = absurd (nd r m (deletion, refl, committed))
+        groups = row_groups s.log g.kind g.gates shape.partitions (λ p lt. (can_shut p lt).0)
 
         may_clear : MayClear shape.policy s.log (heap_words shape i) (IsInGroup shape g)
-        may_clear = record {
-          ended = stage.group.ended;
-          applied = λ r m on deletion committed. applied_word r m deletion committed;
-          whole = stage.group.whole;
-          skips = stage.group.skips;
-          redone = λ a r m k. (let e = k.3 in k.4 (subst (IsSkipped s.log) e.2.1 (stage.skipped e.0 e.1 e.2.0)));
-        }
+        may_clear = group_clears shape s h region (IsInGroup shape g) world.log.sound stage.group stage.skipped stage.zero world.stands (heap_words shape i)
+            (λ a m. subst (IsCandidate (region.at a)) (sym (heap_word_is shape i a m)) (image a m))
 
         -- of its gates any may be closed
         in_part : (p a : ℕ) → p < shape.partitions → IsPartWord shape p a → (i a ≡ base a) ⊎ Wrote (zeros (take (length row) row)) a (i a)

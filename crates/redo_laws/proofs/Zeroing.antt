@@ -102,7 +102,7 @@ pub owners_are_zeroed : OwnersAreZeroed
 owners_are_zeroed shape base s chains start z region l a words few is inside given world = zeroed_there shape base s chains start z region l a words is inside given world
 
 -- behind that nothing is under way
-zeroed_from : (shape : Shape) (s : State) (h : Words) (z : RedoWorld) (l : ℕ) (region : Region) → AreTold shape z.dirty region → AreSkipped s.log → AreZero s.log region → IsHeldAtRest shape z.world l →
+pub zeroed_from : (shape : Shape) (s : State) (h : Words) (z : RedoWorld) (l : ℕ) (region : Region) → AreTold shape z.dirty region → AreSkipped s.log → AreZero s.log region → IsHeldAtRest shape z.world l →
     IsZeroed shape s h z.world z.dirty l region
 zeroed_from shape s h z l region told skipped zero at_rest = record {
   told = told;

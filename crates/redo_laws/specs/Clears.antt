@@ -1,8 +1,9 @@
 -- A checkpoint's clearing: each group over all partitions, then removals, and its end.
-use Rattle.std.specs.Prelude.{◌≡◌, ℕ, suc, ◌+◌, ◌<◌, ◌==◌, nat_lt, if◌then◌else◌, List, [], Some, length, slice_get}
+use Rattle.std.specs.Prelude.{◌≡◌, ℕ, suc, ◌+◌, ◌<◌, ◌==◌, nat_lt, true, if◌then◌else◌, List, [], Some, length, map, slice_get}
 use Rattle.persist_model.specs.declared.event.Event.{Event}
 use Rattle.persist_model.specs.declared.event.Event.TheVariants.{PStore, Fence}
 use Rattle.persist_model.specs.Region.{Words, Region, after}
+use Rattle.persist_model.specs.Records.{IsAmong}
 use Rattle.persist_model.specs.Shape.{Shape}
 use Rattle.persist_model.specs.State.{State}
 use Rattle.atomic_list.specs.declared.plans.Remove.{Remove}
@@ -14,8 +15,10 @@ use Rattle.log_keeper.specs.Keeper.{all_latched}
 use Rattle.log_keeper.specs.Events.{IsNextEvent, region_made}
 use Rattle.history_laws.specs.Histories.{fold}
 use Rattle.history_laws.specs.UnderWay.{nothing, drops}
+use Rattle.txn_laws.specs.Txns.{Gift, Txn, txn_at}
 use Rattle.txn_laws.specs.Asks.{begun_part, MayBeginPart}
 use Rattle.txn_laws.specs.Going.{gone_on}
+use Rattle.txn_laws.specs.TakingsBack.{gifts_left}
 use Rattle.redo_laws.specs.Checkpoints.{Group, none, zeroed, shuts, shutting_part, shutting_run}
 use Rattle.redo_laws.specs.Stages.{IsUnmarked, IsGroup, all_gates, IsInGroup}
 use Rattle.redo_laws.specs.Worlds.{RedoWorld, with_world, IsRedoWorldAt}
@@ -68,8 +71,19 @@ shut_keeping shape g k = record {
   holder = k.holder;
 }
 
+-- A transaction that has ended, and that its lane still has, keeps the gifts whose deletions aren't closed.
+abbrev pub shut_txn : List ℕ → Txn → Txn
+shut_txn gates x = record x { gifts = if x.over then gifts_left gates x.gifts else x.gifts }
+
+abbrev pub shut_lanes : List ℕ → List Txn → List Txn
+shut_lanes gates lanes = map (shut_txn gates) lanes
+
 abbrev pub shut_behind : Shape → ℕ → Group → RedoWorld → RedoWorld
-shut_behind shape l g z = record { world = record z.world { keeping = shut_keeping shape g z.world.keeping }; dirty = z.dirty; checkpoint = zeroed l }
+shut_behind shape l g z = record {
+  world = record z.world { keeping = shut_keeping shape g z.world.keeping; lanes = shut_lanes (all_gates shape g) z.world.lanes };
+  dirty = z.dirty;
+  checkpoint = zeroed l;
+}
 
 -- Where all gates are closed its fence ends it, and the log has its records no more.
 abbrev pub GroupsAreFenced : Type 0
@@ -77,6 +91,11 @@ GroupsAreFenced = (shape : Shape) (base : Words) (s : State) (chains : ℕ → L
     z.checkpoint ≡ shuts l g → ((p : ℕ) → p < shape.partitions → g.made p ≡ length (g.gates p)) →
     IsRedoWorldAt shape base s chains start z region →
     HasRedoLeft shape (base_shut shape g base) s chains start (shut_behind shape l g z) (after region l Fence) (left_open (all_gates shape g) [] [] s.log)
+
+-- Where none of the gates is of a gift of such a transaction the lanes are as they were.
+abbrev pub LanesAreShut : Type 0
+LanesAreShut = (gates : List ℕ) (lanes : List Txn) →
+    ((l : ℕ) (g : Gift) → (txn_at lanes l).over ≡ true → IsAmong (txn_at lanes l).gifts g → IsAmong gates g.gate → ⊥) → shut_lanes gates lanes ≡ lanes
 
 -- ---- removals
 

@@ -1,7 +1,7 @@
 //! What keeps the invariant along a checkpoint, as functions that do nothing: the clause is the law.
 ghost use Rattle.redo_laws.specs.Sweeps.{SweepsBegin, SweepsPass, WordsAreWrittenBack, SweepsAreFenced};
 ghost use Rattle.redo_laws.specs.Notes.{NotesBegin, NotesGoOn, NotesSettle, OwnersAreZeroed, ZerosAreFenced, NoZerosPass};
-ghost use Rattle.redo_laws.specs.Clears.{GroupsBegin, ClearingsRemove, CheckpointsEnd};
+ghost use Rattle.redo_laws.specs.Clears.{GroupsBegin, GatesAreShut, GroupsAreFenced, LanesAreShut, ClearingsRemove, ClearingsGoOn, CheckpointsEnd};
 
 /// A checkpoint begins where nothing is under way, and its lane takes all latches.
 pub fn sweeps_begin()
@@ -53,14 +53,34 @@ pub fn no_zeros_pass()
     ensures { NoZerosPass }
 {}
 
-/// A group of its closing begins in all partitions.
+/// A group of its closing begins in all partitions,
 pub fn groups_begin()
     ensures { GroupsBegin }
 {}
 
-/// Behind its groups a removal begins.
+/// The next gate of a partition is closed, in any order of the partitions,
+pub fn gates_are_shut()
+    ensures { GatesAreShut }
+{}
+
+/// and where all of a group's gates are closed one fence ends it: the log has its records no more,
+pub fn groups_are_fenced()
+    ensures { GroupsAreFenced }
+{}
+
+/// and the lanes are as they were where none has gifts of an ended transaction.
+pub fn lanes_are_shut()
+    ensures { LanesAreShut }
+{}
+
+/// Behind its groups a removal begins
 pub fn clearings_remove()
     ensures { ClearingsRemove }
+{}
+
+/// and goes on.
+pub fn clearings_go_on()
+    ensures { ClearingsGoOn }
 {}
 
 /// Where nothing is under way and no checkpoint record is left it is over.
