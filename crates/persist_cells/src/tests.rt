@@ -1,6 +1,5 @@
-// Words in a vector, of which a draft is made: the root block stands at 16, and it is structure 0's only one.
-ghost use Rattle.std.specs.Prelude.{◌≡◌, ◌≢◌, ℕ, ◌+◌, ◌<◌, length, slice_index, nat_lt, IfOk, OnOk, []};
-ghost use Rattle.lane_traits.specs.Space.{Space};
+// A map in words of structure 0, whose root block stands at 16 and is its only one.
+ghost use Rattle.std.specs.Prelude.{IfOk, OnOk};
 ghost use Rattle.persist_cells.specs.Calls.{HoldsMap};
 
 use crate::{get, needs, put, remove, walk};

@@ -1,12 +1,10 @@
 // A draft over words that are all 0: the root block stands at 16, and structure 0 owns so many blocks from there.
-ghost use Rattle.std.specs.Prelude.{◌≡◌, ℕ, ◌+◌, ◌*◌, ◌<◌, ◌≤◌, Bool, true, nat_lt, if◌then◌else◌, IfOk, []};
-ghost use Rattle.persist_model.specs.Records.{IsAmong};
-ghost use Rattle.persist_model.specs.Chain.{HasNoRepeats};
+ghost use Rattle.std.specs.Prelude.{◌≡◌, ◌+◌, ◌*◌, ◌≤◌, true, nat_lt, if◌then◌else◌, IfOk, []};
 ghost use Rattle.lane_traits.specs.Space.{Space, root_block};
 ghost use Rattle.persist_hash.specs.Calls.{HasMap};
 
 use lane_traits::{Draft, Reads};
-use persist_model::{List, NoMemory};
+use persist_model::NoMemory;
 use std::alloc::Global;
 use test_words::other_blocks;
 

@@ -1,12 +1,10 @@
 // An empty map in words of structure 0, and blocks that it can take.
-ghost use Rattle.std.specs.Prelude.{◌≡◌, ℕ, ◌+◌, ◌*◌, ◌<◌, ◌≤◌, length, slice_index, nat_lt, IfOk, OnOk, [], ◌∷◌, ◌++◌, IsTrue};
-ghost use Rattle.persist_model.specs.Records.{IsAmong};
-ghost use Rattle.persist_model.specs.Chain.{HasNoRepeats};
-ghost use Rattle.lane_traits.specs.Space.{Space, root_block};
+ghost use Rattle.std.specs.Prelude.{◌≡◌, ◌+◌, ◌≤◌, IfOk};
+ghost use Rattle.lane_traits.specs.Space.{root_block};
 ghost use Rattle.persist_tree.specs.Calls.{HoldsMap};
 
 use lane_traits::{Draft, Reads};
-use persist_model::{List, NoMemory};
+use persist_model::NoMemory;
 use std::alloc::Global;
 use test_words::{Memory, other_blocks, owned_words};
 

@@ -2,12 +2,13 @@ ghost use Rattle.std.specs.Prelude.{◌≡◌, ◌+◌, ◌<◌, ◌≤◌, OnOk
 ghost use Rattle.lane_traits.specs.Space.{Space, root_block};
 ghost use Rattle.persist_tree.specs.Calls.{HoldsMap};
 
-use crate::tests::memory::{Memory, fresh};
+use crate::tests::memory::fresh;
 use crate::{get, needs, put, remove, walk};
 use lane_traits::{Draft, Reads, WordsRefusal};
 use std::alloc::Global;
 use std::process::Abort;
 use std::test::Fail;
+use test_words::Memory;
 
 #[derive(Clone, Copy)]
 enum Step {

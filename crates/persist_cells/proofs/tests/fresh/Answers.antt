@@ -1,4 +1,4 @@
-use Rattle.std.proofs.Common.{sym, subst}
+use Rattle.std.proofs.Common.{sym, subst, arith}
 use Rattle.lane_traits.specs.Space.{Space}
 use Rattle.persist_cells.specs.Calls.{HoldsMap}
 use Rattle.persist_cells.proofs.Fresh.{memory_map_by}
