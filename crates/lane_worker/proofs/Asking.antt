@@ -29,7 +29,7 @@ use Rattle.lane_worker.proofs.Ledgers.{number_below}
 use Rattle.lane_worker.proofs.Lists.{drop_here}
 use Rattle.lane_worker.proofs.Blocks.{data_in}
 
-making_here : (w : Worker) (f : WholeFace MapDeed) → IsReady w f → w.stage ≡ stage.Making → IsMaking w f
+pub making_here : (w : Worker) (f : WholeFace MapDeed) → IsReady w f → w.stage ≡ stage.Making → IsMaking w f
 making_here w f h at = subst (λ (s : Stage). IsAtStage s w f) at h.stands.staged
 
 pub write_asks : (w : Worker) (f : WholeFace MapDeed) (a v : ℕ) → IsReady w f → w.stage ≡ stage.Making

@@ -22,7 +22,7 @@ use Rattle.lane_worker.proofs.Keeping.{call_same}
 use Rattle.lane_worker.proofs.Ending.{plain_entries}
 use Rattle.lane_worker.proofs.Blocks.{data_in, number_there}
 
-both_true : (s t : Bool) → (s && t) ≡ true → (s ≡ true) × (t ≡ true)
+pub both_true : (s t : Bool) → (s && t) ≡ true → (s ≡ true) × (t ≡ true)
 both_true true t e = (refl, e)
 both_true false t e = absurd (cc)
 
@@ -35,7 +35,7 @@ if_true true v e = refl
 if_true false v e = absurd (cc)
 
 module _ (set : ℕ) (heap : Heap) where
-  owned_tells : (n s : ℕ) → (holding_of set heap).owner n ≡ Some s → (n < heap.blocks) × (has_bit set s ≡ true) × (is_owned set heap (owner_word heap) n ≡ true)
+  pub owned_tells : (n s : ℕ) → (holding_of set heap).owner n ≡ Some s → (n < heap.blocks) × (has_bit set s ≡ true) × (is_owned set heap (owner_word heap) n ≡ true)
   owned_tells n s e =
       let p = some_by (is_owned set heap (owner_word heap) n) (owner_word heap n) s e in
       let q = both_true (nat_lt n heap.blocks) (names_in set (owner_word heap n)) p.0 in

@@ -2,6 +2,7 @@
 use Rattle.std.proofs.Common.{◌≡◌, inl, inr, ℕ, Bool, true, false, List, [], ◌∷◌, ◌++◌, Option, Some, None, refl, sym, subst, ◌∙◌, ap}
 use Rattle.std.specs.Prelude.{filter, MatchOption}
 use Rattle.persist_model.specs.Records.{IsAmong}
+use Rattle.persist_model.specs.Chain.{HasNoRepeats}
 use Rattle.lane_traits.specs.Space.{Space, Land, taken, is_not}
 use Rattle.lane_traits.specs.Draft.{drafted, IsChange}
 use Rattle.lane_traits.specs.declared.draft.Drafted.{Drafted}
@@ -70,16 +71,17 @@ cells_place s u kept = record { heap = ap (λ (l : Land). l.heap) kept.land; str
 -- ---- what a finished draft changes
 
 pub drafted_changes : (kind : Kind) (structure root : ℕ) (spare : List ℕ) (base s u : Space) (after : FiniteMap → FiniteMap) → s ≡ drafted structure [] [] spare base
-    → ((m : FiniteMap) → HoldsOf kind s root m → HoldsOf kind u root (after m)) → ((b : ℕ) → IsAmong u.spare b → IsAmong s.spare b) → KeepsPlace s u
+    → ((m : FiniteMap) → HoldsOf kind s root m → HoldsOf kind u root (after m)) → ((b : ℕ) → IsAmong u.spare b → IsAmong s.spare b) → KeepsPlace s u → HasNoRepeats u.spare
     → (d : Drafted) → IsChange u d.writes d.gives → d.spare ≡ u.spare → (change : Change) → IsChangeOf d change
     → (m : FiniteMap) → HoldsOf kind (drafted structure [] [] spare base) root m → ChangesTo kind structure root spare base change (after m)
-drafted_changes kind structure root spare base s u after is contents fewer place d changed left change of m h = record {
+drafted_changes kind structure root spare base s u after is contents fewer place once d changed left change of m h = record {
   space = u;
   holds = contents m (subst (λ (x : Space). HoldsOf kind x root m) (sym is) h);
   gives = d.gives;
   change_is = subst (λ (ws : List WordWrite). IsChange u ws d.gives) (sym of.writes) changed;
   all_gives = of.gives ∙ ap (λ xs. d.gives ++ xs) left;
   fewer = λ b among. subst (λ (x : Space). IsAmong x.spare b) is (fewer b among);
+  spare_once = once;
   heap = place.heap ∙ ap (λ (x : Space). x.land.heap) is;
   structure_is = place.structure ∙ ap (λ (x : Space). x.land.structure) is;
   start = place.start ∙ ap (λ (x : Space). x.land.start) is;

@@ -13,3 +13,17 @@ pub mod Refusing
 pub mod Fewer
 pub mod Starting
 pub mod Asking
+pub mod Lands
+pub mod Reading
+pub mod Changing
+pub mod Commanding
+pub mod Placing
+pub mod Doing
+pub mod Making
+pub mod Settling
+pub mod Closing
+pub mod Fetching
+pub mod Choosing
+pub mod HandMade
+pub mod ToldMaps
+pub mod Told

@@ -1,6 +1,7 @@
 -- What a draft of one command does to a map.
 use Rattle.std.specs.Prelude.{◌≡◌, ℕ, List, ◌++◌}
 use Rattle.persist_model.specs.Records.{IsAmong}
+use Rattle.persist_model.specs.Chain.{HasNoRepeats}
 use Rattle.lane_traits.specs.Space.{Space}
 use Rattle.lane_traits.specs.Draft.{IsChange}
 use Rattle.lane_traits.specs.declared.draft.Drafted.{Drafted}
@@ -39,6 +40,7 @@ pub record ChangesTo (kind : Kind) (structure root : ℕ) (spare : List ℕ) (ba
   pub change_is : IsChange space change.writes gives
   pub all_gives : change.gives ≡ gives ++ space.spare
   pub fewer : (b : ℕ) → IsAmong space.spare b → IsAmong spare b
+  pub spare_once : HasNoRepeats space.spare
   pub heap : space.land.heap ≡ base.land.heap
   pub structure_is : space.land.structure ≡ structure
   pub start : space.land.start ≡ record { word = base.word; owner = base.land.owner }

@@ -7,3 +7,5 @@ pub mod Drafts
 pub mod Acts
 pub mod Starts
 pub mod Laws
+pub mod Commands
+pub mod HandMade

@@ -1,19 +1,21 @@
 //! A lane's text as a state machine: what its calls owe, and what becomes of its transactions.
 //!
-//! The call that chooses what is asked next isn't built yet. What it will be made of is here: the first call of an item, the
-//! calls of a command's change, and the changes themselves.
+//! A runner asks what `Worker::next` gives, and tells the worker by `answered` or `refused` what became of it.
 #![tactic(auto)]
 
 mod act;
 mod calls;
 pub mod drafts;
 pub mod laws;
+mod looking;
 mod maps;
+mod next;
 mod replies;
 mod stage;
 mod worker;
 
 pub use act::Act;
+pub use looking::Looking;
 pub use stage::{Change, Stage};
 pub use worker::Worker;
 

@@ -1,6 +1,7 @@
 // The calls of a map, by its kind.
 ghost use Rattle.std.specs.Prelude.{◌≡◌, ℕ, ◌<◌, ◌≤◌, IfOk, OnOk};
 ghost use Rattle.persist_model.specs.Records.{IsAmong};
+ghost use Rattle.persist_model.specs.Chain.{HasNoRepeats};
 ghost use Rattle.lane_traits.specs.Space.{Space, root_block};
 ghost use Rattle.region_layout.specs.declared.layout.Kind.TheVariants.{Cells as IsOfCells};
 ghost use Rattle.region_layout.specs.FiniteMap.{FiniteMap, lookup, with_pair, without_key};
@@ -45,6 +46,7 @@ pub(crate) fn put_of<W: Words>(
     requires value { 1 ≤ value }
     ensures contents { OnOk result ((m : FiniteMap) → HoldsOf kind (W.space words.old) root m → HoldsOf kind (W.space words.new) root (with_pair key value m)) }
     ensures place { OnOk result (KeepsPlace (W.space words.old) (W.space words.new)) }
+    ensures once { OnOk result (HasNoRepeats (W.space words.new).spare) }
     ensures fewer { OnOk result ((b : ℕ) → IsAmong (W.space words.new).spare b → IsAmong (W.space words.old).spare b) }
 {
     match kind {
@@ -73,6 +75,7 @@ pub(crate) fn remove_of<W: Words>(
     requires root { root ≡ root_block (W.space words.old).land }
     ensures contents { OnOk result ((m : FiniteMap) → HoldsOf kind (W.space words.old) root m → HoldsOf kind (W.space words.new) root (without_key key m)) }
     ensures place { OnOk result (KeepsPlace (W.space words.old) (W.space words.new)) }
+    ensures once { OnOk result (HasNoRepeats (W.space words.new).spare) }
     ensures fewer { OnOk result ((b : ℕ) → IsAmong (W.space words.new).spare b → IsAmong (W.space words.old).spare b) }
 {
     match kind {

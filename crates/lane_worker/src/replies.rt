@@ -8,6 +8,7 @@ ghost use Rattle.map_deeds.specs.Meanings.{map_deeds};
 ghost use Rattle.map_deeds.specs.declared.deed.MapDeed.{MapDeed};
 ghost use Rattle.lane_worker.specs.Standing.{IsReady, IsAsking};
 ghost use Rattle.lane_worker.specs.Acts.{Asks, IsTold, IsForWant};
+ghost use Rattle.lane_worker.specs.Commands.{KeepsFate};
 
 use crate::stage::Stage;
 use crate::worker::Worker;
@@ -19,7 +20,8 @@ impl Worker<'_> {
     /// The call was answered. It takes no memory.
     pub fn answered(&mut self, reply: Reply)
         requires { (f : WholeFace MapDeed) × (g : WholeFace MapDeed) × IsAsking self.old f × Answers map_deeds reply f g × IsTold self.old.kinds.now reply g }
-        ensures { (f g : WholeFace MapDeed) → IsAsking self.old f → Answers map_deeds reply f g → IsTold self.old.kinds.now reply g → IsReady self.new g }
+        ensures ready { (f g : WholeFace MapDeed) → IsAsking self.old f → Answers map_deeds reply f g → IsTold self.old.kinds.now reply g → IsReady self.new g }
+        ensures fate { KeepsFate self.old self.new }
     {
         match reply {
             Reply::Begun(_) => {
@@ -80,7 +82,8 @@ impl Worker<'_> {
     // The transaction was aborted.
     fn aborted(&mut self)
         requires { (f : WholeFace MapDeed) × (g : WholeFace MapDeed) × IsAsking self.old f × AbortStep f g }
-        ensures { (f g : WholeFace MapDeed) → IsAsking self.old f → AbortStep f g → IsReady self.new g }
+        ensures ready { (f g : WholeFace MapDeed) → IsAsking self.old f → AbortStep f g → IsReady self.new g }
+        ensures fate { KeepsFate self.old self.new }
     {
         let how = self.stage.fate();
         self.fates.push_reserved(Fate {

@@ -1,3 +1,5 @@
+mod driven;
+
 use super::*;
 use rewind_script::read_script;
 use std::test::*;

@@ -20,3 +20,12 @@ returns-in-Ok-put-clause-place g c = tree_place (g.W.Reads.space c.args.words.no
 pub returns-in-Ok-put-2-clause-place : goal.returns-in-Ok-put-2-clause-place
 returns-in-Ok-put-2-clause-place g c = hash_place _ (g.W.Reads.space c.args.words.now) (g.W.Reads.space c.put-in-Hash.new.words)
     (c.in-Ok-put-2.ensures.takes c.requires.map.contents (subst (λ (k : Kind). HoldsOf k (g.W.Reads.space c.args.words.now) c.args.root c.requires.map.contents) c.in-Hash.is c.requires.map.is))
+
+pub returns-in-Ok-clause-once : goal.returns-in-Ok-clause-once
+returns-in-Ok-clause-once g c = (g.met.W.Words.spare_apart c.put.new.words).once
+
+pub returns-in-Ok-put-clause-once : goal.returns-in-Ok-put-clause-once
+returns-in-Ok-put-clause-once g c = (g.met.W.Words.spare_apart c.put-in-Tree.new.words).once
+
+pub returns-in-Ok-put-2-clause-once : goal.returns-in-Ok-put-2-clause-once
+returns-in-Ok-put-2-clause-once g c = (g.met.W.Words.spare_apart c.put-in-Hash.new.words).once

@@ -12,3 +12,12 @@ returns-in-Ok-remove-clause-place g c = tree_removed_place (g.W.Reads.space c.ar
 
 pub returns-in-Ok-remove-2-clause-place : goal.returns-in-Ok-remove-2-clause-place
 returns-in-Ok-remove-2-clause-place g c = hash_removed_place (g.W.Reads.space c.args.words.now) (g.W.Reads.space c.remove-in-Hash.new.words) c.in-Ok-remove-2.field-0 c.in-Ok-remove-2.ensures.gives
+
+pub returns-in-Ok-clause-once : goal.returns-in-Ok-clause-once
+returns-in-Ok-clause-once g c = (g.met.W.Words.spare_apart c.remove.new.words).once
+
+pub returns-in-Ok-remove-clause-once : goal.returns-in-Ok-remove-clause-once
+returns-in-Ok-remove-clause-once g c = (g.met.W.Words.spare_apart c.remove-in-Tree.new.words).once
+
+pub returns-in-Ok-remove-2-clause-once : goal.returns-in-Ok-remove-2-clause-once
+returns-in-Ok-remove-2-clause-once g c = (g.met.W.Words.spare_apart c.remove-in-Hash.new.words).once
