@@ -24,12 +24,12 @@ both : (t : Bool) → t ≡ true → t ≡ false → ⊥
 both t e f = cc
 
 -- a sum of numbers none of which is above 2^59
-sum_most : {E : Type 0} (f : Lane E → ℕ) (book : Book E) (n : ℕ) → ((l : ℕ) → f (lane_at book l) ≤ 2 ^ 59) → sum_below f book n ≤ 576460752303423488 * n
+pub sum_most : {E : Type 0} (f : Lane E → ℕ) (book : Book E) (n : ℕ) → ((l : ℕ) → f (lane_at book l) ≤ 2 ^ 59) → sum_below f book n ≤ 576460752303423488 * n
 sum_most f book zero most = omega arith
 sum_most f book (suc n) most = let below = sum_most f book n most in let here = most n in omega (arith, below, here)
 
 -- of an entry that isn't missing something is told
-next_entry : {E : Type 0} (l begun : ℕ) (o : Option (Entry E)) → o ≢ None → ((e : Entry E) → o ≡ Some e → (e.lane ≡ l) × (begun ≡ e.number + 1)) → IsNextEntry l begun o
+pub next_entry : {E : Type 0} (l begun : ℕ) (o : Option (Entry E)) → o ≢ None → ((e : Entry E) → o ≡ Some e → (e.lane ≡ l) × (begun ≡ e.number + 1)) → IsNextEntry l begun o
 next_entry l begun None some next = absurd (some refl)
 next_entry l begun (Some e) some next = next e refl
 

@@ -52,7 +52,7 @@ after_last (x ∷ history) e u = after_last history e (after_writes x.writes u)
 
 -- ---- one entry more
 
-sorts_last : {E : Type 0} (deeds : Deeds E) (sorts : List ℕ) (history : List (Entry E)) (e : Entry E) → HaveSorts deeds sorts history → deeds.sorts e.deed ≡ sorts →
+pub sorts_last : {E : Type 0} (deeds : Deeds E) (sorts : List ℕ) (history : List (Entry E)) (e : Entry E) → HaveSorts deeds sorts history → deeds.sorts e.deed ≡ sorts →
     HaveSorts deeds sorts (history ++ e ∷ [])
 sorts_last deeds sorts [] e have is = (is, tt)
 sorts_last deeds sorts (x ∷ history) e have is = (have.0, sorts_last deeds sorts history e have.1 is)
@@ -61,7 +61,7 @@ earlier_last : {E : Type 0} (x : Entry E) (history : List (Entry E)) (e : Entry 
 earlier_last x [] e all is = (is, tt)
 earlier_last x (y ∷ history) e all is = (all.0, earlier_last x history e all.1 is)
 
-lawful_last : {E : Type 0} (deeds : Deeds E) (h : Heap) (history : List (Entry E)) (e : Entry E) → Lawful deeds h history → IsLawfulOn deeds (fold h history) e →
+pub lawful_last : {E : Type 0} (deeds : Deeds E) (h : Heap) (history : List (Entry E)) (e : Entry E) → Lawful deeds h history → IsLawfulOn deeds (fold h history) e →
     Each (λ (x : Entry E). IsEarlier x e) history → Lawful deeds h (history ++ e ∷ [])
 lawful_last deeds h [] e lawful on earlier = (on, tt, tt)
 lawful_last deeds h (x ∷ history) e lawful on earlier =

@@ -48,27 +48,27 @@ no_bit : (s : ℕ) → has_bit 0 s ≡ false
 no_bit s = rw (zero-div (2 ^ s)) refl
 
 -- the set that a lane is about to take
-abbrev set_of : Doing → ℕ
+abbrev pub set_of : Doing → ℕ
 set_of (Doing.Begin set) = set
 set_of _ = 0
 
-abbrev is_begin : Doing → Bool
+abbrev pub is_begin : Doing → Bool
 is_begin (Doing.Begin set) = true
 is_begin _ = false
 
-no_begin : (d : Doing) → is_begin d ≡ false → (set : ℕ) → d ≡ Doing.Begin set → ⊥
+pub no_begin : (d : Doing) → is_begin d ≡ false → (set : ℕ) → d ≡ Doing.Begin set → ⊥
 no_begin d off set e = both (is_begin d) (ap is_begin e) off
 
 -- ---- one lane is another
 
-same_lane : {E : Type 0} (lane later : Lane E) → later.held ≡ lane.held → later.transaction ≡ lane.transaction → later.begun ≡ lane.begun → HasNoMore lane later
+pub same_lane : {E : Type 0} (lane later : Lane E) → later.held ≡ lane.held → later.transaction ≡ lane.transaction → later.begun ≡ lane.begun → HasNoMore lane later
 same_lane lane later held transaction begun = record {
   sets = λ s on. subst (λ (n : ℕ). has_bit n s ≡ true) held on;
   same = λ some. transaction;
   begun = begun;
 }
 
-no_lane : {E : Type 0} (lane later : Lane E) → later.held ≡ 0 → later.transaction ≡ 0 → later.begun ≡ lane.begun → HasNoMore lane later
+pub no_lane : {E : Type 0} (lane later : Lane E) → later.held ≡ 0 → later.transaction ≡ 0 → later.begun ≡ lane.begun → HasNoMore lane later
 no_lane lane later held transaction begun = record {
   sets = λ s on. absurd (both (has_bit 0 s) (subst (λ (n : ℕ). has_bit n s ≡ true) held on) (no_bit s));
   same = λ some. absurd (some transaction);

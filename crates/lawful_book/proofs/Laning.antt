@@ -105,7 +105,7 @@ none_entered deeds base history next l lane other was = by_test lane.entered was
 
 -- ---- the entry of a lane can join
 
-rises_below : (m n b : ℕ) → m + 1 < b → b ≡ n + 1 → m < n
+pub rises_below : (m n b : ℕ) → m + 1 < b → b ≡ n + 1 → m < n
 rises_below m n b less is = omega (arith, less, is)
 
 pub coming_can_join : {E : Type 0} (deeds : Deeds E) (base : Base) (history : List (Entry E)) (next l : ℕ) (lane : Lane E) (e : Entry E) →
@@ -132,7 +132,7 @@ last_there [] x e = cc
 last_there (y ∷ xs) x e = cc
 
 -- a list that isn't empty isn't with one more, nor one whose last is picked
-filter_more : {X : Type 0} (p : X → Bool) (xs : List X) (x : X) → filter p xs ≢ [] → filter p (xs ++ x ∷ []) ≢ []
+pub filter_more : {X : Type 0} (p : X → Bool) (xs : List X) (x : X) → filter p xs ≢ [] → filter p (xs ++ x ∷ []) ≢ []
 filter_more p xs x some none = by_test (p x) (sym (filter_last p xs x) ∙ none)
   where
     by_test : (t : Bool) → (if t then filter p xs ++ x ∷ [] else filter p xs) ≡ [] → ⊥

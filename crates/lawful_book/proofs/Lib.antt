@@ -9,3 +9,12 @@ pub mod Kept
 pub mod Valued
 pub mod Fitting
 pub mod GoingOn
+pub mod OwnedHeaps
+pub mod OwnedWrites
+pub mod OwnedLanes
+pub mod OwnedBooking
+pub mod OwnedShowing
+pub mod OwnedAsking
+pub mod OwnedKept
+pub mod OwnedCalls
+pub mod OwnedExamples

@@ -27,7 +27,7 @@ both t e f = cc
 -- ---- a word of a structure
 
 -- the address by its block
-by_block : (start a : ℕ) → nat_lt a start ≡ false → a ≡ start + 16 * ((a - start) / 16) + (a - start) % 16
+pub by_block : (start a : ℕ) → nat_lt a start ≡ false → a ≡ start + 16 * ((a - start) / 16) + (a - start) % 16
 by_block start a above = whole start a (at_least start a above)
   where
     at_least : (n m : ℕ) → nat_lt m n ≡ false → n ≤ m
@@ -36,10 +36,10 @@ by_block start a above = whole start a (at_least start a above)
     whole : (n m : ℕ) → n ≤ m → m ≡ n + 16 * ((m - n) / 16) + (m - n) % 16
     whole n m le = omega (arith, le)
 
-small_rest : (n : ℕ) → n % 16 < 16
+pub small_rest : (n : ℕ) → n % 16 < 16
 small_rest n = omega arith
 
-not_true : (t : Bool) → not t ≡ true → t ≡ false
+pub not_true : (t : Bool) → not t ≡ true → t ≡ false
 not_true true e = cc
 not_true false e = refl
 

@@ -1,2 +1,4 @@
 pub mod LawfulBooks
 pub mod Laws
+pub mod OwnedBooks
+pub mod OwnedLaws

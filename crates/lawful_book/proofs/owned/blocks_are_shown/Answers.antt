@@ -1,0 +1,5 @@
+use Rattle.lawful_book.proofs.OwnedCalls as lemmas
+use Rattle.lawful_book.proofs.owned.blocks_are_shown.Goals as goal
+
+pub returns : goal.returns
+returns g c = lemmas.blocks_are_shown g.E.Deed.meaning

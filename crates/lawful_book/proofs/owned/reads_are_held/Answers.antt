@@ -1,0 +1,5 @@
+use Rattle.lawful_book.proofs.OwnedCalls as lemmas
+use Rattle.lawful_book.proofs.owned.reads_are_held.Goals as goal
+
+pub returns : goal.returns
+returns g c = lemmas.reads_are_held g.E.Deed.meaning

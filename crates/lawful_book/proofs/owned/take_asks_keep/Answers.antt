@@ -1,0 +1,5 @@
+use Rattle.lawful_book.proofs.OwnedCalls as lemmas
+use Rattle.lawful_book.proofs.owned.take_asks_keep.Goals as goal
+
+pub returns : goal.returns
+returns g c = lemmas.take_asks_keep g.E.Deed.meaning

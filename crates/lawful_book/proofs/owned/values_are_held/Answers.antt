@@ -1,0 +1,5 @@
+use Rattle.lawful_book.proofs.OwnedCalls as lemmas
+use Rattle.lawful_book.proofs.owned.values_are_held.Goals as goal
+
+pub returns : goal.returns
+returns g c = lemmas.values_are_held g.E.Deed.meaning
