@@ -1,19 +1,15 @@
 -- What the appends of an abort ask of the lane's book, and leave of it.
-use Rattle.std.proofs.Common.{◌≡◌, ◌⊎◌, inl, inr, ℕ, ◌+◌, ◌%◌, ◌<◌, ◌≤◌, ◌==◌, Bool, true, false, not, nat_lt, if◌then◌else◌, List, [], ◌∷◌, length, reverse, None, refl, sym, ap, ◌∙◌, subst, arith}
+use Rattle.std.proofs.Common.{◌≡◌, ◌⊎◌, inl, inr, ℕ, ◌%◌, ◌<◌, ◌≤◌, true, false, List, [], ◌∷◌, length, reverse, None, refl, sym, ap, ◌∙◌, subst, arith}
 use Rattle.std.proofs.Props.{props}
-use Rattle.std.proofs.lemmas.Bool.Decides.{nat_tests}
 use Rattle.std.proofs.lemmas.List.{length-reverse}
 use Rattle.std.proofs.Math.Logic.{∥∥₁_map, ∥∥₁_elim}
 use Rattle.std.proofs.Math.Bridge.{le_prop}
 use Rattle.std.specs.Coded.{Coded-set, coded_bool}
-use Rattle.persist_model.specs.declared.event.Event.{Event}
 use Rattle.persist_model.specs.Region.{Region}
 use Rattle.lane_traits.specs.Device.{Counts}
 use Rattle.region_layout.specs.declared.cell.Cell.{Cell}
 use Rattle.region_layout.specs.RecordCells.{cell_of_rollback, cell_of_compensation}
 use Rattle.region_layout.specs.declared.layout.Layout.{Layout}
-use Rattle.region_layout.specs.Layout.{layout_shape}
-use Rattle.lane_types.specs.declared.call.Phase.{Phase}
 use Rattle.lane_types.specs.declared.call.Stepped.{Stepped}
 use Rattle.lane_types.specs.Deeds.{Deeds}
 use Rattle.lane_book.specs.declared.book.Book.{Book}
@@ -21,31 +17,25 @@ use Rattle.lane_book.specs.declared.lane.Lane.{Lane}
 use Rattle.lane_book.specs.declared.lane.Doing.{Doing}
 use Rattle.lane_book.specs.FacesOf.{lane_at}
 use Rattle.lane_book.specs.Lanes.{moved}
-use Rattle.lane_book.specs.Books.{IsBook}
-use Rattle.lane_book.specs.Calls.{IsCalling, Moves}
+use Rattle.lane_book.specs.Calls.{Moves}
 use Rattle.lane_book.specs.Appends.{IsOpen, CanRollBack, CanCompensate, Falls, undoes}
-use Rattle.lane_book.specs.Reserved.{reserved_in}
 use Rattle.log_keeper.specs.declared.keeper.LogKeeper.{LogKeeper}
-use Rattle.log_keeper.specs.Parts.{rests, Running}
-use Rattle.log_keeper.specs.Logged.{Keeping, plan_in, resting, with_run, ended}
-use Rattle.log_keeper.specs.Making.{is_over, settled_by, gone_on}
 use Rattle.log_keeper.specs.Keeper.{keeping_of}
 use Rattle.txn_state.specs.Stages.{Stage, Opening, Undoing, Ending, stage_of}
-use Rattle.txn_state.specs.AppendLaws.{IsNextCell, of_rollback, of_update, Notices, LetsGoOne, GoesOnTo, AreLeft, made_in}
+use Rattle.txn_state.specs.AppendLaws.{IsNextCell, of_rollback, of_update, Notices, GoesOnTo, AreLeft}
 use Rattle.txn_state.specs.ReadLaws.{appends_in}
 use Rattle.txn_state.proofs.StageSteps.{commit_has, end_has, call_at, aborts_it}
 use Rattle.txn_state.proofs.Ready.{lanes_are_ready}
 use Rattle.txn_core.specs.declared.advancing.Went.{Went}
-use Rattle.txn_core.specs.Running.{stored as run_stored, whole as run_whole}
-use Rattle.txn_core.specs.Advancing.{Advances, Appends, waits, runs, stored, whole}
+use Rattle.txn_core.specs.Running.{stored as run_stored}
+use Rattle.txn_core.specs.Advancing.{Advances, Appends, waits, runs, stored}
 use Rattle.txn_core.specs.States.{HasWorld, start_of}
 use Rattle.txn_core.specs.Stepping.{StepsWorld}
+use Rattle.txn_core.proofs.Appended.{paid_inside, paid_stage, paid_doing, stored_is_paid, lets_go_one}
 use Rattle.txn_core.proofs.Facts.{IsRead}
 use Rattle.txn_core.proofs.Exits.{append_stored_if_free, append_settled_if_free}
-use Rattle.txn_core.proofs.Latches.{slot_of_lane}
-use Rattle.txn_core.proofs.Latching.{begun_slots}
-use Rattle.txn_core.proofs.Paying.{IsPaid, paid_then, inside_then}
-use Rattle.txn_core.proofs.UnderWay.{LetsLatchGo, begun_paid, begun_world_if_free, stored_paid, whole_paid}
+use Rattle.txn_core.proofs.Paying.{IsPaid}
+use Rattle.txn_core.proofs.UnderWay.{LetsLatchGo, begun_paid, begun_world_if_free, stored_paid}
 
 -- ---- the call
 
@@ -78,37 +68,6 @@ pub some_to_undo : {E : Type 0} (deeds : Deeds E) (layout : Layout) (book : Book
     (keeping_of keeper).holder (l % layout.partitions) ≡ 17 → 1 ≤ length (lane_at book l).updates.items
 some_to_undo deeds layout book keeper region spare counts l lt at world free = ∥∥₁_elim world le_prop (λ w.
     lanes_are_ready.some_update layout (start_of layout w.0) book keeper region spare counts.events l lt at (inr free) (inr free) w.1.state)
-
--- ---- behind a payment
-
-pub paid_stage : {E : Type 0} (book between : Book E) (l : ℕ) → IsPaid book between l → stage_of (lane_at between l) ≡ stage_of (lane_at book l)
-paid_stage book between l paid = ap (λ (x : Lane _). stage_of x) paid.goes.lanes.here
-
-pub paid_doing : {E : Type 0} (book between : Book E) (l : ℕ) → IsPaid book between l → (lane_at between l).doing ≡ (lane_at book l).doing
-paid_doing book between l paid = ap (λ (x : Lane _). x.doing) paid.goes.lanes.here
-
-pub paid_inside : {E : Type 0} (book between : Book E) (l : ℕ) → IsPaid book between l → l < length between.lanes.items
-paid_inside book between l paid = inside_then book between l _ paid.goes
-
-pub paid_calling : {E : Type 0} (book between : Book E) (l : ℕ) → IsPaid book between l → (lane_at book l).phase ≡ Phase.Calling → IsBook between → IsCalling between l
-paid_calling book between l paid calling kept = record {
-  inside = paid_inside book between l paid;
-  calling = ap (λ (x : Lane _). x.phase) paid.goes.lanes.here ∙ calling;
-  kept = kept;
-}
-
--- ---- the reserved cells
-
-turned : (q p n : ℕ) → (if q == p then n else 0) ≡ (if p == q then n else 0)
-turned q p n = grind (arith, nat_tests)
-
-no_more : (a b c d : ℕ) → a + b ≡ d → c ≡ b → a + c ≤ d
-no_more a b c d falls same = omega (arith, falls, same)
-
-pub falls_by_one : {E : Type 0} (layout : Layout) (book later : Book E) (l : ℕ) → Falls 1 book later l → LetsGoOne layout book later (l % layout.partitions)
-falls_by_one layout book later l falls q =
-    no_more (reserved_in later layout.partitions 0 q) (if (l % layout.partitions) == q then 1 else 0) (if q == (l % layout.partitions) then 1 else 0)
-    (reserved_in book layout.partitions 0 q) (falls layout.partitions 0 q) (turned q (l % layout.partitions) 1)
 
 -- ---- the gate is stored
 
@@ -170,65 +129,10 @@ module _ {E : Type 0} (deeds : Deeds E) (layout : Layout) (first between : Book 
   pub can_compensate : stage_of (lane_at first l) ≡ Undoing → CanCompensate (lane_at between l)
   can_compensate at = record { call = ap undoes (doing_at_gate Undoing at refl refl); is_open = open_at_gate (inr (inl at)); some = some_at_gate at }
 
--- ---- the part is whole
-
-turned_over : (plan : List Event) (n : ℕ) → n + 1 ≡ length plan → is_over plan (n + 1) ≡ true
-turned_over plan n is = ap (λ k. not (nat_lt k (length plan))) is ∙ not_below (length plan)
-  where
-    not_below : (n : ℕ) → not (nat_lt n n) ≡ true
-    not_below n = grind (arith, nat_tests)
-
-rests_there : (p : ℕ) (runs_now : ℕ → Running) → (with_run p resting runs_now p).part ≡ rests
-rests_there p runs_now = by (p == p) (grind (arith, nat_tests)) where
-  by : (same : Bool) → same ≡ true → (if same then resting else runs_now p).part ≡ rests
-  by true is = refl
-  by false is = cc
-
--- nothing is under way in the partition behind the last event
-over_rests : (layout : Layout) (keeper : LogKeeper) (p : ℕ) → AreLeft layout keeper p 1 → ((made_in layout keeper p).runs p).part ≡ rests
-over_rests layout keeper p left =
-    let k = keeping_of keeper in
-    let plan = plan_in (layout_shape layout) k p in
-    ap (λ (b : Bool). ((if b then ended p (settled_by (k.runs p).part k.ledger) k else gone_on (is_over plan ((k.runs p).made + 2)) p (k.runs p) k).runs p).part)
-    (turned_over plan (k.runs p).made left) ∙ rests_there p k.runs
-
--- Its run rests, and its slot is there.
-pub record IsWhole (layout : Layout) (keeper : LogKeeper) (l : ℕ) : Type 0 where
-  pub rests_now : ((keeping_of keeper).runs (l % layout.partitions)).part ≡ rests
-  pub slot : l % layout.partitions < length keeper.slots.items
-
-whole_now : {E : Type 0} (deeds : Deeds E) (layout : Layout) (book between : Book E) (keeper mid : LogKeeper) (region behind : Region) (spare left : ℕ) (counts after : Counts) (l : ℕ) →
-    length keeper.slots.items ≡ layout.partitions → Advances deeds layout keeper mid region behind counts after spare left book between l Went.Whole → IsWhole layout mid l
-whole_now deeds layout book between keeper mid region behind spare left counts after l slots (whole (run_whole e is counted over made) pays) = record {
-  rests_now = ap (λ (k : Keeping). (k.runs (l % layout.partitions)).part) made.kept ∙ over_rests layout keeper (l % layout.partitions) over;
-  slot = slot_of_lane layout mid l (made.slots.count ∙ slots);
-}
-
 -- ---- behind an append
 
 module _ {E : Type 0} (deeds : Deeds E) (layout : Layout) (book between : Book E) (keeper kept : LogKeeper) (words : List ℕ) (region behind : Region) (spare left : ℕ) (counts after : Counts) (l : ℕ)
     (cell : Cell) (lt : l < length book.lanes.items) where
-  pub whole_is_paid : Appends deeds layout keeper kept words region behind counts after spare left book between l cell Went.Whole → IsPaid book between l
-  whole_is_paid (waits holder is waiting same device) = absurd (cc)
-  whole_is_paid (runs mid begun_book begun advance) =
-      let paid = begun_paid layout keeper mid book begun_book words l cell lt begun in
-      paid_then book begun_book between l paid
-      (whole_paid deeds layout begun_book between mid kept region behind spare left counts after l (paid_inside book begun_book l paid) advance).paid
-
-  pub whole_rests : length keeper.slots.items ≡ layout.partitions →
-      Appends deeds layout keeper kept words region behind counts after spare left book between l cell Went.Whole → IsWhole layout kept l
-  whole_rests slots (waits holder is waiting same device) = absurd (cc)
-  whole_rests slots (runs mid begun_book begun advance) =
-      whole_now deeds layout begun_book between mid kept region behind spare left counts after l
-      (begun_slots layout book begun_book keeper mid words l cell lt begun ∙ slots) advance
-
-  pub stored_is_paid : (c : Cell) → Appends deeds layout keeper kept words region behind counts after spare left book between l cell (Went.Stored c) → IsPaid book between l
-  stored_is_paid c (waits holder is waiting same device) = absurd (cc)
-  stored_is_paid c (runs mid begun_book begun advance) =
-      let paid = begun_paid layout keeper mid book begun_book words l cell lt begun in
-      paid_then book begun_book between l paid
-      (stored_paid deeds layout begun_book between mid kept region behind spare left counts after l c (paid_inside book begun_book l paid) advance).paid
-
   pub was_at_gate : (c : Cell) → IsRead words region counts → ((keeping_of keeper).holder (l % layout.partitions) ≡ 17 → IsNextCell region (lane_at book l) cell) →
       HasWorld deeds layout book keeper region spare counts → Appends deeds layout keeper kept words region behind counts after spare left book between l cell (Went.Stored c) →
       WasAtGate deeds layout book between region spare counts l
@@ -249,10 +153,10 @@ module _ {E : Type 0} (deeds : Deeds E) (layout : Layout) (book between : Book E
         Appends deeds layout keeper kept words region behind counts after spare left book between l cell (Went.Stored c) → Notices (lane_at between l) c lane → Falls 1 between later l →
         Moves deeds between later l None answer (moved part lane) → StepsWorld deeds layout book later keeper kept region behind spare left counts after l answer
     stored_step later c lane part answer told same went notices falls moves =
-        let paid = stored_is_paid c went in
+        let paid = stored_is_paid deeds layout book between keeper kept words region behind spare left counts after l cell lt c went in
         subst (λ (a : Stepped). StepsWorld deeds layout book later keeper kept region behind spare left counts after l a) (sym told)
         (append_stored_if_free deeds layout book between later keeper kept words region behind spare left counts after l cell c lane read lt appends next went notices
-        (falls_by_one layout between later l falls)
+        (lets_go_one layout between later l falls)
         (subst (λ n. Moves deeds between later l None Stepped.Moved (moved n lane)) (same ∙ sym (ap (λ (x : Lane E). x.part) paid.goes.lanes.here))
         (subst (λ (a : Stepped). Moves deeds between later l None a (moved part lane)) told moves)))
 

@@ -32,6 +32,7 @@ use Rattle.txn_state.proofs.HeapSteps.{written_heap}
 use Rattle.txn_state.specs.Stages.{TakingBack, stage_of, is_commit}
 use Rattle.txn_state.specs.AppendLaws.{undo_part}
 use Rattle.txn_state.specs.Changes.{GoesTo}
+use Rattle.txn_state.specs.Ties.{IsWrittenWord}
 use Rattle.txn_state.specs.HeapLaws.{IsEvent}
 use Rattle.txn_state.specs.ReadLaws.{clears_in}
 use Rattle.txn_state.specs.States.{IsStateOf}
@@ -39,17 +40,18 @@ use Rattle.txn_state.proofs.Ready.{lanes_are_ready}
 use Rattle.txn_state.proofs.HeapSteps.{words_are_taken_back}
 use Rattle.txn_core.specs.Making.{Makes, made, changed_word}
 use Rattle.txn_core.specs.States.{IsWorld, HasWorld, start_of}
+use Rattle.txn_core.specs.Latched.{is_latched, none_held}
 use Rattle.txn_core.specs.Phases.{IsPhased, ArePhased}
 use Rattle.txn_core.specs.Stepping.{StepsWorld, HasMade, IsCause}
 use Rattle.txn_core.proofs.Facts.{IsRead, has_logs}
 use Rattle.txn_core.proofs.OpenParts.{IsOpenPart, part_open, undoes_open}
 use Rattle.txn_core.proofs.Phasing.{phased_with}
 use Rattle.txn_core.proofs.PhasedSteps.{paid_phased}
-use Rattle.txn_core.proofs.Paid.{goes_with, paid_goes, paid_step, lawful_with, lawful_paid, lanes_paid, count_paid, steps_world}
-use Rattle.txn_core.proofs.Touching.{store_touches}
-use Rattle.txn_core.proofs.Unbuilt.{own_data}
+use Rattle.txn_core.proofs.Paid.{paid_goes, paid_step, lawful_with, lawful_paid, lanes_paid, count_paid, steps_world}
+use Rattle.txn_core.proofs.Touching.{written_touches}
 use Rattle.txn_core.proofs.Aborting.{aborts_at}
 use Rattle.txn_core.proofs.AbortingLedgers.{change_is}
+use Rattle.txn_core.proofs.Paying.{goes_lane}
 
 -- ---- the write
 
@@ -63,14 +65,15 @@ pub last_read : {E : Type 0} (lane read : Lane E) (writes : List WordWrite) → 
 last_read lane read writes is same = ap (λ (ws : List WordWrite). get_or ws (read.stored - 1) no_write) same ∙ ap (λ (x : Lane _). last_stored x) is
 
 -- there is one, and its word is one of so many
-record IsLastStored {E : Type 0} (lane : Lane E) (size : ℕ) : Type 0 where
+record IsLastStored {E : Type 0} (layout : Layout) (lane : Lane E) (size : ℕ) : Type 0 where
   some : 1 ≤ lane.stored
   below : lane.stored - 1 < length lane.writes.items
   got : slice_get lane.writes.items (lane.stored - 1) ≡ Some (last_stored lane)
   inside : (last_stored lane).address < size
+  written : IsWrittenWord (layout_shape layout) (last_stored lane).address
 
 is_last_stored : {E : Type 0} (layout : Layout) (start : Words) (book : Book E) (keeper : LogKeeper) (region : Region) (spare events l : ℕ) → l < length book.lanes.items →
-    stage_of (lane_at book l) ≡ TakingBack → IsStateOf layout start book keeper region spare events → IsLastStored (lane_at book l) region.size
+    stage_of (lane_at book l) ≡ TakingBack → IsStateOf layout start book keeper region spare events → IsLastStored layout (lane_at book l) region.size
 is_last_stored layout start book keeper region spare events l lt at st =
     let lane = lane_at book l in
     let ready = lanes_are_ready.to_take_back layout start book keeper region spare events l lt at st in
@@ -83,6 +86,7 @@ is_last_stored layout start book keeper region spare events l lt at st =
       below = within;
       got = slice_get-get_or lane.writes.items (lane.stored - 1) no_write within;
       inside = subst (λ (x : WordWrite). x.address < region.size) (sym same) (subst (λ n. w.address < n) (sym st.world.log.logged.size) in_heap.1);
+      written = subst (λ (x : WordWrite). IsWrittenWord (layout_shape layout) x.address) (sym same) ready.1.written_word;
     }
 
 -- ---- its newest change
@@ -103,7 +107,7 @@ fits_offset n k lt few = record { fits = omega (arith, lt, few) }
 
 module _ {E : Type 0} (deeds : Deeds E) (layout : Layout) (book : Book E) (keeper : LogKeeper) (region : Region) (spare : ℕ) (counts : Counts) (l : ℕ)
     (lt : l < length book.lanes.items) (at : stage_of (lane_at book l) ≡ TakingBack) where
-  last_of : (world : (base : Base) × IsWorld deeds layout base book keeper region spare counts.events) → IsLastStored (lane_at book l) region.size
+  last_of : (world : (base : Base) × IsWorld deeds layout base book keeper region spare counts.events) → IsLastStored layout (lane_at book l) region.size
   last_of world = is_last_stored layout (start_of layout world.0) book keeper region spare counts.events l lt at world.1.state
 
   module _ (world : HasWorld deeds layout book keeper region spare counts) where
@@ -154,7 +158,7 @@ module _ {E : Type 0} (deeds : Deeds E) (layout : Layout) (book : Book E) (keepe
 
 module _ {E : Type 0} (book between : Book E) (l : ℕ) (lt : l < length book.lanes.items) (paid : between ≡ with_lane book l (paid_event (lane_at book l)) book.touched) where
   paid_here : lane_at between l ≡ paid_event (lane_at book l)
-  paid_here = (goes_with book between l (paid_event (lane_at book l)) book.touched lt paid).lanes.here
+  paid_here = (goes_lane book between l (paid_event (lane_at book l)) book.touched lt paid).lanes.here
 
   -- the call is an abort still,
   pub paid_aborts : stage_of (lane_at book l) ≡ TakingBack → (lane_at between l).doing ≡ Doing.Abort
@@ -180,18 +184,18 @@ pub taken_back_world : {E : Type 0} (deeds : Deeds E) (layout : Layout) (book be
     (w : WordWrite) (touched : Option ℕ) (answer : Stepped) → answer ≡ Stepped.Moved → l < length book.lanes.items → stage_of (lane_at book l) ≡ TakingBack →
     w ≡ last_stored (lane_at book l) → part ≡ undo_part (lane_at book l) →
     FindsChange keeper (lane_at book l) w.address (Some v) → Makes (PStore w.address v) region behind counts after spare left book between l Done.Made →
-    Moves deeds between later l touched answer (moved part (unstored_one (lane_at between l))) → touched ≡ changed_word (newest (region.at w.address)) v w.address →
+    Moves deeds between later l touched answer (moved part (unstored_one (lane_at between l))) →
+    (IsDataWord (layout_shape layout) w.address → touched ≡ changed_word (newest (region.at w.address)) v w.address) → ((IsDataWord (layout_shape layout) w.address → ⊥) → touched ≡ None) →
     StepsWorld deeds layout book later keeper keeper region behind spare left counts after l answer
-taken_back_world deeds layout book between later keeper region behind spare left counts after l part v w touched answer told lt at is part_is change (made event counted paid) moves changes =
+taken_back_world deeds layout book between later keeper region behind spare left counts after l part v w touched answer told lt at is part_is change (made event counted paid) moves changes none =
     steps_world deeds layout book later keeper keeper region behind spare left counts after l answer stays (paid_step deeds book between later l answer lt paid moves.step)
     (subst (λ (a : Stepped). HasMade a counts after) (sym told) counted) phased
     (subst (λ (a : Stepped). IsCause layout book keeper counts l a) (sym told) tt)
     (count_paid book between later l (moved part (unstored_one (lane_at between l))) paid (ap (λ (b : Book _). b.lanes) moves.is))
-    (λ base world. store_touches layout region behind l w.address v later.touched event.cells
-    (subst (λ (x : WordWrite). IsDataWord (layout_shape layout) x.address) (sym is)
-    (own_data deeds layout base book l ((lane_at book l).stored - 1) (last_stored (lane_at book l)) world.lawful
-    (is_last_stored layout (start_of layout base) book keeper region spare counts.events l lt at world.state).got))
-    (ap (λ (b : Book _). b.touched) moves.is ∙ changes))
+    (λ base world. written_touches layout region behind l w.address v later.touched event.cells
+    (subst (λ (x : WordWrite). IsWrittenWord (layout_shape layout) x.address) (sym is)
+    (is_last_stored layout (start_of layout base) book keeper region spare counts.events l lt at world.state).written)
+    (λ on. ap (λ (b : Book _). b.touched) moves.is ∙ changes on) (λ off. ap (λ (b : Book _). b.touched) moves.is ∙ none off)) (none_held refl (ap is_latched at))
   where
     inside : l < length between.lanes.items
     inside = lanes_paid book between l paid lt
@@ -205,7 +209,7 @@ taken_back_world deeds layout book between later keeper region behind spare left
         let last = is_last_stored layout (start_of layout base) book keeper region spare counts.events l lt at world.state in
         let found = change_is layout (start_of layout base) book keeper region spare counts.events world.state l lt at w.address (Some v) change in
         let goes = paid_goes book between later l (paid_event (lane_at book l)) (λ (x : Lane _). moved part (unstored_one x)) book.touched lt paid
-        (goes_with between later l (moved part (unstored_one (lane_at between l))) touched inside moves.is) in
+        (goes_lane between later l (moved part (unstored_one (lane_at between l))) touched inside moves.is) in
         record {
           state = words_are_taken_back layout (start_of layout base) book later keeper region behind spare left counts.events after.events l w found.0
               (subst (λ n. IsEvent region behind l (PStore w.address n) spare left counts.events after.events) found.2 event) at (last.got ∙ ap (λ (x : WordWrite). Some x) (sym is)) found.1

@@ -13,19 +13,21 @@ use Rattle.persist_model.proofs.Images.{length-newest_words}
 use Rattle.lane_traits.specs.Device.{Counts}
 use Rattle.region_layout.specs.declared.layout.Layout.{Layout}
 use Rattle.region_layout.specs.Layout.{layout_shape}
+use Rattle.offset_alloc.specs.declared.Standing.{Standing}
 use Rattle.lane_types.specs.Asks.{is_there, has_word}
 use Rattle.lane_types.specs.Deeds.{Deeds}
 use Rattle.lane_types.specs.Faces.{Base}
-use Rattle.lane_types.specs.Heaps.{has_bit, is_data, is_owned, names_in, owner_word, block_of}
+use Rattle.lane_types.specs.Heaps.{has_bit, is_data, names_in, block_of}
 use Rattle.lane_types.specs.Seen.{AreInAgreement}
 use Rattle.lane_book.specs.declared.book.Book.{Book}
 use Rattle.lane_book.specs.declared.lane.Lane.{Lane}
 use Rattle.lane_book.specs.FacesOf.{lane_at, idle_lane}
+use Rattle.lane_book.specs.Refusals.{owner_seen}
 use Rattle.lane_book.specs.Steps.{held_by}
-use Rattle.lawful_book.specs.LawfulBooks.{is_word_of}
+use Rattle.lawful_book.specs.OwnedBooks.{is_own_word}
 use Rattle.lawful_book.specs.Laws.{words_now}
-use Rattle.lawful_book.proofs.Showing.{bit_above, holds_word}
-use Rattle.lawful_book.proofs.Valued.{values_are_held, words_are_apart}
+use Rattle.lawful_book.proofs.Showing.{bit_above}
+use Rattle.txn_core.proofs.LawfulKept.{values_are_held, words_are_apart, own_word}
 use Rattle.log_keeper.specs.declared.keeper.LogKeeper.{LogKeeper}
 use Rattle.history_laws.specs.UnderWay.{UnderWay}
 use Rattle.txn_laws.specs.Txns.{Txn, txn_at}
@@ -75,15 +77,15 @@ never false on off = cc
 none_named : (owner : ℕ) → names_in 0 owner ≡ true → ⊥
 none_named owner on = never (has_bit 0 (owner - 1)) (both (not (owner == 0)) (has_bit 0 (owner - 1)) on).1 (bit_above 0 0 (owner - 1) (omega arith) (omega arith))
 
-none_owned : (base : Base) (a : ℕ) → is_word_of 0 base.heap a ≡ true → ⊥
-none_owned base a on =
-    let owned = (both (is_data base.heap a) (is_owned 0 base.heap (owner_word base.heap) (block_of base.heap a)) on).1 in
-    none_named (owner_word base.heap (block_of base.heap a)) (both (nat_lt (block_of base.heap a) base.heap.blocks) _ owned).1
+none_owned : (E : Type 0) (base : Base) (blocks : List Standing) (a : ℕ) → is_own_word base.heap blocks (idle_lane {E = E}) a ≡ true → ⊥
+none_owned E base blocks a on =
+    let owned = (both (is_data base.heap a) _ on).1 in
+    none_named (owner_seen blocks (idle_lane {E = E}) (block_of base.heap a)) (both (nat_lt (block_of base.heap a) base.heap.blocks) _ owned).1
 
-is_lane : {E : Type 0} (book : Book E) (base : Base) (l a : ℕ) → is_word_of (lane_at book l).held base.heap a ≡ true → l < length book.lanes.items
-is_lane book base l a on = elim (by_length l (length book.lanes.items)) [
+is_lane : {E : Type 0} (book : Book E) (base : Base) (l a : ℕ) → is_own_word base.heap book.blocks (lane_at book l) a ≡ true → l < length book.lanes.items
+is_lane {E} book base l a on = elim (by_length l (length book.lanes.items)) [
   | inl lt ↦ lt
-  | inr past ↦ absurd (none_owned base a (subst (λ (x : Lane _). is_word_of x.held base.heap a ≡ true) (get_or_past book.lanes.items l idle_lane past) on))
+  | inr past ↦ absurd (none_owned E base book.blocks a (subst (λ (x : Lane E). is_own_word base.heap book.blocks x a ≡ true) (get_or_past book.lanes.items l idle_lane past) on))
 ]
   where
     by_length : (l n : ℕ) → (l < n) ⊎ (n ≤ l)
@@ -104,8 +106,8 @@ is_lane book base l a on = elim (by_length l (length book.lanes.items)) [
 module _ {E : Type 0} (deeds : Deeds E) (layout : Layout) (base : Base) (book : Book E) (keeper : LogKeeper) (region : Region) (spare : ℕ) (counts : Counts)
     (phased : ArePhased book) (world : IsWorld deeds layout base book keeper region spare counts.events) where
   -- it is of a structure that the lane holds
-  place : (l a : ℕ) → has_word (held_by base book l) a ≡ true → is_word_of (lane_at book l).held base.heap a ≡ true
-  place l a has = sym (holds_word deeds base book.history.items book.next_transaction l (lane_at book l) world.lawful.past (world.lawful.lanes l) a) ∙ has
+  place : (l a : ℕ) → has_word (held_by base book l) a ≡ true → is_own_word base.heap book.blocks (lane_at book l) a ≡ true
+  place l a has = own_word deeds layout base book world.lawful l a has
 
   shown_data : (l a : ℕ) → has_word (held_by base book l) a ≡ true → is_data base.heap a ≡ true
   shown_data l a has = (both (is_data base.heap a) _ (place l a has)).0
@@ -156,7 +158,7 @@ module _ {E : Type 0} (deeds : Deeds E) (layout : Layout) (base : Base) (book : 
   -- a data word of the heap is one of the words
   data_inside : (a : ℕ) → is_data base.heap a ≡ true → a < length words
   data_inside a on = ∥∥₁_elim kept le_prop (λ w.
-      (let stands : StandsAt layout base.heap = record { start = w.lawful.place.start; blocks = w.lawful.place.blocks } in
+      (let stands : StandsAt layout base.heap = record { start = w.lawful.owned.place.start; blocks = w.lawful.owned.place.blocks } in
       let lt = (data_word layout base.heap a stands on).0.1 in let size = long in omega (arith, lt, size)))
 
   shows_data : (l a v : ℕ) → (held_by base book l).word a ≡ Some v → is_data base.heap a ≡ true
@@ -177,6 +179,6 @@ module _ {E : Type 0} (deeds : Deeds E) (layout : Layout) (base : Base) (book : 
     inside = λ l a on. data_inside a on;
     data_words = λ l a v is. shows_data l a v is;
     values = λ l a v is. shows_value l a v is;
-    structures_apart = λ l k n ne few on. ∥∥₁_elim kept (Coded-set coded_bool _ _) (λ w. w.lawful.apart l k n ne on);
+    structures_apart = λ l k n ne few on. ∥∥₁_elim kept (Coded-set coded_bool _ _) (λ w. w.lawful.owned.apart l k n ne on);
     words_apart = λ l k a v ne is. ∥∥₁_elim kept (Coded-set (coded_option coded_ℕ) _ _) (λ w. words_are_apart deeds layout base book w.lawful l k a v ne is);
   }

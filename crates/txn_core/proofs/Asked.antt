@@ -19,11 +19,11 @@ use Rattle.txn_state.specs.Stages.{Naming, stage_of, stage_at, idle_stage, is_co
 use Rattle.txn_state.specs.QuietLaws.{HasSameTransaction}
 use Rattle.txn_state.proofs.SameTransaction.{notes_keep}
 use Rattle.lawful_book.specs.Laws as laws
-use Rattle.lawful_book.proofs.Kept.{asks_keep, refusals_keep}
+use Rattle.txn_core.proofs.LawfulKept.{asks_keep, refusals_keep}
 use Rattle.txn_core.specs.Asking.{ChangesFace, StaysAlways, StaysAsked, AppendsNothing}
 use Rattle.txn_core.specs.Asking as asking
-use Rattle.txn_core.proofs.Memory.{goes_to}
 use Rattle.txn_state.specs.Ties.{due_by}
+use Rattle.txn_core.proofs.Paying.{goes_lane}
 
 pub is_plain : {E : Type 0} (call : Call E) (doing : Doing) → AppendsNothing call doing → IsPlain call doing
 is_plain call doing asking.begin = steps.begin
@@ -83,7 +83,7 @@ roomier_same lane later nothing more = record {
 pub stays_roomier : {E : Type 0} (deeds : Deeds E) (book later : Book E) (l : ℕ) → l < length book.lanes.items → (lane_at book l).doing ≡ Doing.Nothing → IsRoomierIn book later l → IsBook later → StaysAlways deeds book later
 stays_roomier deeds book later l lt nothing roomier good layout base keeper region spare counts world = ∥∥₁_map world (λ w. record {
   state = notes_keep layout _ book later keeper region spare counts.events l (lane_at later l) (roomier_same (lane_at book l) (lane_at later l) nothing roomier.lane)
-      (goes_to book later l (lane_at later l) book.touched lt roomier.is) good w.state;
+      (goes_lane book later l (lane_at later l) book.touched lt roomier.is) good w.state;
   lawful = refusals_keep deeds layout base book later l w.lawful lt roomier;
 })
 
@@ -149,6 +149,6 @@ pub stays_asked : {E : Type 0} (deeds : Deeds E) (book later : Book E) (l : ℕ)
 stays_asked deeds book later l call doing lt nothing phase quiet was asked good layout base keeper region spare counts fits may world = ∥∥₁_map world (λ w. record {
   state = notes_keep layout _ book later keeper region spare counts.events l (lane_at later l)
       (asked_same (lane_at book l) (lane_at later l) call doing quiet nothing phase ((was l).cells.unpromised nothing) asked.lane)
-      (goes_to book later l (lane_at later l) book.touched lt asked.is) good w.state;
+      (goes_lane book later l (lane_at later l) book.touched lt asked.is) good w.state;
   lawful = asks_keep deeds layout base book later l 0 call doing [] w.lawful lt nothing (laws.plain (is_plain call doing quiet)) fits may asked;
 })

@@ -1,5 +1,5 @@
 -- A call is asked or refused by what stands against it.
-use Rattle.std.proofs.Common.{◌≡◌, ◌≢◌, ℕ, ◌<◌, ◌≤◌, List, length, refl, sym, ap, ◌∙◌, subst}
+use Rattle.std.proofs.Common.{◌≡◌, ◌≢◌, ℕ, ◌<◌, ◌≤◌, List, length, true, false, Option, Some, None, refl, sym, ap, ◌∙◌, subst}
 use Rattle.std.proofs.Math.ListN.{length-set}
 use Rattle.std.proofs.Math.Logic.{∥∥₁_map, ∥∥₁_elim}
 use Rattle.std.proofs.Math.Bridge.{le_prop}
@@ -19,22 +19,23 @@ use Rattle.lane_book.specs.declared.book.Book.{Book}
 use Rattle.lane_book.specs.declared.lane.Lane.{Lane}
 use Rattle.lane_book.specs.declared.lane.Doing.{Doing}
 use Rattle.lane_book.specs.Books.{IsBook}
-use Rattle.lane_book.specs.FacesOf.{lane_at}
+use Rattle.lane_book.specs.FacesOf.{lane_at, faces_of}
 use Rattle.lane_book.specs.Lanes.{with_lane, refused_lane}
-use Rattle.lane_book.specs.Refusals.{AreStructures, ShowsBlocks, IsAdmitted, IsRefusedBy}
+use Rattle.lane_book.specs.Refusals.{AreStructures, ShowsBlocks, IsAdmitted, IsRefusedBy, Decides, Told}
 use Rattle.lane_book.specs.Refusals as refusals
 use Rattle.lane_book.specs.Steps.{Asks}
 use Rattle.log_keeper.specs.declared.keeper.LogKeeper.{LogKeeper}
 use Rattle.lawful_book.proofs.GoingOn.{refused_on}
-use Rattle.lawful_book.proofs.Kept.{steps_keep}
-use Rattle.lawful_book.proofs.Showing.{blocks_shown}
+use Rattle.txn_core.proofs.LawfulKept.{steps_keep, blocks_shown}
+use Rattle.lawful_book.specs.OwnedBooks.{moves_block}
+use Rattle.lawful_book.proofs.OwnedHeaps.{never, by_bool}
 use Rattle.txn_state.specs.QuietLaws.{HasSameTransaction}
 use Rattle.txn_state.proofs.SameTransaction.{notes_keep}
 use Rattle.txn_core.specs.Asking.{ChangesFace, StaysAsked, StaysAlways, IsAsked, LacksMemory, CanBeAsked, IsExact, need_for, room_for, WritesData}
 use Rattle.txn_core.specs.Phases.{IsPhased, ArePhased}
 use Rattle.txn_core.specs.States.{IsKept}
-use Rattle.txn_core.proofs.Memory.{goes_to}
 use Rattle.txn_core.proofs.Phasing.{phased_with}
+use Rattle.txn_core.proofs.Paying.{goes_lane}
 
 -- ---- a call in its phase
 
@@ -78,6 +79,7 @@ can_be_asked layout book words l need call lt phased told data_word admitted = r
   mine = admitted.passes.mine;
   data_word = data_word;
   room = λ logged. subst (λ n. n ≤ room_for layout words l) told (admitted.passes.room_is_there logged);
+  free = admitted.free;
 }
 
 -- ---- what the state says
@@ -90,12 +92,28 @@ module _ {E : Type 0} (deeds : Deeds E) (layout : Layout) (base : Base) (book : 
   pub structures_are : AreStructures book.blocks
   structures_are block s owned = ∥∥₁_elim kept le_prop (λ w. w.state.is_book.structures block s owned)
 
-  pub shows_blocks : (l : ℕ) → ShowsBlocks layout book l base
-  shows_blocks l = record {
-    start = ∥∥₁_elim kept (ℕ_set _ _) (λ w. (blocks_shown deeds layout base book w.lawful l).start);
-    blocks = ∥∥₁_elim kept (ℕ_set _ _) (λ w. (blocks_shown deeds layout base book w.lawful l).blocks);
-    mine = λ block lt. ∥∥₁_elim kept (Coded-set coded_bool _ _) (λ w. (blocks_shown deeds layout base book w.lawful l).mine block lt);
+  -- a lane that is about no take and no give sees its blocks
+  pub shows_blocks : (l : ℕ) → moves_block (lane_at book l).doing ≡ false → ShowsBlocks layout book l base
+  shows_blocks l calm = record {
+    start = ∥∥₁_elim kept (ℕ_set _ _) (λ w. (blocks_shown deeds layout base book w.lawful l calm).start);
+    blocks = ∥∥₁_elim kept (ℕ_set _ _) (λ w. (blocks_shown deeds layout base book w.lawful l calm).blocks);
+    mine = λ block lt. ∥∥₁_elim kept (Coded-set coded_bool _ _) (λ w. (blocks_shown deeds layout base book w.lawful l calm).mine block lt);
   }
+
+  -- and each is told by its face why it is refused: one that moves a block is in a call
+  pub told_anyway : (l room need : ℕ) (call : Call E) (refusal : Option Refusal) → IsPhased (lane_at book l) → Decides layout room need book.blocks (lane_at book l) call refusal →
+      (ShowsBlocks layout book l base → Told (faces_of base book l) call refusal) → Told (faces_of base book l) call refusal
+  told_anyway l room need call refusal phased decides told = by_bool _ (moves_block (lane_at book l).doing) (λ moves. by refusal moves decides) (λ calm. told (shows_blocks l calm))
+    where
+      resting : moves_block (lane_at book l).doing ≡ true → (lane_at book l).phase ≡ wanted call → ⊥
+      resting moves phase = never _ moves (ap moves_block (rests (lane_at book l) call phased phase))
+
+      by : (r : Option Refusal) → moves_block (lane_at book l).doing ≡ true → Decides layout room need book.blocks (lane_at book l) call r → Told (faces_of base book l) call r
+      by None moves admitted = absurd (resting moves admitted.passes.phase)
+      by (Some _) moves (IsRefusedBy.by_phase other) = record { is = refl; other = other }
+      by (Some _) moves (IsRefusedBy.by_owner phase strange) = absurd (resting moves phase)
+      by (Some _) moves (IsRefusedBy.by_room phase mine logged short) = absurd (resting moves phase)
+      by (Some _) moves (IsRefusedBy.by_heap passes takes none) = absurd (resting moves passes.phase)
 
 -- ---- a refusal
 
@@ -133,7 +151,7 @@ pub stays_refused : {E : Type 0} (deeds : Deeds E) (book later : Book E) (l : �
     later ≡ with_lane book l (refused_lane call refusal (lane_at book l)) book.touched → IsBook later → StaysAlways deeds book later
 stays_refused deeds book later l call refusal lt is good layout base keeper region spare counts world = ∥∥₁_map world (λ w. record {
   state = notes_keep layout _ book later keeper region spare counts.events l (refused_lane call refusal (lane_at book l)) (refused_same call refusal (lane_at book l))
-      (goes_to book later l (refused_lane call refusal (lane_at book l)) book.touched lt is) good w.state;
+      (goes_lane book later l (refused_lane call refusal (lane_at book l)) book.touched lt is) good w.state;
   lawful = steps_keep deeds layout base book later l (refused_lane call refusal (lane_at book l)) book.touched w.lawful lt is (refused_on call refusal (lane_at book l));
 })
 

@@ -48,12 +48,12 @@ data_word layout h a stands is =
     let off : (a - heap (layout_shape layout)) % 16 ≢ 0 = subst (λ n. (a - n) % 16 ≢ 0) stands.start (other_of ((a - h.start) % 16) 0 others.1) in
     ((le, inside_blocks a (heap (layout_shape layout)) layout.blocks le lt), no_first a (heap (layout_shape layout)) le off)
 
-module _ {E : Type 0} (deeds : Deeds E) (layout : Layout) (base : Base) (book : Book E) (l : ℕ) (stands : StandsAt layout base.heap) where
+module _ {E : Type 0} (deeds : Deeds E) (layout : Layout) (base : Base) (book : Book E) (l : ℕ) (stands : StandsAt layout base.heap) (few : base.structures ≤ 8) (structures : base.structures ≡ layout.structures) where
   pub names_inside : (call : Call E) → IsBuilt call → May deeds (faces_of base book l) call → NamesInside layout call
   names_inside (Call.Begin set) built may = tt
   names_inside (Call.Read a) built may = (data_word layout base.heap a stands may).0
   names_inside (Call.Write a v) built may = (data_word layout base.heap a stands may).0
-  names_inside (Call.Take s) built may = absurd built
+  names_inside (Call.Take s) built may = omega (arith, may, few)
   names_inside (Call.Give block) built may = absurd built
   names_inside (Call.Commit deed) built may = tt
   names_inside Call.Abort built may = tt
@@ -66,7 +66,7 @@ module _ {E : Type 0} (deeds : Deeds E) (layout : Layout) (base : Base) (book : 
   names_data (Call.Begin set) built may = tt
   names_data (Call.Read a) built may = may
   names_data (Call.Write a v) built may = may
-  names_data (Call.Take s) built may = absurd built
+  names_data (Call.Take s) built may = tt
   names_data (Call.Give block) built may = absurd built
   names_data (Call.Commit deed) built may = tt
   names_data Call.Abort built may = tt
@@ -79,7 +79,7 @@ module _ {E : Type 0} (deeds : Deeds E) (layout : Layout) (base : Base) (book : 
   writes_data (Call.Begin set) built may = tt
   writes_data (Call.Read a) built may = tt
   writes_data (Call.Write a v) built may = data_word layout base.heap a stands may
-  writes_data (Call.Take s) built may = absurd built
+  writes_data (Call.Take s) built may = subst (λ n. s < n) structures may
   writes_data (Call.Give block) built may = absurd built
   writes_data (Call.Commit deed) built may = tt
   writes_data Call.Abort built may = tt

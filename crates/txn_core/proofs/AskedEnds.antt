@@ -27,9 +27,9 @@ use Rattle.lane_book.specs.Reserved.{added_by, needed_by, promised_by, is_bound,
 use Rattle.lane_book.specs.Steps.{Asks, IsAskedOf, IsAskedIn, IsRoomierIn}
 use Rattle.lane_book.specs.Steps as steps
 use Rattle.lawful_book.specs.Laws as laws
-use Rattle.lawful_book.proofs.Fitting as fitting
+use Rattle.txn_core.proofs.LawfulKept as fitting
 use Rattle.lawful_book.proofs.Histories.{Depends}
-use Rattle.lawful_book.proofs.Kept.{asks_keep, commit_asks_keep, same_books_keep}
+use Rattle.txn_core.proofs.LawfulKept.{asks_keep, commit_asks_keep, same_books_keep}
 use Rattle.log_keeper.specs.declared.keeper.LogKeeper.{LogKeeper}
 use Rattle.log_keeper.specs.Keeper.{keeping_of, HasRoomIn}
 use Rattle.log_keeper.specs.Listing.{gates_in}
@@ -42,13 +42,15 @@ use Rattle.txn_state.specs.States.{HasNoEntry}
 use Rattle.txn_state.specs.Ties.{plain_entry, plain_write}
 use Rattle.txn_state.proofs.Asks.{ends_are_asked}
 use Rattle.txn_state.proofs.SameTransaction.{places_are_taken}
-use Rattle.txn_core.specs.Asking.{ChangesFace, Owes, StaysAlways, StaysBetween}
-use Rattle.txn_core.specs.AskedEnds.{IsCommitAsked, StaysTaken, StaysRefused}
+use Rattle.txn_core.specs.Asking.{ChangesFace, Owes, StaysAlways, StaysBetween, StaysTaken, StaysRefused}
+use Rattle.txn_core.specs.AskedEnds.{IsCommitAsked}
 use Rattle.txn_core.specs.Phases.{IsPhased, ArePhased}
 use Rattle.txn_core.specs.States.{IsKept, HasWorld}
+use Rattle.txn_core.proofs.AskedFaces.{owed_phases}
 use Rattle.txn_core.proofs.Asked.{changes_face, stays_roomier}
-use Rattle.txn_core.proofs.Memory.{exact, goes_to}
+use Rattle.txn_core.proofs.Memory.{exact}
 use Rattle.txn_core.proofs.OpenParts.{begins_clear}
+use Rattle.txn_core.proofs.Paying.{goes_lane}
 
 -- ---- what the code gets of a world's state
 
@@ -59,7 +61,7 @@ module _ {E : Type 0} (deeds : Deeds E) (layout : Layout) (book : Book E) (keepe
 
   -- for now no block is given
   pub gives_none : (l : ℕ) → HasWorld deeds layout book keeper region spare counts → (lane_at book l).gives.items ≡ []
-  gives_none l world = ∥∥₁_elim world (Coded-set (coded_list coded_ℕ) (lane_at book l).gives.items []) (λ w. (w.1.lawful.lanes l).no_gives)
+  gives_none l world = ∥∥₁_elim world (Coded-set (coded_list coded_ℕ) (lane_at book l).gives.items []) (λ w. (w.1.lawful.no_gives l))
 
 pub none_inside : (layout : Layout) (gives : List ℕ) → gives ≡ [] → AreBlocks layout gives
 none_inside layout gives none = subst (AreBlocks layout) (sym none) tt
@@ -69,15 +71,7 @@ is_between lane nothing phase = ap (stage_at lane.phase lane.has_records lane.pa
 
 -- ---- behind the memory
 
--- the lane owes, and no face is another
-pub same_owing : {E : Type 0} (book mid : Book E) (l m n : ℕ) → Owes book mid l m n → ChangesFace (λ face. face) book mid l
-same_owing book mid l m n owes = record {
-  asks = λ base. record { others = λ k ne. owes.faces base k; face = owes.faces base l };
-  many = owes.goes.lanes.count;
-  touched = owes.touched;
-}
-
--- and then its face is
+-- the lane owes, and then its face is
 pub after_owing : {E : Type 0} (change : WholeFace E → WholeFace E) (book mid later : Book E) (l m n : ℕ) → Owes book mid l m n → ChangesFace change mid later l → ChangesFace change book later l
 after_owing change book mid later l m n owes behind = record {
   asks = λ base. record {
@@ -125,9 +119,6 @@ phased_to book later l lane goes step phased k = ⊎_elim (λ same. here same.1)
 
     there : k ≢ l → IsPhased (lane_at later k)
     there ne = subst IsPhased (sym (goes.lanes.others k ne)) (phased k)
-
-pub phased_owing : {E : Type 0} (book mid : Book E) (l m n : ℕ) → Owes book mid l m n → ArePhased book → ArePhased mid
-phased_owing book mid l m n owes = phased_to book mid l (owing m n (lane_at book l)) owes.goes (λ was. record { calling = was.calling; joined = was.joined; undone = was.undone })
 
 pub phased_places : {E : Type 0} (book stocked : Book E) → HasMorePlaces book stocked → ArePhased book → ArePhased stocked
 phased_places book stocked places phased k = subst IsPhased (sym (ap (λ (b : Book _). lane_at b k) places.is)) (phased k)
@@ -285,8 +276,8 @@ pub stays_aborting : {E : Type 0} (deeds : Deeds E) (layout : Layout) (base : Ba
     May deeds (faces_of base book l) Call.Abort → IsKept deeds layout base book keeper region spare counts → IsKept deeds layout base later keeper region spare counts
 stays_aborting deeds layout base book later keeper region spare counts l lt nothing phase good enough asked reserved fits may world = ∥∥₁_map world (λ w. record {
   state = ends_are_asked layout _ book later keeper region spare counts.events l false (lane_at later l)
-      (asks_abort layout book keeper l (lane_at later l) nothing phase (w.state.is_book.entries.others l (ap is_commit nothing)).none asked.lane (w.lawful.lanes l).no_gives enough)
-      (λ q. none_reserved 0 Call.Abort book later l layout.partitions 0 q refl (reserved 0)) (goes_to book later l (lane_at later l) book.touched lt asked.is) good w.state;
+      (asks_abort layout book keeper l (lane_at later l) nothing phase (w.state.is_book.entries.others l (ap is_commit nothing)).none asked.lane (w.lawful.no_gives l) enough)
+      (λ q. none_reserved 0 Call.Abort book later l layout.partitions 0 q refl (reserved 0)) (goes_lane book later l (lane_at later l) book.touched lt asked.is) good w.state;
   lawful = asks_keep deeds layout base book later l 0 Call.Abort Doing.Abort [] w.lawful lt nothing (laws.plain steps.abort) fits may asked;
 })
 
@@ -353,9 +344,9 @@ pub stays_committing : {E : Type 0} (deeds : Deeds E) → Depends deeds → (lay
     IsKept deeds layout base book keeper region spare counts → IsKept deeds layout base later keeper region spare counts
 stays_committing deeds depends layout base book later keeper region spare counts l deed lt nothing phase begun good enough room is reserved fits may world = ∥∥₁_map world (λ w. record {
   state = ends_are_asked layout _ book later keeper region spare counts.events l true (committing l deed (writes_of_entry layout (lane_at book l)) (lane_at book l))
-      (asks_commit layout book keeper l deed nothing phase (w.state.is_book.entries.others l (ap is_commit nothing)) begun (w.lawful.lanes l).no_gives room enough)
+      (asks_commit layout book keeper l deed nothing phase (w.state.is_book.entries.others l (ap is_commit nothing)) begun (w.lawful.no_gives l) room enough)
       (λ q. none_reserved 0 (Call.Commit deed) book later l layout.partitions 0 q refl (reserved 0))
-      (goes_to book later l (committing l deed (writes_of_entry layout (lane_at book l)) (lane_at book l)) book.touched lt is) good w.state;
+      (goes_lane book later l (committing l deed (writes_of_entry layout (lane_at book l)) (lane_at book l)) book.touched lt is) good w.state;
   lawful = commit_asks_keep deeds depends layout base book later l deed (writes_of_entry layout (lane_at book l)) book.touched w.lawful w.state.is_book.kept lt nothing fits may refl is;
 })
 
@@ -399,10 +390,10 @@ pub phased_commit : {E : Type 0} (layout : Layout) (deed : E) (book mid later : 
 phased_commit layout deed book mid later l m n lt nothing owes it phased =
     let lane = committing l deed (writes_of_entry layout (lane_at it.stocked l)) (lane_at it.stocked l) in
     phased_to it.stocked later l lane
-    (goes_to it.stocked later l lane it.stocked.touched (subst (λ k. l < k) (sym (ap (λ (b : Book _). length b.lanes.items) it.places.is ∙ owes.goes.lanes.count)) lt) it.is)
+    (goes_lane it.stocked later l lane it.stocked.touched (subst (λ k. l < k) (sym (ap (λ (b : Book _). length b.lanes.items) it.places.is ∙ owes.goes.lanes.count)) lt) it.is)
     (phased_committing l deed (writes_of_entry layout (lane_at it.stocked l)) (lane_at it.stocked l)
     (ap (λ (x : Lane _). x.doing) (stocked_lane book mid it.stocked l m n owes it.places) ∙ nothing))
-    (phased_places mid it.stocked it.places (phased_owing book mid l m n owes phased))
+    (phased_places mid it.stocked it.places (owed_phases book mid l m n owes phased))
 
 -- ---- behind the memory, as an abort
 
@@ -422,12 +413,12 @@ module _ {E : Type 0} (book mid later : Book E) (l m n : ℕ) (lt : l < length b
   idle = ap (λ (x : Lane E). x.doing) owes.goes.lanes.here ∙ nothing
 
   pub phased_abort : IsAskedIn Call.Abort Doing.Abort [] [] 0 mid later l → ArePhased book → ArePhased later
-  phased_abort asked phased = phased_to mid later l (lane_at later l) (goes_to mid later l (lane_at later l) mid.touched inside asked.is)
-      (phased_aborting (lane_at mid l) (lane_at later l) idle asked.lane) (phased_owing book mid l m n owes phased)
+  phased_abort asked phased = phased_to mid later l (lane_at later l) (goes_lane mid later l (lane_at later l) mid.touched inside asked.is)
+      (phased_aborting (lane_at mid l) (lane_at later l) idle asked.lane) (owed_phases book mid l m n owes phased)
 
   pub phased_refused : IsRoomierIn mid later l → ArePhased book → ArePhased later
-  phased_refused roomier phased = phased_to mid later l (lane_at later l) (goes_to mid later l (lane_at later l) mid.touched inside roomier.is)
-      (phased_roomier (lane_at mid l) (lane_at later l) roomier.lane) (phased_owing book mid l m n owes phased)
+  phased_refused roomier phased = phased_to mid later l (lane_at later l) (goes_lane mid later l (lane_at later l) mid.touched inside roomier.is)
+      (phased_roomier (lane_at mid l) (lane_at later l) roomier.lane) (owed_phases book mid l m n owes phased)
 
   pub changes_abort : Asks (asked Call.Abort) mid later l → IsAskedIn Call.Abort Doing.Abort [] [] 0 mid later l → ChangesFace (asked Call.Abort) book later l
   changes_abort asks it = after_owing (asked Call.Abort) book mid later l m n owes (changes_face (asked Call.Abort) mid later l it.is asks)

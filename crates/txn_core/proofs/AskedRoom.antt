@@ -33,7 +33,7 @@ use Rattle.txn_core.proofs.Latches.{part_of_lane}
 
 -- ---- the room
 
-few_closed : (w : Words) (b n : ℕ) → closed_cells w b n ≤ n
+pub few_closed : (w : Words) (b n : ℕ) → closed_cells w b n ≤ n
 few_closed w b zero = omega arith
 few_closed w b (suc n) = by (w (cell_address b n) == 0) (few_closed w b n)
   where
@@ -41,7 +41,7 @@ few_closed w b (suc n) = by (w (cell_address b n) == 0) (few_closed w b n)
     by true le = omega (arith, le)
     by false le = omega (arith, le)
 
-few_buckets : (shape : Shape) (p : ℕ) → count_buckets shape p ≤ shape.buckets
+pub few_buckets : (shape : Shape) (p : ℕ) → count_buckets shape p ≤ shape.buckets
 few_buckets shape p = by (p + 1 == shape.partitions)
   where
     by : (t : Bool) → (if t then shape.buckets - first_bucket shape p else shape.buckets / shape.partitions) ≤ shape.buckets
@@ -82,7 +82,11 @@ few_added k lane (Call.Write a v) built = by (is_bound lane)
     by : (t : Bool) → 2 + (if t then 0 else 2) ≤ 4
     by true = omega arith
     by false = omega arith
-few_added k lane (Call.Take s) built = absurd built
+few_added k lane (Call.Take s) built = by (is_bound lane)
+  where
+    by : (t : Bool) → 2 + (if t then 0 else 2) ≤ 4
+    by true = omega arith
+    by false = omega arith
 few_added k lane (Call.Give block) built = absurd built
 few_added k lane (Call.Commit deed) built = omega arith
 few_added k lane Call.Abort built = omega arith
@@ -94,7 +98,7 @@ few_added k lane (Call.RollbackTo n) built = absurd built
 module _ {E : Type 0} (layout : Layout) (book : Book E) (keeper : LogKeeper) (words : List ℕ) (region : Region) (counts : Counts) (l : ℕ) (call : Call E)
     (read : IsRead words region counts) where
   -- what is reserved has room
-  reserved_fits : (start : Words) (spare events : ℕ) → IsStateOf layout start book keeper region spare events → reserved_for layout book (l % layout.partitions) ≤ room_for layout words l
+  pub reserved_fits : (start : Words) (spare events : ℕ) → IsStateOf layout start book keeper region spare events → reserved_for layout book (l % layout.partitions) ≤ room_for layout words l
   reserved_fits start spare events st =
       let shape = layout_shape layout in
       let p : ℕ = l % layout.partitions in

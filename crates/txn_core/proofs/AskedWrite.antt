@@ -25,9 +25,9 @@ use Rattle.txn_state.specs.QuietLaws.{AsksWrite, HasRoomForAsk}
 use Rattle.txn_state.specs.Stages.{stage_of, stage_at, idle_stage, is_commit}
 use Rattle.txn_state.proofs.Asks.{writes_are_asked}
 use Rattle.lawful_book.specs.Laws as laws
-use Rattle.lawful_book.proofs.Kept.{asks_keep}
+use Rattle.txn_core.proofs.LawfulKept.{asks_keep}
 use Rattle.txn_core.specs.States.{IsKept}
-use Rattle.txn_core.proofs.Memory.{goes_to}
+use Rattle.txn_core.proofs.Paying.{goes_lane}
 
 abbrev pub one_write : ℕ → ℕ → WordWrite
 one_write a v = record { address = a; value = v }
@@ -74,6 +74,6 @@ pub stays_writing : {E : Type 0} (deeds : Deeds E) (layout : Layout) (base : Bas
 stays_writing deeds layout base book later keeper region spare counts l a v lt nothing phase good asked data_word own events records room fits may world = ∥∥₁_map world (λ w. record {
   state = writes_are_asked layout _ book later keeper region spare counts.events l (one_write a v) (lane_at later l)
       (asks_write layout book l a v (lane_at later l) nothing phase (w.state.is_book.entries.others l (ap is_commit nothing)).none asked.lane data_word own events records)
-      room (goes_to book later l (lane_at later l) book.touched lt asked.is) good w.state;
+      room (goes_lane book later l (lane_at later l) book.touched lt asked.is) good w.state;
   lawful = asks_keep deeds layout base book later l 2 (Call.Write a v) (Doing.Write a v) (one_write a v ∷ []) w.lawful lt nothing laws.write fits may asked;
 })

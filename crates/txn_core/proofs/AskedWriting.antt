@@ -26,12 +26,12 @@ use Rattle.log_keeper.specs.Rooms.{IsRoomAt}
 use Rattle.txn_state.specs.AppendLaws.{newest_image}
 use Rattle.txn_state.specs.Owing.{append_most}
 use Rattle.txn_state.specs.QuietLaws.{HasRoomForAsk}
-use Rattle.txn_state.specs.Stages.{Between, stage_of, stage_at, idle_stage}
 use Rattle.txn_state.specs.States.{IsStateOf}
 use Rattle.txn_state.proofs.ReservedRoom.{views_are_read}
 use Rattle.txn_core.specs.Asking.{Owes, StaysBetween, IsAsked, LacksMemory, need_for, room_for}
 use Rattle.txn_core.specs.Phases.{ArePhased}
 use Rattle.txn_core.specs.States.{IsKept, start_of}
+use Rattle.txn_core.proofs.AskedEnds.{is_between}
 use Rattle.txn_core.proofs.Facts.{IsRead}
 use Rattle.txn_core.proofs.Latches.{part_of_lane}
 use Rattle.txn_core.proofs.Asked.{changes_face, stays_roomier}
@@ -78,16 +78,13 @@ need_stays layout book mid l m n a v owes = λ i. owes.reserved layout.partition
 
 -- ---- the state
 
-pub between_calls : {E : Type 0} (book : Book E) (l : ℕ) → (lane_at book l).doing ≡ Doing.Nothing → (lane_at book l).phase ≡ Phase.In → stage_of (lane_at book l) ≡ Between
-between_calls book l nothing phase = ap (stage_at (lane_at book l).phase (lane_at book l).has_records (lane_at book l).part) nothing ∙ ap idle_stage phase
-
 module _ {E : Type 0} (deeds : Deeds E) (layout : Layout) (book mid later : Book E) (keeper kept : LogKeeper) (words : List ℕ) (region : Region) (spare left : ℕ) (counts : Counts) (l : ℕ)
     (read : IsRead words region counts) (lt : l < length book.lanes.items) (nothing : (lane_at book l).doing ≡ Doing.Nothing) (phase : (lane_at book l).phase ≡ Phase.In)
     (phased_mid : ArePhased book → ArePhased mid) (takes : StaysBetween deeds book mid keeper kept region spare left counts l) where
   -- memory is wanting from the start
   pub lacks_at_once : Owes book mid l 0 0 → LacksMemory deeds layout book mid keeper kept region spare left counts l
   lacks_at_once owes = record {
-    stays = λ base world. takes layout base (between_calls book l nothing phase) world;
+    stays = λ base world. takes layout base (is_between (lane_at book l) nothing phase) world;
     face = owed_face book mid l 0 0 owes;
     phased = phased_mid;
   }
@@ -102,7 +99,7 @@ module _ {E : Type 0} (deeds : Deeds E) (layout : Layout) (book mid later : Book
     -- or for the call's own lists
     pub lacks_behind : IsRoomierIn mid later l → Asks (λ face. face) mid later l → LacksMemory deeds layout book later keeper kept region spare left counts l
     lacks_behind roomier asks = record {
-      stays = λ base world. stays_roomier deeds mid later l inside_mid rests_mid roomier good layout base kept region left counts (takes layout base (between_calls book l nothing phase) world);
+      stays = λ base world. stays_roomier deeds mid later l inside_mid rests_mid roomier good layout base kept region left counts (takes layout base (is_between (lane_at book l) nothing phase) world);
       face = face_then (λ face. face) book mid later l (owed_face book mid l m n owes) (changes_face (λ face. face) mid later l roomier.is asks);
       phased = λ phased. roomier_phases mid later l inside_mid roomier (phased_mid phased);
     }
@@ -128,7 +125,7 @@ module _ {E : Type 0} (deeds : Deeds E) (layout : Layout) (book mid later : Book
 
       pub write_asked : IsAsked deeds layout (Call.Write a v) book later keeper kept region spare left counts l
       write_asked = record {
-        stays = λ base fits may world. stays base fits may (takes layout base (between_calls book l nothing phase) world);
+        stays = λ base fits may world. stays base fits may (takes layout base (is_between (lane_at book l) nothing phase) world);
         face = face_then (asked (Call.Write a v)) book mid later l (owed_face book mid l m n owes) (changes_face (asked (Call.Write a v)) mid later l has.is asks);
         phased = λ phased. asked_phases mid later l (Call.Write a v) (Doing.Write a v) (one_write a v ∷ []) [] 2 inside_mid rests_mid has (phased_mid phased);
       }

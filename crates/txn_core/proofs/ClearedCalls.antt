@@ -1,7 +1,10 @@
 -- What a call that clears is asked behind the last event of its part.
-use Rattle.std.proofs.Common.{◌≡◌, ◌⊎◌, inl, inr, ℕ, ◌%◌, ◌<◌, Bool, true, length, filter, Option, Some, None, refl, sym, ◌∙◌, ap}
+use Rattle.std.proofs.Common.{◌≡◌, ◌⊎◌, inl, inr, ℕ, ◌%◌, ◌<◌, Bool, true, false, length, filter, List, [], ◌∷◌, Option, Some, None, refl, sym, ◌∙◌, ap, subst}
 use Rattle.std.proofs.Math.Logic.{∥∥₁_map, ∥∥₁_elim}
+use Rattle.std.proofs.Math.Nat.{ℕ_set}
+use Rattle.std.specs.Coded.{×_prop, Unit-prop, le_prop}
 use Rattle.persist_model.specs.Region.{Region}
+use Rattle.lane_traits.specs.declared.draft.WordWrite.{WordWrite}
 use Rattle.lane_traits.specs.Device.{Counts}
 use Rattle.region_layout.specs.declared.layout.Layout.{Layout}
 use Rattle.region_layout.specs.Layout.{layout_shape}
@@ -15,14 +18,16 @@ use Rattle.lane_book.specs.Lanes.{with_lane, paid_event}
 use Rattle.lane_book.specs.Steps.{HasEntered}
 use Rattle.lane_book.specs.Books.{IsBook}
 use Rattle.lane_book.specs.Calls.{IsCalling}
+use Rattle.lane_book.specs.Refusals.{AreHeapWords}
 use Rattle.log_keeper.specs.declared.keeper.LogKeeper.{LogKeeper}
 use Rattle.log_keeper.specs.Parts.{rests, Running}
 use Rattle.log_keeper.specs.Logged.{Keeping}
 use Rattle.log_keeper.specs.Keeper.{keeping_of}
 use Rattle.txn_state.specs.Stages.{Stage, ClosingEnd, Dropping, stage_of, is_commit}
-use Rattle.txn_state.specs.ReadLaws.{clears_in, makes_events}
+use Rattle.txn_state.specs.ReadLaws.{clears_in, makes_events, appends_in}
 use Rattle.txn_state.specs.Changes.{GoesTo}
 use Rattle.txn_state.specs.ClosingLaws.{HasCleared}
+use Rattle.txn_state.specs.Ties.{IsWrittenWord}
 use Rattle.txn_state.proofs.Making.{made_ends}
 use Rattle.txn_state.proofs.StageSteps.{EndsCall, commit, abort, call_at}
 use Rattle.txn_core.specs.declared.advancing.Went.TheVariants as Went
@@ -31,11 +36,13 @@ use Rattle.txn_core.specs.Advancing.{Advances, whole}
 use Rattle.txn_core.specs.Phases.{IsPhased}
 use Rattle.txn_core.specs.States.{IsWorld, HasWorld}
 use Rattle.txn_core.proofs.Facts.{slots_are}
+use Rattle.txn_core.proofs.Freeing.{each_of, in_heap}
 use Rattle.txn_core.proofs.Calling.{is_calling}
-use Rattle.txn_core.proofs.Paid.{goes_with, lanes_paid}
+use Rattle.txn_core.proofs.Paid.{lanes_paid}
 use Rattle.txn_core.proofs.Ending.{paid_calls}
 use Rattle.txn_core.proofs.Closings.{whole_pays}
 use Rattle.txn_core.proofs.Stagings.{has_joined}
+use Rattle.txn_core.proofs.Paying.{goes_lane}
 
 -- ---- the call
 
@@ -50,6 +57,10 @@ cleared_clears lane (inr at) = ap clears_in at
 pub cleared_makes : {E : Type 0} (lane : Lane E) → HasCleared lane → makes_events (stage_of lane) ≡ true
 cleared_makes lane (inl at) = ap makes_events at
 cleared_makes lane (inr at) = ap makes_events at
+
+pub cleared_own : {E : Type 0} (lane : Lane E) → HasCleared lane → appends_in (stage_of lane) ≡ false
+cleared_own lane (inl at) = ap appends_in at
+cleared_own lane (inr at) = ap appends_in at
 
 -- it ends a transaction
 ends_call : {E : Type 0} (lane : Lane E) → HasCleared lane → (lane.doing ≡ Doing.Commit) ⊎ (lane.doing ≡ Doing.Abort)
@@ -78,6 +89,10 @@ has_entered deeds layout book keeper region spare counts l doing at phased world
     joined : (base : Base) × IsWorld deeds layout base book keeper region spare counts.events → HasEntered book l
     joined w = w.1.state.is_book.entries.joined l (ap is_commit doing) on
 
+heap_words_prop : (layout : Layout) (writes : List WordWrite) → IsProp (AreHeapWords layout writes)
+heap_words_prop layout [] = Unit-prop
+heap_words_prop layout (w ∷ writes) = ×_prop (×_prop le_prop le_prop) (heap_words_prop layout writes)
+
 -- ---- behind the event
 
 module _ {E : Type 0} (deeds : Deeds E) (layout : Layout) (book between : Book E) (keeper mid : LogKeeper) (region behind : Region) (spare left : ℕ)
@@ -99,10 +114,20 @@ module _ {E : Type 0} (deeds : Deeds E) (layout : Layout) (book between : Book E
     pays = whole_pays deeds layout keeper mid region behind counts after spare left book between l went
 
     goes : GoesTo book between l (paid_event (lane_at book l))
-    goes = goes_with book between l (paid_event (lane_at book l)) book.touched lt pays
+    goes = goes_lane book between l (paid_event (lane_at book l)) book.touched lt pays
 
     same_doing : (lane_at between l).doing ≡ (lane_at book l).doing
     same_doing = ap (λ (x : Lane _). x.doing) goes.lanes.here
+
+    -- the lane's writes are of heap words, and the blocks are the layout's
+    pub writes_behind : HasWorld deeds layout book keeper region spare counts → AreHeapWords layout (lane_at between l).writes.items
+    writes_behind world = subst (λ (x : Lane _). AreHeapWords layout x.writes.items) (sym goes.lanes.here)
+        (∥∥₁_elim world (heap_words_prop layout (lane_at book l).writes.items) (λ y. in_heap layout (lane_at book l).writes.items
+        (each_of (λ (w : WordWrite). IsWrittenWord (layout_shape layout) w.address) (lane_at book l).writes.items
+        (y.1.state.tied.each l (subst (λ n. l < n) (sym y.1.state.tied.lanes) lt)).written_words)))
+
+    pub blocks_behind : HasWorld deeds layout book keeper region spare counts → length between.blocks ≡ layout.blocks
+    blocks_behind world = ap (λ bs. length bs) goes.lanes.blocks ∙ ∥∥₁_elim world (ℕ_set _ _) (λ y. y.1.state.is_book.blocks)
 
     -- the lane is in its call, which ends a transaction,
     pub calls_behind : HasWorld deeds layout book keeper region spare counts → IsBook between → IsCalling between l

@@ -1,5 +1,5 @@
 -- What the last event of a closing's first group leaves.
-use Rattle.std.proofs.Common.{◌≡◌, ℕ, ◌%◌, ◌<◌, ◌≤◌, ◌-◌, true, length, None, sym, ◌∙◌, ap, subst}
+use Rattle.std.proofs.Common.{◌≡◌, ℕ, ◌%◌, ◌<◌, ◌≤◌, ◌-◌, true, length, None, refl, sym, ◌∙◌, ap, subst}
 use Rattle.std.proofs.Math.Logic.{∥∥₁_elim}
 use Rattle.std.proofs.Math.Bridge.{le_prop}
 use Rattle.std.specs.Vec.{vec_len, vec_capacity}
@@ -10,6 +10,7 @@ use Rattle.lane_types.specs.declared.call.Stepped.{Stepped}
 use Rattle.lane_types.specs.Deeds.{Deeds}
 use Rattle.lane_types.specs.Faces.{Base}
 use Rattle.lane_book.specs.declared.book.Book.{Book}
+use Rattle.lane_book.specs.declared.lane.Lane.{Lane}
 use Rattle.lane_book.specs.FacesOf.{lane_at}
 use Rattle.lane_book.specs.Lanes.{with_lane, moved, paid_event}
 use Rattle.lane_book.specs.Calls.{Moves}
@@ -21,7 +22,7 @@ use Rattle.log_keeper.specs.Listing.{gates_in}
 use Rattle.log_keeper.specs.Logged.{Keeping}
 use Rattle.txn_state.specs.declared.parts.TheConstants.{CLOSE_END}
 use Rattle.txn_state.specs.Changes.{IsKept}
-use Rattle.txn_state.specs.Stages.{Closing, stage_of}
+use Rattle.txn_state.specs.Stages.{Closing, stage_at, stage_of}
 use Rattle.txn_state.specs.ClosingLaws.{end_closing_begun}
 use Rattle.txn_state.specs.AppendLaws.{AreLeft, made_in}
 use Rattle.txn_state.specs.States.{IsStateOf}
@@ -35,9 +36,11 @@ use Rattle.txn_core.specs.States.{IsWorld, HasWorld, start_of}
 use Rattle.txn_core.specs.Stepping.{StepsWorld, HasMade, IsCause}
 use Rattle.txn_core.proofs.Latches.{slots_kept, slot_of_lane}
 use Rattle.txn_state.specs.ReadLaws.{clears_in}
+use Rattle.txn_core.proofs.Latched.{same_part, turned_latches}
 use Rattle.txn_core.proofs.PhasedSteps.{part_phased, clears_on, end_group}
-use Rattle.txn_core.proofs.Paid.{goes_with, paid_goes, paid_step, lawful_with, lawful_paid, lanes_paid, count_paid, steps_world}
+use Rattle.txn_core.proofs.Paid.{paid_goes, paid_step, lawful_with, lawful_paid, lanes_paid, count_paid, steps_world}
 use Rattle.txn_core.proofs.Touching.{touches_none, made_leaves}
+use Rattle.txn_core.proofs.Paying.{goes_lane}
 
 -- ---- the keeper behind the event
 
@@ -71,15 +74,24 @@ closing_whole deeds layout book between later keeper mid kept region behind spar
     (count_paid book between later l (moved CLOSE_END (lane_at between l)) pays (ap (λ (b : Book _). b.lanes) moves.is))
     (λ base world. touches_none layout region behind later.touched (ap (λ (b : Book _). b.touched) moves.is)
     (made_leaves layout (start_of layout base) book keeper region behind spare left counts.events after.events l e is world.state))
+    (turned_latches deeds layout book book between keeper keeper mid region behind spare left counts after l (λ q ne. same_part keeper keeper refl q) later kept _ _
+    (whole (run_whole e is counted over made) pays) turned.kept (ap (λ (x : Lane _). clears_in (stage_of x)) behind_stage ∙ clears_next))
   where
     inside : l < length between.lanes.items
     inside = lanes_paid book between l pays lt
+
+    clears_next : clears_in (stage_at (lane_at book l).phase (lane_at book l).has_records CLOSE_END (lane_at book l).doing) ≡ true
+    clears_next = clears_on (lane_at book l).phase (lane_at book l).has_records (lane_at book l).part CLOSE_END (lane_at book l).doing end_group (ap clears_in at)
+
+    behind_stage : lane_at later l ≡ moved CLOSE_END (paid_event (lane_at book l))
+    behind_stage = (paid_goes book between later l (paid_event (lane_at book l)) (moved CLOSE_END) book.touched lt pays
+        (goes_lane between later l (moved CLOSE_END (lane_at between l)) None inside moves.is)).lanes.here
 
     stays : (base : Base) → IsWorld deeds layout base book keeper region spare counts.events → IsWorld deeds layout base later kept behind left after.events
     stays base world = record {
       state = closings_go_on layout (start_of layout base) book later keeper kept region behind spare left counts.events after.events l e is over at
           (paid_goes book between later l (paid_event (lane_at book l)) (moved CLOSE_END) book.touched lt pays
-          (goes_with between later l (moved CLOSE_END (lane_at between l)) None inside moves.is)) moves.kept
+          (goes_lane between later l (moved CLOSE_END (lane_at between l)) None inside moves.is)) moves.kept
           (turned_then keeper mid kept (made_in layout keeper (l % layout.partitions)) (end_closing_begun (l % layout.partitions) (lane_at book l).transaction) made turned) world.state;
       lawful = lawful_with deeds layout base between later l (moved CLOSE_END (lane_at between l)) None inside moves.is (moved_on CLOSE_END (lane_at between l))
           (lawful_paid deeds layout base book between l lt pays world.lawful);

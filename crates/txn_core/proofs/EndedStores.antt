@@ -27,11 +27,12 @@ use Rattle.txn_core.specs.Running.{stored as run_stored}
 use Rattle.txn_core.specs.Advancing.{Advances, Appends, waits, runs, stored}
 use Rattle.txn_core.specs.Stepping.{StepsWorld}
 use Rattle.txn_core.specs.States.{IsWorld, HasWorld, start_of}
+use Rattle.txn_core.proofs.Appended.{paid_inside, paid_part, paid_stage, stored_is_paid}
 use Rattle.txn_core.proofs.Facts.{IsRead}
 use Rattle.txn_core.proofs.Exits.{append_stored}
 use Rattle.txn_core.proofs.Stagings.{test_on}
 use Rattle.txn_core.proofs.UnderWay.{begun_paid, begun_world, stored_paid}
-use Rattle.txn_core.proofs.EndedLanes.{paid_inside, paid_part, paid_stage, open_on, stored_pays}
+use Rattle.txn_core.proofs.EndedLanes.{open_on}
 
 -- ---- the transaction is open yet
 
@@ -94,7 +95,7 @@ pub end_is_stored : {E : Type 0} (deeds : Deeds E) (layout : Layout) (book betwe
     StepsWorld deeds layout book later keeper kept region behind spare left counts after l answer
 end_is_stored deeds layout book between later keeper kept words region behind spare left counts after l part cell c answer read lt at next went
     same told falls moves =
-    let paid = stored_pays deeds layout book between keeper kept words region behind spare left counts after l cell lt c went in
+    let paid = stored_is_paid deeds layout book between keeper kept words region behind spare left counts after l cell lt c went in
     let moves_on : Moves deeds between later l None answer (moved (lane_at between l).part (with_end (lane_at between l))) =
     subst (λ n. Moves deeds between later l None answer (moved n (with_end (lane_at between l)))) (same ∙ sym (paid_part book between l paid)) moves in
     subst (λ (a : Stepped). StepsWorld deeds layout book later keeper kept region behind spare left counts after l a) (sym told)

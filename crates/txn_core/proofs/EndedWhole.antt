@@ -1,5 +1,5 @@
 -- The last event of the append of a transaction's end: the closing of its other records begins, and a commit's entry is in the history.
-use Rattle.std.proofs.Common.{◌≡◌, ℕ, ◌%◌, ◌<◌, ◌++◌, ◌∷◌, [], true, false, List, length, Option, Some, None, refl, sym, ap, ◌∙◌, subst}
+use Rattle.std.proofs.Common.{◌≡◌, ℕ, ◌%◌, ◌<◌, ◌++◌, ◌∷◌, [], Bool, true, false, List, length, Some, None, refl, sym, ap, ◌∙◌, subst}
 use Rattle.std.proofs.Math.Logic.{∥∥₁_map, ∥∥₁_elim}
 use Rattle.std.proofs.Math.Bridge.{le_prop}
 use Rattle.std.proofs.Math.Nat.{ℕ_set}
@@ -15,29 +15,33 @@ use Rattle.lane_types.specs.Deeds.{Deeds}
 use Rattle.lane_types.specs.Faces.{Base}
 use Rattle.lane_book.specs.declared.book.Book.{Book}
 use Rattle.lane_book.specs.declared.lane.Lane.{Lane}
-use Rattle.lane_book.specs.declared.lane.Doing.TheVariants as Doing
+use Rattle.lane_book.specs.declared.lane.Doing.{Doing}
+use Rattle.lane_types.specs.declared.call.Phase.{Phase}
 use Rattle.lane_book.specs.FacesOf.{lane_at, faces_of}
 use Rattle.lane_book.specs.Lanes.{with_lane, with_history, moved, entered_lane, paid_event}
 use Rattle.lane_book.specs.Books.{IsBook}
 use Rattle.lane_book.specs.Calls.{Moves}
-use Rattle.lane_book.specs.Steps.{Steps, HasEntry, IsNextEntry}
+use Rattle.lane_book.specs.Steps.{Steps, HasEntry}
 use Rattle.lawful_book.proofs.GoingOn.{moved_on}
 use Rattle.lawful_book.proofs.Histories.{Depends}
-use Rattle.lawful_book.proofs.Kept.{joins_keep}
+use Rattle.txn_core.proofs.LawfulKept.{joins_keep}
 use Rattle.log_keeper.specs.declared.keeper.LogKeeper.{LogKeeper}
-use Rattle.log_keeper.specs.Keeper.{keeping_of, HasRoomIn, KeepsSlots}
+use Rattle.log_keeper.specs.Keeper.{keeping_of, begun_in, HasRoomIn, KeepsSlots}
+use Rattle.log_keeper.specs.Parts.{closes}
 use Rattle.log_keeper.specs.Slots.{HasRoomOf}
 use Rattle.log_keeper.specs.Listing.{gates_in}
 use Rattle.log_keeper.specs.Logged.{Keeping}
 use Rattle.txn_state.specs.declared.parts.TheConstants.{CLOSE}
 use Rattle.txn_state.specs.Changes.{JoinsTo}
-use Rattle.txn_state.specs.Stages.{Ending, stage_of, is_commit}
+use Rattle.txn_state.specs.ReadLaws.{clears_in}
+use Rattle.txn_state.specs.Stages.{Ending, stage_at, stage_of, is_commit}
 use Rattle.txn_laws.specs.Txns.{txn_at}
 use Rattle.txn_state.specs.AppendLaws.{IsNextCell, made_in, closing_begun}
 use Rattle.txn_state.specs.States.{IsStateOf}
 use Rattle.txn_state.specs.Ties.{IsCome, IsEndingIt, under_of}
 use Rattle.txn_state.proofs.EndsSettling.{undone_ends_settle, commit_ends_settle}
 use Rattle.txn_state.proofs.ListRooms.{lists_are_kept}
+use Rattle.txn_state.proofs.StageSteps.{EndsCall, commit, abort, call_at, stage_of_call}
 use Rattle.txn_core.specs.declared.advancing.Went.TheVariants as Went
 use Rattle.txn_core.specs.Running.{whole as run_whole}
 use Rattle.txn_core.specs.Advancing.{Advances, Appends, waits, runs, whole}
@@ -46,17 +50,20 @@ use Rattle.txn_core.specs.Clearing.{HasTurned}
 use Rattle.txn_core.specs.States.{IsWorld, HasWorld, start_of}
 use Rattle.txn_core.specs.Phases.{ArePhased}
 use Rattle.txn_core.specs.Stepping.{StepsWorld, HasMade, IsCause}
+use Rattle.txn_core.proofs.ExactJoins.{the_entry}
+use Rattle.txn_core.proofs.Appended.{paid_inside, paid_stage, paid_doing, paid_transaction}
 use Rattle.txn_core.proofs.Facts.{IsRead}
+use Rattle.txn_core.proofs.Latched.{begins_beside, turned_latches}
 use Rattle.txn_core.proofs.Latches.{slot_of_lane}
 use Rattle.txn_core.proofs.Latching.{begun_slots}
-use Rattle.txn_core.proofs.Closings.{turned_then, slot_behind, whole_pays as whole_is_paid}
-use Rattle.txn_core.proofs.Paid.{goes_with, paid_goes, lanes_paid, lawful_with, lawful_paid, lane_then}
-use Rattle.txn_core.proofs.Paying.{paid_then, paid_step}
+use Rattle.txn_core.proofs.Closings.{turned_then, slot_behind, whole_pays}
+use Rattle.txn_core.proofs.Paid.{paid_goes, lanes_paid, lawful_with, lawful_paid, lane_then}
+use Rattle.txn_core.proofs.Paying.{paid_then, paid_step, goes_lane}
 use Rattle.txn_core.proofs.PhasedSteps.{paid_phased}
 use Rattle.txn_core.proofs.Phasing.{phased_with, other_phased, joined_phased}
 use Rattle.txn_core.proofs.Quieting.{joins_to}
 use Rattle.txn_core.proofs.UnderWay.{begun_paid, begun_world, begun_phased, whole_paid}
-use Rattle.txn_core.proofs.EndedLanes.{paid_inside, paid_stage, paid_doing, paid_transaction, ending_recorded}
+use Rattle.txn_core.proofs.EndedLanes.{ending_recorded}
 use Rattle.txn_core.proofs.Touching.{TouchesNone, touches_prop, touches_none, advance_leaves, none_with}
 
 -- ---- the keeper's memory
@@ -107,16 +114,27 @@ pub closing_turned : (p t own : ℕ) (mid later : LogKeeper) → t ≡ own → k
 closing_turned p t own mid later told kept number ledger slots = subst (λ n. HasTurned mid later (closing_begun p n (keeping_of mid))) told
     (record { kept = kept; number = number; ledger = ledger; slots = slots })
 
+-- behind the append of its end the lane closes
+closing_clears : (phase : Phase) (recorded : Bool) (part : ℕ) (doing : Doing) → stage_at phase recorded part doing ≡ Ending → clears_in (stage_at phase recorded CLOSE doing) ≡ true
+closing_clears phase recorded part doing at = by (call_at phase recorded part doing Ending at refl)
+  where
+    by : EndsCall recorded doing Ending → clears_in (stage_at phase recorded CLOSE doing) ≡ true
+    by (commit on is has) = ap clears_in (stage_of_call phase recorded CLOSE doing Doing.Commit on is)
+    by (abort on is has) = ap clears_in (stage_of_call phase recorded CLOSE doing Doing.Abort on is)
+
 -- ---- what the steps have in common
 
 -- What stands behind the append, and the later book as it is told.
-record IsSettled {E : Type 0} (deeds : Deeds E) (layout : Layout) (book between later : Book E) (keeper kept : LogKeeper) (region behind : Region)
+record IsSettled {E : Type 0} (deeds : Deeds E) (layout : Layout) (book between later : Book E) (keeper mid kept : LogKeeper) (region behind : Region)
     (spare left : ℕ) (counts after : Counts) (l : ℕ) (answer : Stepped) : Type 0 where
   told : answer ≡ Stepped.Moved
   step : Steps deeds between later l answer
   stays : (base : Base) → IsWorld deeds layout base book keeper region spare counts.events → IsWorld deeds layout base later kept behind left after.events
   phased : ArePhased book → ArePhased later
   touches : TouchesNone between later
+  gates : List ℕ
+  turned : keeping_of kept ≡ begun_in (l % layout.partitions) (closes gates [] []) (keeping_of mid).ledger (keeping_of mid)
+  clears : clears_in (stage_of (lane_at later l)) ≡ true
 
 -- A step behind the begin of an append is one from before it.
 settled_step : {E : Type 0} (deeds : Deeds E) (layout : Layout) (book begun_book between later : Book E) (keeper begun_log mid kept : LogKeeper)
@@ -124,7 +142,7 @@ settled_step : {E : Type 0} (deeds : Deeds E) (layout : Layout) (book begun_book
     (answer : Stepped) → IsRead words region counts → l < length book.lanes.items → IsNextCell region (lane_at book l) cell →
     Begins layout keeper begun_log book begun_book words l cell None →
     Advances deeds layout begun_log mid region behind counts after spare left begun_book between l Went.Whole →
-    IsSettled deeds layout begun_book between later begun_log kept region behind spare left counts after l answer →
+    IsSettled deeds layout begun_book between later begun_log mid kept region behind spare left counts after l answer →
     StepsWorld deeds layout book later keeper kept region behind spare left counts after l answer
 settled_step deeds layout book begun_book between later keeper begun_log mid kept words region behind spare left counts after l cell answer read lt next begun
     advance settled =
@@ -142,6 +160,8 @@ settled_step deeds layout book begun_book between later keeper begun_log mid kep
           touches_none layout region behind later.touched settled.touches.none
           (advance_leaves deeds layout (start_of layout base) begun_book between begun_log mid region behind spare left counts after l Went.Whole advance
           (begun_world deeds layout base keeper begun_log book begun_book words region spare counts l cell read lt next begun world).state));
+      latches = turned_latches deeds layout book begun_book between keeper begun_log mid region behind spare left counts after l
+          (begins_beside layout keeper begun_log book begun_book words l cell begun) later kept (closes settled.gates [] []) (keeping_of mid).ledger advance settled.turned settled.clears;
     }
 
 -- ---- an abort
@@ -167,7 +187,7 @@ undone_world deeds layout base book between later keeper mid kept region behind 
     record {
       state = undone_ends_settle _ layout (start_of layout base) book later keeper kept region behind spare left counts.events after.events l e made are at aborts
           (paid_goes book between later l (paid_event (lane_at book l)) (moved CLOSE) book.touched lt pays
-          (goes_with between later l (moved CLOSE (lane_at between l)) None inside moves.is)) moves.kept
+          (goes_lane between later l (moved CLOSE (lane_at between l)) None inside moves.is)) moves.kept
           (turned_then keeper mid kept (made_in layout keeper (l % layout.partitions)) (closing_begun (l % layout.partitions) (lane_at book l).transaction)
           keeps turned) world.state;
       lawful = lawful_with deeds layout base between later l (moved CLOSE (lane_at between l)) None inside moves.is (moved_on CLOSE (lane_at between l))
@@ -196,7 +216,7 @@ undone_settles deeds layout book between later keeper mid kept words region behi
     let paid = begun_paid layout keeper begun_log book begun_book words l cell lt begun in
     let inside = paid_inside book begun_book l paid in
     let none = ap is_commit (paid_doing book begun_book l paid) ∙ aborts in
-    let pays = whole_is_paid deeds layout begun_log mid region behind counts after spare left begun_book between l advance in
+    let pays = whole_pays deeds layout begun_log mid region behind counts after spare left begun_book between l advance in
     settled_step deeds layout book begun_book between later keeper begun_log mid kept words region behind spare left counts after l cell answer read lt next
     begun advance (record {
       told = told;
@@ -206,12 +226,18 @@ undone_settles deeds layout book between later keeper mid kept words region behi
           (subst (λ t. HasTurned mid kept (closing_begun (l % layout.partitions) t (keeping_of mid))) (sym (paid_transaction book begun_book l paid)) turned)
           moves world;
       phased = undone_phased begun_book between later l inside pays
-          (ap (λ (x : Lane _). is_commit x.doing) (goes_with begun_book between l (paid_event (lane_at begun_book l)) begun_book.touched inside pays).lanes.here
+          (ap (λ (x : Lane _). is_commit x.doing) (goes_lane begun_book between l (paid_event (lane_at begun_book l)) begun_book.touched inside pays).lanes.here
           ∙ none)
-          (ap (λ (x : Lane _). x.stored) (goes_with begun_book between l (paid_event (lane_at begun_book l)) begun_book.touched inside pays).lanes.here
+          (ap (λ (x : Lane _). x.stored) (goes_lane begun_book between l (paid_event (lane_at begun_book l)) begun_book.touched inside pays).lanes.here
           ∙ ∥∥₁_elim has (ℕ_set _ _) (λ w. unstored layout (start_of layout w.0) begun_book begun_log region spare counts.events l inside (paid_stage book begun_book l paid ∙ at) none
           (begun_world deeds layout w.0 keeper begun_log book begun_book words region spare counts l cell read lt next begun w.1).state)) moves.is;
       touches = none_with between later l (moved CLOSE (lane_at between l)) (ap (λ (b : Book _). b.lanes) moves.is) (ap (λ (b : Book _). b.touched) moves.is);
+      gates = gates_in (lane_at book l).transaction false (keeping_of mid).ledger;
+      turned = turned.kept;
+      clears = ap (λ (x : Lane _). clears_in (stage_of x)) (goes_lane between later l (moved CLOSE (lane_at between l)) None (lanes_paid begun_book between l pays inside) moves.is).lanes.here
+          ∙ closing_clears (lane_at between l).phase (lane_at between l).has_records (lane_at between l).part (lane_at between l).doing
+          (paid_stage begun_book between l (whole_paid deeds layout begun_book between begun_log mid region behind spare left counts after l inside advance).paid
+          ∙ paid_stage book begun_book l paid ∙ at);
     })
 
 -- ---- a commit
@@ -224,7 +250,7 @@ joins_then : {E : Type 0} (book between later : Book E) (l : ℕ) (e : Entry E) 
     between ≡ with_lane book l (paid_event (lane_at book l)) book.touched →
     Joined between later l e → JoinsTo book later l (moved CLOSE (entered_lane (paid_event (lane_at book l)))) e
 joins_then book between later l e lt pays is =
-    let goes = goes_with book between l (paid_event (lane_at book l)) book.touched lt pays in
+    let goes = goes_lane book between l (paid_event (lane_at book l)) book.touched lt pays in
     let joins = subst (λ (x : Lane _). JoinsTo between later l (moved CLOSE (entered_lane x)) e) goes.lanes.here
     (joins_to between later l (moved CLOSE (entered_lane (lane_at between l))) e (lanes_paid book between l pays lt) is) in
     record {
@@ -243,7 +269,7 @@ commit_world : {E : Type 0} (deeds : Deeds E) (layout : Layout) (base : Base) (b
     IsWorld deeds layout base book keeper region spare counts.events → IsWorld deeds layout base later kept behind left after.events
 commit_world deeds layout base book between later keeper mid kept region behind spare left counts after l entry depends lt at commits
     (whole (run_whole e made counted are keeps) pays) turned has is was_book is_book world =
-    let here = (goes_with book between l (paid_event (lane_at book l)) book.touched lt pays).lanes.here in
+    let here = (goes_lane book between l (paid_event (lane_at book l)) book.touched lt pays).lanes.here in
     record {
       state = commit_ends_settle _ layout (start_of layout base) book later keeper kept region behind spare left counts.events after.events l e entry made are
           at commits
@@ -261,11 +287,6 @@ commit_phased book between later l e lt pays doing at is phased =
     phased_with between later l (moved CLOSE (entered_lane (lane_at between l))) None (lanes_paid book between l pays lt) (ap (λ (b : Book _). b.lanes) is)
     (joined_phased (lane_at between l) doing (ending_recorded (lane_at between l) doing at)) (paid_phased book between l lt pays phased)
 
--- the entry is there, which the book says as it is told
-the_entry : {E : Type 0} (l begun : ℕ) (o : Option (Entry E)) → IsNextEntry l begun o → (e : Entry E) × (o ≡ Some e)
-the_entry l begun None next = absurd next
-the_entry l begun (Some e) next = (e, refl)
-
 pub commit_settles : {E : Type 0} (deeds : Deeds E) (layout : Layout) (book between later : Book E) (keeper mid kept : LogKeeper) (words : List ℕ)
     (region behind : Region) (spare left : ℕ) (counts after : Counts) (l : ℕ) (cell : Cell) (answer : Stepped) → Depends deeds →
     IsRead words region counts → l < length book.lanes.items → stage_of (lane_at book l) ≡ Ending → (lane_at book l).doing ≡ Doing.Commit →
@@ -281,7 +302,7 @@ commit_settles deeds layout book between later keeper mid kept words region behi
     (runs begun_log begun_book begun advance) turned told has joins was_book is_book step =
     let paid = begun_paid layout keeper begun_log book begun_book words l cell lt begun in
     let inside = paid_inside book begun_book l paid in
-    let pays = whole_is_paid deeds layout begun_log mid region behind counts after spare left begun_book between l advance in
+    let pays = whole_pays deeds layout begun_log mid region behind counts after spare left begun_book between l advance in
     let one = (whole_paid deeds layout begun_book between begun_log mid region behind spare left counts after l inside advance).paid in
     let found = the_entry l (lane_at between l).begun (lane_at between l).entry has.next in
     let call = paid_doing book begun_book l paid ∙ doing in
@@ -298,4 +319,10 @@ commit_settles deeds layout book between later keeper mid kept words region behi
           (paid_stage begun_book between l one ∙ stage) (joins found.0 found.1);
       touches = none_with between later l (moved CLOSE (entered_lane (lane_at between l))) (ap (λ (b : Book _). b.lanes) (joins found.0 found.1))
           (ap (λ (b : Book _). b.touched) (joins found.0 found.1));
+      gates = gates_in (lane_at book l).transaction false (keeping_of mid).ledger;
+      turned = turned.kept;
+      clears = ap (λ (x : Lane _). clears_in (stage_of x))
+          (joins_to between later l (moved CLOSE (entered_lane (lane_at between l))) found.0 (lanes_paid begun_book between l pays inside) (joins found.0 found.1)).lanes.here
+          ∙ closing_clears (lane_at between l).phase (lane_at between l).has_records (lane_at between l).part (lane_at between l).doing
+          (paid_stage begun_book between l one ∙ stage);
     })

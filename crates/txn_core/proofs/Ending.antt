@@ -1,5 +1,5 @@
 -- What a fence leaves.
-use Rattle.std.proofs.Common.{◌≡◌, ◌⊎◌, inl, inr, ℕ, ◌<◌, true, length, None, sym, ◌∙◌, ap, subst}
+use Rattle.std.proofs.Common.{◌≡◌, ◌⊎◌, inl, inr, ℕ, ◌<◌, true, false, refl, length, None, sym, ◌∙◌, ap, subst}
 use Rattle.persist_model.specs.declared.event.Event.{Event}
 use Rattle.persist_model.specs.declared.event.Event.TheVariants.{Fence}
 use Rattle.persist_model.specs.Region.{Region}
@@ -24,14 +24,21 @@ use Rattle.log_keeper.specs.declared.keeper.LogKeeper.{LogKeeper}
 use Rattle.txn_state.specs.declared.parts.TheConstants.{END}
 use Rattle.txn_state.specs.Stages.{Stage, Securing, Keeping, stage_of}
 use Rattle.txn_state.specs.ReadLaws.{makes_events}
+use Rattle.txn_core.specs.Latched.{is_latched, none_held}
 use Rattle.txn_state.proofs.HeapSteps.{fences_keep}
 use Rattle.txn_core.specs.Advancing.{Stops}
 use Rattle.txn_core.specs.Making.{Makes, stopped, made}
 use Rattle.txn_core.specs.States.{IsWorld, start_of}
 use Rattle.txn_core.specs.Stepping.{StepsWorld, HasMade, IsCause}
 use Rattle.txn_core.proofs.PhasedSteps.{part_phased, end_open, fence_open}
-use Rattle.txn_core.proofs.Paid.{goes_with, paid_goes, paid_step, lawful_with, lawful_paid, lanes_paid, count_paid, steps_world, stops_world}
+use Rattle.txn_core.proofs.Paid.{paid_goes, paid_step, lawful_with, lawful_paid, lanes_paid, count_paid, steps_world, stops_world}
 use Rattle.txn_core.proofs.Touching.{touches_none, log_leaves}
+use Rattle.txn_core.proofs.Paying.{goes_lane}
+
+-- it is none of a latched part
+fence_aside : (s : Stage) → (s ≡ Securing) ⊎ (s ≡ Keeping) → is_latched s ≡ false
+fence_aside s (inl at) = ap is_latched at
+fence_aside s (inr at) = ap is_latched at
 
 pub fenced_world : {E : Type 0} (deeds : Deeds E) (layout : Layout) (book between later : Book E) (keeper : LogKeeper) (region behind : Region) (spare left : ℕ) (counts after : Counts) (l : ℕ) (answer : Stepped) → answer ≡ Stepped.Moved →
     l < length book.lanes.items → (stage_of (lane_at book l) ≡ Securing) ⊎ (stage_of (lane_at book l) ≡ Keeping) →
@@ -44,6 +51,7 @@ fenced_world deeds layout book between later keeper region behind spare left cou
     (subst (λ (a : Stepped). IsCause layout book keeper counts l a) (sym told) tt)
     (count_paid book between later l (moved END (lane_at between l)) paid (ap (λ (b : Book _). b.lanes) moves.is))
     (λ base world. touches_none layout region behind later.touched (ap (λ (b : Book _). b.touched) moves.is) (log_leaves layout region behind l Fence event.cells tt))
+    (none_held refl (fence_aside (stage_of (lane_at book l)) at))
   where
     inside : l < length between.lanes.items
     inside = lanes_paid book between l paid lt
@@ -52,7 +60,7 @@ fenced_world deeds layout book between later keeper region behind spare left cou
     stays base world = record {
       state = fences_keep layout (start_of layout base) book later keeper region behind spare left counts.events after.events l event at
           (paid_goes book between later l (paid_event (lane_at book l)) (moved END) book.touched lt paid
-          (goes_with between later l (moved END (lane_at between l)) None inside moves.is)) moves.kept world.state;
+          (goes_lane between later l (moved END (lane_at between l)) None inside moves.is)) moves.kept world.state;
       lawful = lawful_with deeds layout base between later l (moved END (lane_at between l)) None inside moves.is (moved_on END (lane_at between l))
           (lawful_paid deeds layout base book between l lt paid world.lawful);
     }
@@ -65,7 +73,7 @@ fence_makes s (inr at) = ap makes_events at
 -- behind a payment the lane is in its call yet
 pub paid_calls : {E : Type 0} (book between : Book E) (l : ℕ) → l < length book.lanes.items → between ≡ with_lane book l (paid_event (lane_at book l)) book.touched →
     (lane_at book l).phase ≡ Phase.Calling → (lane_at between l).phase ≡ Phase.Calling
-paid_calls book between l lt paid calling = ap (λ (x : Lane _). x.phase) (goes_with book between l (paid_event (lane_at book l)) book.touched lt paid).lanes.here ∙ calling
+paid_calls book between l lt paid calling = ap (λ (x : Lane _). x.phase) (goes_lane book between l (paid_event (lane_at book l)) book.touched lt paid).lanes.here ∙ calling
 
 -- What `made` says of the book where the device made the event.
 pub made_pays : {E : Type 0} (e : Event) (region behind : Region) (counts after : Counts) (spare left : ℕ) (book later : Book E) (l : ℕ) →

@@ -1,5 +1,5 @@
 -- A commit's entry joins the history: with the last event of its end's append, or with the answer.
-use Rattle.std.proofs.Common.{◌≡◌, ◌≢◌, ◌⊎◌, ℕ, ◌<◌, ◌≤◌, Bool, true, false, List, [], ◌∷◌, ◌++◌, length, Option, Some, None, refl, sym, ap, ◌∙◌, subst, inl, inr}
+use Rattle.std.proofs.Common.{◌≡◌, ◌≢◌, ◌⊎◌, ℕ, ◌<◌, ◌≤◌, true, false, List, [], ◌∷◌, ◌++◌, length, Option, Some, None, refl, sym, ap, ◌∙◌, subst, inl, inr}
 use Rattle.lane_traits.specs.Device.{Counts}
 use Rattle.region_layout.specs.declared.layout.Layout.{Layout}
 use Rattle.lane_types.specs.declared.call.Reply.TheVariants as Reply
@@ -24,10 +24,10 @@ use Rattle.txn_core.specs.Clearing.{Clears, begins, ends}
 use Rattle.txn_core.specs.Exact.{IsUnblocked, GoesExactly, stays, joins, joins_at_once}
 use Rattle.txn_core.proofs.Paying.{goes_lane}
 use Rattle.txn_core.proofs.Exactly.{quiet_begin, quiet_exactly, joined_exactly, noted_spends}
-use Rattle.txn_core.proofs.ExactParts.{HasPaidExactly, paid_moves, paid_answers}
+use Rattle.txn_core.proofs.ExactParts.{HasPaidExactly, paid_moves, paid_answers_with}
 
 -- the entry is there
-the_entry : {E : Type 0} (l begun : ℕ) (o : Option (Entry E)) → IsNextEntry l begun o → (e : Entry E) × (o ≡ Some e)
+pub the_entry : {E : Type 0} (l begun : ℕ) (o : Option (Entry E)) → IsNextEntry l begun o → (e : Entry E) × (o ≡ Some e)
 the_entry l begun None next = absurd next
 the_entry l begun (Some e) next = (e, refl)
 
@@ -159,16 +159,4 @@ pub clears_exactly : {E : Type 0} (deeds : Deeds E) (layout : Layout) (book betw
 clears_exactly deeds layout book between later keeper mid kept words counts after l answer paid makes within (begins r seen told turned moves) =
     paid_moves deeds layout book between later keeper counts after l None _ answer told paid makes within refl refl moves
 clears_exactly deeds layout book between later keeper mid kept words counts after l answer paid makes within (ends told turned moves) =
-    paid_answers layout book between later keeper counts after l None _ answer _ told paid makes within refl moves.is
-
--- a commit that comes to its end has a record
-pub ending_recorded : {E : Type 0} (lane : Lane E) → lane.doing ≡ Doing.Commit → stage_of lane ≡ Ending → lane.has_records ≡ true
-ending_recorded lane commits at = by lane.has_records (λ off. is_leaving off)
-  where
-    by : (b : Bool) → (b ≡ false → ⊥) → b ≡ true
-    by true never = refl
-    by false never = absurd (never refl)
-
-    is_leaving : lane.has_records ≡ false → ⊥
-    is_leaving off = let wrong : Leaving ≡ Ending =
-        sym (ap (λ d. stage_at lane.phase lane.has_records lane.part d) commits ∙ ap (λ b. stage_at lane.phase b lane.part Doing.Commit) off) ∙ at in absurd (cc)
+    paid_answers_with layout book between later keeper counts after l None _ _ answer _ told paid makes within refl moves.is

@@ -10,6 +10,7 @@ use Rattle.lane_types.specs.declared.call.Reply.{Reply}
 use Rattle.lane_types.specs.declared.call.Stepped.{Stepped}
 use Rattle.lane_types.specs.declared.call.What.TheVariants as What
 use Rattle.lane_types.specs.Deeds.{Deeds}
+use Rattle.offset_alloc.specs.declared.Standing.{Standing}
 use Rattle.lane_book.specs.declared.book.Book.{Book}
 use Rattle.lane_book.specs.declared.lane.Lane.{Lane}
 use Rattle.lane_book.specs.declared.lane.Doing.{Doing}
@@ -20,14 +21,14 @@ use Rattle.log_keeper.specs.declared.keeper.LogKeeper.{LogKeeper}
 use Rattle.txn_state.specs.ReadLaws.{makes_events, appends_in}
 use Rattle.txn_state.specs.Stages.{stage_of}
 use Rattle.txn_core.specs.declared.advancing.Went.{Went}
-use Rattle.txn_core.specs.declared.running.Ran.TheVariants as Ran
 use Rattle.txn_core.specs.Advancing.{Advances, Appends, WaitsForLatch, Stops, stopped as stops_so, going as goes_so, stored as stored_so, whole as whole_so, waits, runs}
 use Rattle.txn_core.specs.Beginning.{Begins, holds, begins}
 use Rattle.txn_core.specs.Exact.{IsUnblocked, GoesExactly, stays}
 use Rattle.txn_core.specs.Making.{Makes, made, stopped as make_stopped}
-use Rattle.txn_core.specs.Running.{Runs, HasStopped, one_made, stopped, going, stored, whole}
+use Rattle.txn_core.specs.Running.{one_made}
+use Rattle.txn_core.specs.Freeing.{with_blocks}
 use Rattle.txn_core.proofs.Paying.{goes_lane, goes_stopped, goes_nowhere, inside_then}
-use Rattle.txn_core.proofs.UnderWay.{begun_paid}
+use Rattle.txn_core.proofs.UnderWay.{begun_paid, stopped_runs, going_counted, stored_counted, whole_counted}
 use Rattle.txn_core.proofs.Exactly.{IsOnWith, on_with, on_then, pays_on, quiet_begin, moved_exactly, answered_exactly, stopped_exactly, waits_spends}
 
 -- ---- an append is begun
@@ -82,29 +83,13 @@ paid_there : {E : Type 0} (before between : Book E) (l : ℕ) → l < length bef
     l < length between.lanes.items
 paid_there before between l lt is = inside_then before between l (paid_event (lane_at before l)) (goes_lane before between l (paid_event (lane_at before l)) before.touched lt is)
 
-going_counted : (layout : Layout) (keeper kept : LogKeeper) (region behind : Region) (counts after : Counts) (l spare left : ℕ) →
-    Runs layout keeper kept region behind counts after l spare left Ran.Going → after ≡ one_made counts
-going_counted layout keeper kept region behind counts after l spare left (going e n is counted are no_gate keeps) = counted
-
-stored_counted : (layout : Layout) (keeper kept : LogKeeper) (region behind : Region) (counts after : Counts) (l spare left : ℕ) (c : Cell) →
-    Runs layout keeper kept region behind counts after l spare left (Ran.Stored c) → after ≡ one_made counts
-stored_counted layout keeper kept region behind counts after l spare left _ (stored e place c is counted are part_is keeps) = counted
-
-whole_counted : (layout : Layout) (keeper kept : LogKeeper) (region behind : Region) (counts after : Counts) (l spare left : ℕ) →
-    Runs layout keeper kept region behind counts after l spare left Ran.Whole → after ≡ one_made counts
-whole_counted layout keeper kept region behind counts after l spare left (whole e is counted are keeps) = counted
-
-runs_stopped : (layout : Layout) (keeper kept : LogKeeper) (region behind : Region) (counts after : Counts) (l spare left : ℕ) →
-    Runs layout keeper kept region behind counts after l spare left Ran.Stopped → HasStopped region behind counts after spare left
-runs_stopped layout keeper kept region behind counts after l spare left (stopped has same) = has
-
 -- the step is answered, as the call goes on or the device has stopped
 advance_answered : {E : Type 0} (deeds : Deeds E) (layout : Layout) (book before later : Book E) (keeper mid kept : LogKeeper) (region behind : Region) (spare left : ℕ) (counts after : Counts) (l : ℕ) (answer : Stepped) →
     IsReadyFor layout book before keeper l → makes_events (stage_of (lane_at book l)) ≡ true → after.events ≤ after.budget →
     Advances deeds layout mid kept region behind counts after spare left before later l (Went.Answered answer) →
     GoesExactly layout book later keeper counts after l answer
 advance_answered deeds layout book before later keeper mid kept region behind spare left counts after l _ ready makes within (stops_so between run pays stops) =
-    let has = runs_stopped layout mid kept region behind counts after l spare left run in
+    let has = (stopped_runs layout mid kept region behind counts after l spare left run).0 in
     let stop : Stops deeds before later l = subst (λ (b : Book _). Stops deeds b later l) pays stops in
     stopped_exactly layout book later keeper counts after l Stepped.Stopped refl
     (on_then book before later l 0 0 ready.on
@@ -239,6 +224,16 @@ pub paid_answers : {E : Type 0} (layout : Layout) (book between later : Book E) 
     lane.doing ≡ Doing.Nothing → later ≡ with_lane between l lane touched → GoesExactly layout book later keeper counts after l answer
 paid_answers layout book between later keeper counts after l touched lane answer reply told paid makes within over is =
     answered_exactly layout book between later keeper counts after l lane answer reply told paid.on (goes_lane between later l lane touched paid.inside is) over
+    paid.unblocked makes paid.counted within
+
+-- perhaps with other blocks
+pub paid_answers_with : {E : Type 0} (layout : Layout) (book between later : Book E) (keeper : LogKeeper) (counts after : Counts) (l : ℕ) (touched : _) (blocks : List Standing) (lane : Lane E) (answer : Stepped) (reply : Reply) →
+    answer ≡ Stepped.Answered reply → HasPaidExactly layout book between keeper counts after l → makes_events (stage_of (lane_at book l)) ≡ true → after.events ≤ after.budget →
+    lane.doing ≡ Doing.Nothing → later ≡ with_lane (with_blocks blocks between) l lane touched → GoesExactly layout book later keeper counts after l answer
+paid_answers_with layout book between later keeper counts after l touched blocks lane answer reply told paid makes within over is =
+    let to = goes_lane (with_blocks blocks between) later l lane touched paid.inside is in
+    answered_exactly layout book (with_blocks blocks between) later keeper counts after l lane answer reply told
+    (record { call = paid.on.call; owed = paid.on.owed; others = paid.on.others; history = paid.on.history }) to over
     paid.unblocked makes paid.counted within
 
 -- ---- an event on the lane's own words

@@ -20,11 +20,13 @@ use Rattle.txn_state.specs.AppendLaws.{IsNextCell, Notices, LetsGoOne, GoesOnTo}
 use Rattle.txn_state.specs.ReadLaws.{appends_in, clears_in}
 use Rattle.txn_core.specs.declared.advancing.Went.{Went}
 use Rattle.txn_core.specs.Advancing.{Advances, Appends}
+use Rattle.txn_core.specs.Latched.{same_stage}
 use Rattle.txn_core.specs.States.{start_of}
 use Rattle.txn_core.specs.Stepping.{StepsWorld}
 use Rattle.txn_core.specs.Advancing.{WaitsForLatch, IsSameDevice, waits, runs}
 use Rattle.txn_core.proofs.Facts.{IsRead}
-use Rattle.txn_core.proofs.Paying.{IsPaid, paid_then, paid_step, inside_then}
+use Rattle.txn_core.proofs.Latched.{same_part, begins_beside, answered_latches, stored_latches, freed_latches}
+use Rattle.txn_core.proofs.Paying.{IsPaid, goes_lane, paid_then, paid_step, inside_then}
 pub use Rattle.txn_core.proofs.UnderWay.{LetsLatchGo, answered_cause}
 use Rattle.txn_core.proofs.UnderWay.{begun_paid, begun_world_if_free, same_device, noted_world, answered_world, answered_made, answered_step, stored_world, stored_paid, settled_world, whole_paid, begun_phased, answered_phased, stored_phased, whole_phased}
 use Rattle.txn_core.proofs.Phasing.{phased_with, noted_phased}
@@ -46,6 +48,7 @@ waits_exit deeds layout book later keeper kept region behind spare left counts a
   cause = record { part = refl; held = waiting.held; some = waiting.some; other = waiting.other };
   count = count_with book later l (noted (Stepped.Waiting (What.Latch (l % layout.partitions)) holder) (lane_at book l)) (ap (λ (b : Book _). b.lanes) waiting.moves.is);
   touches = λ base stood. touches_none layout region behind later.touched (ap (λ (b : Book _). b.touched) waiting.moves.is) (same_leaves layout region behind device.region_stays);
+  latches = same_stage same (ap stage_of (goes_lane book later l (noted (Stepped.Waiting (What.Latch (l % layout.partitions)) holder) (lane_at book l)) None lt waiting.moves.is).lanes.here);
 }
 
 same_answer : (answer other : Stepped) → Went.Answered answer ≡ Went.Answered other → answer ≡ other
@@ -82,6 +85,7 @@ append_answered_if_free deeds layout book later keeper kept words region behind 
           touches_none layout region behind later.touched (answered_none deeds layout between later mid kept region behind spare left counts after l answer advance).none
           (advance_leaves deeds layout (start_of layout base) between later mid kept region behind spare left counts after l (Went.Answered answer) advance
           (begun_world_if_free deeds layout base keeper mid book between words region spare counts l cell read lt next begun world).state));
+      latches = answered_latches deeds layout book between later keeper mid kept region behind spare left counts after l (begins_beside layout keeper mid book between words l cell begun) answer advance;
     }
 
 pub append_answered : {E : Type 0} (deeds : Deeds E) (layout : Layout) (book later : Book E) (keeper kept : LogKeeper) (words : List ℕ) (region behind : Region) (spare left : ℕ) (counts after : Counts) (l : ℕ) (cell : Cell) (answer : Stepped) →
@@ -118,6 +122,7 @@ append_stored_if_free deeds layout book between later keeper kept words region b
           touches_none layout region behind later.touched (ap (λ (b : Book _). b.touched) moves.is)
           (advance_leaves deeds layout (start_of layout base) begun_book between mid kept region behind spare left counts after l (Went.Stored c) advance
           (begun_world_if_free deeds layout base keeper mid book begun_book words region spare counts l cell read lt next begun world).state));
+      latches = stored_latches deeds layout book begun_book between keeper mid kept region behind spare left counts after l (begins_beside layout keeper mid book begun_book words l cell begun) later c advance;
     }
 
 pub append_stored : {E : Type 0} (deeds : Deeds E) (layout : Layout) (book between later : Book E) (keeper kept : LogKeeper) (words : List ℕ) (region behind : Region) (spare left : ℕ) (counts after : Counts) (l : ℕ) (cell c : Cell) (lane : Lane E) →
@@ -156,6 +161,7 @@ append_settled_if_free deeds layout book between later keeper mid kept words reg
           touches_none layout region behind later.touched (ap (λ (b : Book _). b.touched) moves.is)
           (advance_leaves deeds layout (start_of layout base) begun_book between begun_log mid region behind spare left counts after l Went.Whole advance
           (begun_world_if_free deeds layout base keeper begun_log book begun_book words region spare counts l cell read lt next begun world).state));
+      latches = freed_latches deeds layout book begun_book between keeper begun_log mid region behind spare left counts after l (begins_beside layout keeper begun_log book begun_book words l cell begun) later kept advance lets.kept;
     }
 
 pub append_settled : {E : Type 0} (deeds : Deeds E) (layout : Layout) (book between later : Book E) (keeper mid kept : LogKeeper) (words : List ℕ) (region behind : Region) (spare left : ℕ) (counts after : Counts) (l part : ℕ) (cell : Cell) →
@@ -182,4 +188,5 @@ clearing_answered deeds layout book later keeper kept region behind spare left c
   touches = λ base stood. ∥∥₁_elim stood (touches_prop layout region behind later.touched) (λ world.
       touches_none layout region behind later.touched (answered_none deeds layout book later keeper kept region behind spare left counts after l answer went).none
       (advance_leaves deeds layout (start_of layout base) book later keeper kept region behind spare left counts after l (Went.Answered answer) went world.state));
+  latches = answered_latches deeds layout book book later keeper keeper kept region behind spare left counts after l (λ q ne. same_part keeper keeper refl q) answer went;
 }

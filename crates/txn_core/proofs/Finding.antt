@@ -15,14 +15,13 @@ use Rattle.region_layout.specs.Layout.{layout_shape}
 use Rattle.lane_types.specs.declared.face.Entry.{Entry}
 use Rattle.lane_types.specs.Deeds.{Deeds}
 use Rattle.lane_types.specs.Faces.{Base}
-use Rattle.lane_types.specs.Heaps.{is_data, is_owned, owner_word, block_of, with_writes}
+use Rattle.lane_types.specs.Heaps.{is_data, block_of, with_writes}
 use Rattle.lane_types.specs.Histories.{after_entries, fold}
 use Rattle.lane_book.specs.declared.book.Book.{Book}
 use Rattle.lane_book.specs.FacesOf.{lane_at}
 use Rattle.lane_book.specs.Refusals.{is_mine, block_in}
-use Rattle.lawful_book.specs.LawfulBooks.{is_word_of}
+use Rattle.lawful_book.specs.OwnedBooks.{is_own_word}
 use Rattle.lawful_book.specs.Laws.{words_now}
-use Rattle.lawful_book.proofs.Showing.{holds_block, blocks_shown}
 use Rattle.log_keeper.specs.declared.keeper.LogKeeper.{LogKeeper}
 use Rattle.log_keeper.specs.Ledger.{newest_log}
 use Rattle.history_laws.specs.Histories as plain
@@ -87,7 +86,7 @@ none_among (x ∷ gifts) g none m = absurd (omega (arith, none))
 
 module _ {E : Type 0} (deeds : Deeds E) (layout : Layout) (base : Base) (book : Book E) (keeper : LogKeeper) (region : Region) (spare : ℕ) (counts : Counts) (l a : ℕ)
     (lt : l < length book.lanes.items)
-    (place : is_word_of (lane_at book l).held base.heap a ≡ true) (world : IsWorld deeds layout base book keeper region spare counts.events) where
+    (place : is_own_word base.heap book.blocks (lane_at book l) a ≡ true) (world : IsWorld deeds layout base book keeper region spare counts.events) where
   abbrev pub state : IsStateOf layout (start_of layout base) book keeper region spare counts.events
   state = world.state
 
@@ -97,28 +96,26 @@ module _ {E : Type 0} (deeds : Deeds E) (layout : Layout) (base : Base) (book : 
   pub data_word : is_data base.heap a ≡ true
   data_word = (both (is_data base.heap a) _ place).0
 
-  owned : is_owned (lane_at book l).held base.heap (owner_word base.heap) (block_of base.heap a) ≡ true
-  owned = (both (is_data base.heap a) _ place).1
+  owned : is_mine book.blocks (lane_at book l) (block_of base.heap a) ≡ true
+  owned = (both (nat_lt (block_of base.heap a) base.heap.blocks) _ (both (is_data base.heap a) _ place).1).1
 
   in_blocks : nat_lt (block_of base.heap a) base.heap.blocks ≡ true
   in_blocks = (both (nat_lt (block_of base.heap a) base.heap.blocks) _ (both (not (nat_lt a base.heap.start)) _ data_word).1).0
 
   above : heap (layout_shape layout) ≤ a
-  above = let le = above_of a base.heap.start (both (not (nat_lt a base.heap.start)) _ data_word).0 in let e = world.lawful.place.start in omega (arith, le, e)
+  above = let le = above_of a base.heap.start (both (not (nat_lt a base.heap.start)) _ data_word).0 in let e = world.lawful.owned.place.start in omega (arith, le, e)
 
   block_is : block_of base.heap a ≡ block_in layout a
-  block_is = ap (λ n. (a - n) / 16) world.lawful.place.start
+  block_is = ap (λ n. (a - n) / 16) world.lawful.owned.place.start
 
   block_lt : block_in layout a < layout.blocks
-  block_lt = let lt = below_of (block_of base.heap a) base.heap.blocks in_blocks in let e = block_is in let f = world.lawful.place.blocks in omega (arith, lt, e, f)
+  block_lt = let lt = below_of (block_of base.heap a) base.heap.blocks in_blocks in let e = block_is in let f = world.lawful.owned.place.blocks in omega (arith, lt, e, f)
 
   pub below : a < heap (layout_shape layout) + 16 * layout.blocks
   below = inside_blocks a (heap (layout_shape layout)) layout.blocks above block_lt
 
   mine : is_mine book.blocks (lane_at book l) (block_in layout a) ≡ true
-  mine = (blocks_shown deeds layout base book world.lawful l).mine (block_in layout a) block_lt ∙
-      holds_block deeds base book.history.items book.next_transaction l (lane_at book l) world.lawful.past (world.lawful.lanes l) (block_in layout a) ∙
-      ap (is_owned (lane_at book l).held base.heap (owner_word base.heap)) (sym block_is) ∙ owned
+  mine = ap (is_mine book.blocks (lane_at book l)) (sym block_is) ∙ owned
 
   is_lanes_word : is_lanes layout book.blocks (lane_at book l) a ≡ true
   is_lanes_word = λ i. not (isn't_below a (heap (layout_shape layout)) above i) && (is_below a (heap (layout_shape layout) + 16 * layout.blocks) below i && mine i)
@@ -138,7 +135,7 @@ module _ {E : Type 0} (deeds : Deeds E) (layout : Layout) (base : Base) (book : 
       (noticed (layout_shape layout) (l % layout.partitions) (under_of (layout_shape layout) state.w l) x).gifts x.words a own.given is_lanes_word
 
   ungiven : length x.gifts ≡ 0
-  ungiven = let told = own.counts in let none = ap (λ (gs : List ℕ). length gs) (world.lawful.lanes l).no_gives in omega (arith, told, none)
+  ungiven = let told = own.counts in let none = ap (λ (gs : List ℕ). length gs) (world.lawful.no_gives l) in omega (arith, told, none)
 
   -- the history's value
   folded_is : plain.fold (start_of layout base) state.w.history a ≡ after_entries book.history.items base.heap.at a

@@ -115,11 +115,11 @@ module _ {E : Type 0} (deeds : Deeds E) (layout : Layout) (words words_later : L
     (touches : TouchesWord layout region behind later.touched) where
   is_data_there : (a : ℕ) → IsDataWord (layout_shape layout) a → is_data base.heap a ≡ true
   is_data_there a is = ∥∥₁_elim kept (Coded-set coded_bool _ _) (λ w.
-      is_data_of layout base.heap a (record { start = w.lawful.place.start; blocks = w.lawful.place.blocks }) is)
+      is_data_of layout base.heap a (record { start = w.lawful.owned.place.start; blocks = w.lawful.owned.place.blocks }) is)
 
   shown : (a : ℕ) → is_data base.heap a ≡ true → a < region.size
   shown a on = let size = ∥∥₁_elim kept (ℕ_set _ _) (λ w. w.state.world.log.logged.size) in
-      ∥∥₁_elim kept le_prop (λ w. (let lt = (data_word layout base.heap a (record { start = w.lawful.place.start; blocks = w.lawful.place.blocks }) on).0.1 in omega (arith, lt, size)))
+      ∥∥₁_elim kept le_prop (λ w. (let lt = (data_word layout base.heap a (record { start = w.lawful.owned.place.start; blocks = w.lawful.owned.place.blocks }) on).0.1 in omega (arith, lt, size)))
 
   word_before : (a : ℕ) → is_data base.heap a ≡ true → slice_index words a ≡ newest (region.at a)
   word_before a on = word_read words region a reads (shown a on)
@@ -128,7 +128,7 @@ module _ {E : Type 0} (deeds : Deeds E) (layout : Layout) (words words_later : L
   word_behind a on = word_read words_later behind a reads_later (let lt = shown a on in let same = touches.size in omega (arith, lt, same))
 
   is_data_word : (a : ℕ) → is_data base.heap a ≡ true → IsDataWord (layout_shape layout) a
-  is_data_word a on = ∥∥₁_elim kept (hlevel props) (λ w. data_word layout base.heap a (record { start = w.lawful.place.start; blocks = w.lawful.place.blocks }) on)
+  is_data_word a on = ∥∥₁_elim kept (hlevel props) (λ w. data_word layout base.heap a (record { start = w.lawful.owned.place.start; blocks = w.lawful.owned.place.blocks }) on)
 
   touches_seen : Touches base.heap (seen_in words base book) (seen_in words_later base later)
   touches_seen = record {

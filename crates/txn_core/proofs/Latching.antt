@@ -37,7 +37,8 @@ use Rattle.txn_core.specs.Advancing.{CanRun, RunsBehind}
 use Rattle.txn_core.specs.States.{IsWorld, HasWorld, start_of}
 use Rattle.txn_core.proofs.Latches.{part_of_lane}
 use Rattle.txn_core.proofs.WorldFacts.{IsRead, few_lanes, owes_event}
-use Rattle.txn_core.proofs.Paid.{goes_with, lawful_with}
+use Rattle.txn_core.proofs.Paid.{lawful_with}
+use Rattle.txn_core.proofs.Paying.{goes_lane}
 
 -- ---- stages
 
@@ -96,11 +97,11 @@ module _ {E : Type 0} (layout : Layout) (book between : Book E) (keeper mid : Lo
   pub begun_lane : Begins layout keeper mid book between words l cell None → (events : ℕ) × (records : ℕ) × (lane_at between l ≡ owing events records (lane_at book l))
   begun_lane (holds held same_keeper same) = ((lane_at book l).owed_events, (lane_at book l).owed_records, ap (λ (b : Book E). lane_at b l) same)
   begun_lane (begins place free seen drawn is) =
-      ((paid_record (lane_at book l)).owed_events, (paid_record (lane_at book l)).owed_records, (goes_with book between l (paid_record (lane_at book l)) book.touched lt is).lanes.here)
+      ((paid_record (lane_at book l)).owed_events, (paid_record (lane_at book l)).owed_records, (goes_lane book between l (paid_record (lane_at book l)) book.touched lt is).lanes.here)
 
   pub begun_count : Begins layout keeper mid book between words l cell None → length between.lanes.items ≡ length book.lanes.items
   begun_count (holds held same_keeper same) = ap (λ (b : Book E). length b.lanes.items) same
-  begun_count (begins place free seen drawn is) = (goes_with book between l (paid_record (lane_at book l)) book.touched lt is).lanes.count
+  begun_count (begins place free seen drawn is) = (goes_lane book between l (paid_record (lane_at book l)) book.touched lt is).lanes.count
 
   pub begun_stage : Begins layout keeper mid book between words l cell None → stage_of (lane_at between l) ≡ stage_of (lane_at book l)
   begun_stage b = ap (λ (x : Lane E). stage_of x) (begun_lane b).2
@@ -121,7 +122,7 @@ module _ {E : Type 0} (deeds : Deeds E) (layout : Layout) (book between : Book E
     state = appends_begin E layout (start_of layout base) book between keeper mid region spare counts.events l place cell free
         (views_are_read.place layout (start_of layout base) book keeper region spare counts.events (l % layout.partitions) place (part_of_lane layout l) read.full world.state
         (subst (λ (ws : List ℕ). IsNextPlaceSeen layout (l % layout.partitions) ws place) read.reads seen))
-        (next free) (λ a inside. read.full a) read.few (goes_with book between l (paid_record (lane_at book l)) book.touched lt is)
+        (next free) (λ a inside. read.full a) read.few (goes_lane book between l (paid_record (lane_at book l)) book.touched lt is)
         (keeps_lane book between l (paid_record (lane_at book l)) book.touched lt is
         world.state.is_book.kept
         (owing_lane (length book.history.items) (paid_record (lane_at book l)).owed_events (paid_record (lane_at book l)).owed_records (lane_at book l))) drawn world.state;

@@ -1,3 +1,7 @@
+pub mod LawfulKept
+pub mod Freeing
+pub mod Taking
+pub mod AskedTake
 pub mod Latches
 pub mod Left
 pub mod Made
@@ -41,6 +45,7 @@ pub mod AskedWrite
 pub mod AskedEnds
 pub mod WorldFacts
 pub mod WritingWords
+pub mod Appended
 pub mod WritingUpdates
 pub mod WritingStores
 pub mod EndedLanes
@@ -63,6 +68,10 @@ pub mod Exactly
 pub mod ExactParts
 pub mod ExactJoins
 pub mod AskedExactly
+pub mod Unasked
+pub mod OwnRecords
+pub mod EventBounds
+pub mod Latched
 pub mod WorldLatches
 pub mod Gone
 mod ExactExamples

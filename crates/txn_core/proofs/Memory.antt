@@ -1,6 +1,5 @@
 -- Memory is taken for a call, or the lane owes nothing.
-use Rattle.std.proofs.Common.{◌≡◌, ℕ, zero, suc, ◌+◌, ◌-◌, ◌<◌, ◌≤◌, ◌^◌, min, length, Option, refl, sym, ap, ◌∙◌, subst, arith}
-use Rattle.std.proofs.Math.ListN.{length-set}
+use Rattle.std.proofs.Common.{◌≡◌, ℕ, zero, suc, ◌+◌, ◌-◌, ◌<◌, ◌≤◌, ◌^◌, min, length, refl, sym, ap, ◌∙◌, subst, arith}
 use Rattle.std.proofs.Math.Logic.{∥∥₁_map}
 use Rattle.persist_model.specs.Region.{Region}
 use Rattle.lane_traits.specs.Device.{Counts}
@@ -13,7 +12,6 @@ use Rattle.lane_book.specs.FacesOf.{lane_at, faces_of}
 use Rattle.lane_book.specs.Books.{IsBook}
 use Rattle.lane_book.specs.Owed as owed
 use Rattle.lane_book.specs.Reserved.{reserved_in}
-use Rattle.lane_book.proofs.Faces.{lane_at-same, lane_at-other}
 use Rattle.log_keeper.specs.declared.keeper.LogKeeper.{LogKeeper}
 use Rattle.log_keeper.specs.Keeper.{keeping_of, free_places, KeepsSlots}
 use Rattle.txn_laws.specs.Rooms.{sum_below}
@@ -22,57 +20,31 @@ use Rattle.txn_state.specs.Changes as changes
 use Rattle.txn_state.proofs.Lanes.{lane_sum_less}
 use Rattle.txn_state.proofs.Sums.{summand_within}
 use Rattle.txn_state.proofs.SameTransaction.{memory_is_taken}
-use Rattle.lawful_book.proofs.Kept.{steps_keep}
+use Rattle.txn_core.proofs.LawfulKept.{steps_keep}
 use Rattle.lawful_book.proofs.GoingOn.{owing_on}
 use Rattle.txn_core.specs.Asking.{Owes, StaysBetween}
+use Rattle.txn_core.proofs.Paying.{goes_lane, goes_then}
 
 -- ---- the book
-
--- in the book one lane is another
-pub goes_to : {E : Type 0} (book later : Book E) (l : ℕ) (lane : Lane E) (touched : Option ℕ) → l < length book.lanes.items → later ≡ with_lane book l lane touched →
-    GoesTo book later l lane
-goes_to book later l lane touched lt is = subst (λ b. GoesTo book b l lane) (sym is) record {
-  lanes = record {
-    inside = lt;
-    count = length-set book.lanes.items l lane;
-    here = lane_at-same book l lane touched lt;
-    others = λ k ne. lane_at-other book l k lane touched ne;
-    blocks = refl;
-  };
-  history = refl;
-  next = refl;
-}
-
--- and in a later one again
-pub goes_twice : {E : Type 0} (book mid later : Book E) (l : ℕ) (lane other : Lane E) → GoesTo book mid l lane → GoesTo mid later l other → GoesTo book later l other
-goes_twice book mid later l lane other first second = record {
-  lanes = record {
-    inside = first.lanes.inside;
-    count = second.lanes.count ∙ first.lanes.count;
-    here = second.lanes.here;
-    others = λ k ne. second.lanes.others k ne ∙ first.lanes.others k ne;
-    blocks = second.lanes.blocks ∙ first.lanes.blocks;
-  };
-  history = second.history ∙ first.history;
-  next = second.next ∙ first.next;
-}
 
 pub owes : {E : Type 0} (book later : Book E) (l m n : ℕ) → l < length book.lanes.items → later ≡ with_lane book l (owing m n (lane_at book l)) book.touched →
     ((base : Base) (k : ℕ) → faces_of base later k ≡ faces_of base book k) →
     ((partitions kept p : ℕ) → reserved_in later partitions kept p ≡ reserved_in book partitions kept p) → Owes book later l m n
 owes book later l m n lt is faces reserved = record {
-  goes = goes_to book later l (owing m n (lane_at book l)) book.touched lt is;
+  goes = goes_lane book later l (owing m n (lane_at book l)) book.touched lt is;
   faces = faces;
   reserved = reserved;
   touched = ap (λ (b : Book _). b.touched) is;
+  stopped = ap (λ (b : Book _). b.stopped) is;
 }
 
 pub owes_twice : {E : Type 0} (book mid later : Book E) (l m n i j : ℕ) → Owes book mid l m n → Owes mid later l i j → Owes book later l i j
 owes_twice book mid later l m n i j first second = record {
-  goes = subst (λ x. GoesTo book later l (owing i j x)) first.goes.lanes.here (goes_twice book mid later l _ _ first.goes second.goes);
+  goes = subst (λ x. GoesTo book later l (owing i j x)) first.goes.lanes.here (goes_then book mid later l _ _ first.goes second.goes);
   faces = λ base k. second.faces base k ∙ first.faces base k;
   reserved = λ partitions kept p. second.reserved partitions kept p ∙ first.reserved partitions kept p;
   touched = second.touched ∙ first.touched;
+  stopped = second.stopped ∙ first.stopped;
 }
 
 -- ---- sums
@@ -100,7 +72,7 @@ pub stays_owing : {E : Type 0} (deeds : Deeds E) (book later : Book E) (keeper k
     later ≡ with_lane book l (owing m n (lane_at book l)) book.touched → IsBook later → changes.IsKept keeper kept (keeping_of keeper) →
     owed.owed_events_in later ≤ left → owed.owed_records_in later ≤ free_places kept → StaysBetween deeds book later keeper kept region spare left counts l
 stays_owing deeds book later keeper kept region spare left counts l m n lt is good takes stores places layout base between world = ∥∥₁_map world (λ w. record {
-  state = memory_is_taken layout _ book later keeper kept region spare left counts.events l m n between (goes_to book later l (owing m n (lane_at book l)) book.touched lt is) good takes
+  state = memory_is_taken layout _ book later keeper kept region spare left counts.events l m n between (goes_lane book later l (owing m n (lane_at book l)) book.touched lt is) good takes
       (subst (λ s. s ≤ left) (owed_is_sum (λ x. x.owed_events) later (length later.lanes.items)) stores)
       (subst (λ s. s ≤ free_places kept) (owed_is_sum (λ x. x.owed_records) later (length later.lanes.items)) places) w.state;
   lawful = steps_keep deeds layout base book later l (owing m n (lane_at book l)) book.touched w.lawful lt is (owing_on m n (lane_at book l));
@@ -130,8 +102,8 @@ stays_without deeds book mid later keeper kept region spare left counts l m n lt
 })
   where
     goes_mid : GoesTo book mid l (owing m n (lane_at book l))
-    goes_mid = goes_to book mid l (owing m n (lane_at book l)) book.touched lt first
+    goes_mid = goes_lane book mid l (owing m n (lane_at book l)) book.touched lt first
 
     goes : GoesTo book later l (owing 0 0 (lane_at book l))
-    goes = subst (λ x. GoesTo book later l (owing 0 0 x)) goes_mid.lanes.here (goes_twice book mid later l (owing m n (lane_at book l)) (owing 0 0 (lane_at mid l)) goes_mid
-        (goes_to mid later l (owing 0 0 (lane_at mid l)) mid.touched lt_mid second))
+    goes = subst (λ x. GoesTo book later l (owing 0 0 x)) goes_mid.lanes.here (goes_then book mid later l (owing m n (lane_at book l)) (owing 0 0 (lane_at mid l)) goes_mid
+        (goes_lane mid later l (owing 0 0 (lane_at mid l)) mid.touched lt_mid second))

@@ -15,43 +15,25 @@ use Rattle.lane_book.specs.declared.lane.Lane.{Lane}
 use Rattle.lane_book.specs.FacesOf.{lane_at, faces_of}
 use Rattle.lane_book.specs.Lanes.{with_lane, noted, paid_event}
 use Rattle.lane_book.specs.Steps.{Steps}
-use Rattle.lane_book.proofs.Faces.{lane_at-same, lane_at-other}
 use Rattle.lane_book.proofs.Owing.{owing_faces}
-use Rattle.lawful_book.specs.LawfulBooks.{IsLawfulBook}
+use Rattle.txn_core.specs.LawfulWorlds.{IsLawfulWorld}
 use Rattle.lawful_book.specs.Laws.{GoesOn, IsSameBook}
-use Rattle.lawful_book.proofs.Kept.{steps_keep, same_books_keep}
+use Rattle.txn_core.proofs.LawfulKept.{steps_keep, same_books_keep}
 use Rattle.lawful_book.proofs.GoingOn.{noted_on, owing_on}
 use Rattle.log_keeper.specs.declared.keeper.LogKeeper.{LogKeeper}
 use Rattle.txn_state.specs.Changes.{HasLane, GoesTo}
-use Rattle.txn_state.specs.QuietLaws.{HasSameTransaction}
 use Rattle.txn_state.proofs.SameTransaction.{notes_keep}
 use Rattle.txn_core.specs.Running.{HasStopped}
 use Rattle.txn_core.specs.Advancing.{Stops}
+use Rattle.txn_core.specs.Latched.{Latches, stop_told}
 use Rattle.txn_core.specs.States.{IsWorld, start_of}
 use Rattle.txn_core.specs.Phases.{ArePhased}
 use Rattle.txn_core.specs.Stepping.{StepsWorld, TouchesWord, HasMade, IsCause}
 use Rattle.txn_core.proofs.Phasing.{phased_with, noted_phased}
 use Rattle.txn_core.proofs.Touching.{TouchesNone, count_with, none_with, same_leaves, touches_none, touches_prop}
+use Rattle.txn_core.proofs.Paying.{goes_lane, goes_stopped, goes_then, noted_same}
 
 -- ---- lanes
-
-pub has_lane : {E : Type 0} (book later : Book E) (l : ℕ) (lane : Lane E) (touched : Option ℕ) → l < length book.lanes.items → later ≡ with_lane book l lane touched →
-    HasLane book later l lane
-has_lane book later l lane touched lt is = subst (λ (b : Book _). HasLane book b l lane) (sym is) (record {
-  inside = lt;
-  count = length-set book.lanes.items l lane;
-  here = lane_at-same book l lane touched lt;
-  others = λ k ne. lane_at-other book l k lane touched ne;
-  blocks = refl;
-})
-
-pub goes_with : {E : Type 0} (book later : Book E) (l : ℕ) (lane : Lane E) (touched : Option ℕ) → l < length book.lanes.items → later ≡ with_lane book l lane touched →
-    GoesTo book later l lane
-goes_with book later l lane touched lt is = record {
-  lanes = has_lane book later l lane touched lt is;
-  history = ap (λ (b : Book _). b.history) is;
-  next = ap (λ (b : Book _). b.next_transaction) is;
-}
 
 -- one step behind another of the same lane
 pub lane_then : {E : Type 0} (book between later : Book E) (l : ℕ) (first lane : Lane E) → HasLane book between l first → HasLane between later l lane →
@@ -64,19 +46,11 @@ lane_then book between later l first lane was is = record {
   blocks = is.blocks ∙ was.blocks;
 }
 
-pub goes_then : {E : Type 0} (book between later : Book E) (l : ℕ) (first lane : Lane E) → GoesTo book between l first → GoesTo between later l lane →
-    GoesTo book later l lane
-goes_then book between later l first lane was is = record {
-  lanes = lane_then book between later l first lane was.lanes is.lanes;
-  history = is.history ∙ was.history;
-  next = is.next ∙ was.next;
-}
-
 -- a lane that paid goes to one that the later step says by what it was behind the payment
 pub paid_goes : {E : Type 0} (book between later : Book E) (l : ℕ) (first : Lane E) (change : Lane E → Lane E) (touched : Option ℕ) → l < length book.lanes.items →
     between ≡ with_lane book l first touched → GoesTo between later l (change (lane_at between l)) → GoesTo book later l (change first)
 paid_goes book between later l first change touched lt is goes =
-    let was = goes_with book between l first touched lt is in
+    let was = goes_lane book between l first touched lt is in
     goes_then book between later l first (change first) was (subst (λ (x : Lane _). GoesTo between later l (change x)) was.lanes.here goes)
 
 -- ---- faces
@@ -95,11 +69,11 @@ paid_step deeds book between later l answer lt is step base =
 -- ---- the book's laws
 
 pub lawful_with : {E : Type 0} (deeds : Deeds E) (layout : Layout) (base : Base) (book later : Book E) (l : ℕ) (lane : Lane E) (touched : Option ℕ) → l < length book.lanes.items →
-    later ≡ with_lane book l lane touched → GoesOn (lane_at book l) lane → IsLawfulBook deeds layout base book → IsLawfulBook deeds layout base later
+    later ≡ with_lane book l lane touched → GoesOn (lane_at book l) lane → IsLawfulWorld deeds layout base book → IsLawfulWorld deeds layout base later
 lawful_with deeds layout base book later l lane touched lt is goes lawful = steps_keep deeds layout base book later l lane touched lawful lt is goes
 
 pub lawful_paid : {E : Type 0} (deeds : Deeds E) (layout : Layout) (base : Base) (book between : Book E) (l : ℕ) → l < length book.lanes.items →
-    between ≡ with_lane book l (paid_event (lane_at book l)) book.touched → IsLawfulBook deeds layout base book → IsLawfulBook deeds layout base between
+    between ≡ with_lane book l (paid_event (lane_at book l)) book.touched → IsLawfulWorld deeds layout base book → IsLawfulWorld deeds layout base between
 lawful_paid deeds layout base book between l lt is lawful =
     lawful_with deeds layout base book between l (paid_event (lane_at book l)) book.touched lt is
     (owing_on (paid_event (lane_at book l)).owed_events (paid_event (lane_at book l)).owed_records (lane_at book l)) lawful
@@ -119,8 +93,9 @@ pub steps_world : {E : Type 0} (deeds : Deeds E) (layout : Layout) (book later :
     ((base : Base) → IsWorld deeds layout base book keeper region spare counts.events → IsWorld deeds layout base later kept behind left after.events) →
     Steps deeds book later l answer → HasMade answer counts after → (ArePhased book → ArePhased later) → IsCause layout book keeper counts l answer →
     length later.lanes.items ≡ length book.lanes.items → ((base : Base) → IsWorld deeds layout base book keeper region spare counts.events → TouchesWord layout region behind later.touched) →
-    StepsWorld deeds layout book later keeper kept region behind spare left counts after l answer
-steps_world deeds layout book later keeper kept region behind spare left counts after l answer stays step made phased cause count touches = record {
+    Latches layout book later keeper kept l → StepsWorld deeds layout book later keeper kept region behind spare left counts after l answer
+steps_world deeds layout book later keeper kept region behind spare left counts after l answer stays step made phased cause count touches latches = record {
+  latches = latches;
   count = count;
   touches = λ base is. ∥∥₁_elim is (touches_prop layout region behind later.touched) (touches base);
   phased = phased;
@@ -131,45 +106,8 @@ steps_world deeds layout book later keeper kept region behind spare left counts 
 }
 
 -- The device has stopped: nothing else is another but that the lane was told so.
-noted_same : {E : Type 0} (answer : Stepped) (lane : Lane E) → HasSameTransaction lane (noted answer lane)
-noted_same answer lane = record {
-  stage = refl;
-  transaction = refl;
-  held = refl;
-  begun = refl;
-  commits = refl;
-  writes = refl;
-  updates = refl;
-  waits = λ naming. refl;
-  stored = refl;
-  gives = refl;
-  has_records = refl;
-  rolled = refl;
-  ended = refl;
-  entry = refl;
-  entered = refl;
-  committing = refl;
-  takes = λ s k call. call;
-  due = refl;
-  gives_same = λ k call. call;
-  ending = refl;
-  gates = refl;
-  gates_wait = λ due. refl;
-  promised = refl;
-  owed_events = refl;
-  owed_records = refl;
-}
-
-stopped_goes : {E : Type 0} (book later : Book E) (l : ℕ) (lane : Lane E) → l < length book.lanes.items →
-    later ≡ record (with_lane book l lane None) { stopped = true } → GoesTo book later l lane
-stopped_goes book later l lane lt is = subst (λ (b : Book _). GoesTo book b l lane) (sym is) (let goes = goes_with book (with_lane book l lane None) l lane None lt refl in record {
-  lanes = record { inside = lt; count = goes.lanes.count; here = goes.lanes.here; others = goes.lanes.others; blocks = refl };
-  history = refl;
-  next = refl;
-})
-
 lawful_stopped : {E : Type 0} (deeds : Deeds E) (layout : Layout) (base : Base) (book later : Book E) (l : ℕ) → l < length book.lanes.items →
-    later ≡ record (with_lane book l (noted Stepped.Stopped (lane_at book l)) None) { stopped = true } → IsLawfulBook deeds layout base book → IsLawfulBook deeds layout base later
+    later ≡ record (with_lane book l (noted Stepped.Stopped (lane_at book l)) None) { stopped = true } → IsLawfulWorld deeds layout base book → IsLawfulWorld deeds layout base later
 lawful_stopped deeds layout base book later l lt is lawful =
     let lane = noted Stepped.Stopped (lane_at book l) in
     same_books_keep deeds layout base (with_lane book l lane None) later
@@ -183,6 +121,7 @@ stops_world deeds layout book later keeper region behind spare left counts after
     steps_world deeds layout book later keeper keeper region behind spare left counts after l Stepped.Stopped stays stops.step (inr device.counted_it)
     (phased_with book later l (noted Stepped.Stopped (lane_at book l)) None lt (ap (λ (b : Book _). b.lanes) stops.is) (noted_phased (lane_at book l) Stepped.Stopped))
     (inl device.at_budget) touched.count (λ base world. touches_none layout region behind later.touched touched.none (same_leaves layout region behind device.region_stays))
+    (stop_told (ap (λ (b : Book _). b.stopped) stops.is))
   where
     touched : TouchesNone book later
     touched = none_with book later l (noted Stepped.Stopped (lane_at book l)) (ap (λ (b : Book _). b.lanes) stops.is) (ap (λ (b : Book _). b.touched) stops.is)
@@ -190,7 +129,7 @@ stops_world deeds layout book later keeper region behind spare left counts after
     here : (base : Base) → IsWorld deeds layout base book keeper region spare counts.events → IsWorld deeds layout base later keeper region spare counts.events
     here base world = record {
       state = notes_keep layout (start_of layout base) book later keeper region spare counts.events l (noted Stepped.Stopped (lane_at book l))
-          (noted_same Stepped.Stopped (lane_at book l)) (stopped_goes book later l (noted Stepped.Stopped (lane_at book l)) lt stops.is) stops.kept world.state;
+          (noted_same Stepped.Stopped (lane_at book l)) (goes_stopped book later l (noted Stepped.Stopped (lane_at book l)) None lt stops.is) stops.kept world.state;
       lawful = lawful_stopped deeds layout base book later l lt stops.is world.lawful;
     }
 

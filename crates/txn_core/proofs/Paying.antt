@@ -15,9 +15,9 @@ use Rattle.lane_book.specs.Steps.{IsStep}
 use Rattle.lane_book.specs.Books.{IsLane, IsBook}
 use Rattle.lane_book.proofs.Faces.{lane_at-same, lane_at-other}
 use Rattle.lane_book.proofs.Keeps.{keeps_lane}
-use Rattle.lawful_book.specs.LawfulBooks.{IsLawfulBook}
+use Rattle.txn_core.specs.LawfulWorlds.{IsLawfulWorld}
 use Rattle.lawful_book.proofs.GoingOn.{owing_on}
-use Rattle.lawful_book.proofs.Kept.{steps_keep}
+use Rattle.txn_core.proofs.LawfulKept.{steps_keep}
 use Rattle.txn_state.specs.Changes.{GoesTo}
 use Rattle.txn_state.specs.QuietLaws.{HasSameTransaction}
 
@@ -126,7 +126,7 @@ paid_book book later l events records touched lt is kept =
     keeps_lane book later l (owing events records (lane_at book l)) touched lt is kept (owing_keeps (length book.history.items) events records (lane_at book l))
 
 pub paid_lawful : {E : Type 0} (deeds : Deeds E) (layout : Layout) (base : Base) (book later : Book E) (l events records : ℕ) (touched : Option ℕ) → l < length book.lanes.items →
-    later ≡ with_lane book l (owing events records (lane_at book l)) touched → IsLawfulBook deeds layout base book → IsLawfulBook deeds layout base later
+    later ≡ with_lane book l (owing events records (lane_at book l)) touched → IsLawfulWorld deeds layout base book → IsLawfulWorld deeds layout base later
 paid_lawful deeds layout base book later l events records touched lt is lawful =
     steps_keep deeds layout base book later l (owing events records (lane_at book l)) touched lawful lt is (owing_on events records (lane_at book l))
 

@@ -11,8 +11,9 @@ use Rattle.txn_state.specs.declared.parts.TheConstants.{STORE, END, CLOSE_END, D
 use Rattle.txn_state.specs.Stages.{Stage, Naming, Storing, Securing, Keeping, stage_at, stage_of}
 use Rattle.txn_state.specs.ReadLaws.{clears_in}
 use Rattle.txn_core.specs.Phases.{ArePhased}
-use Rattle.txn_core.proofs.Paid.{goes_with, lanes_paid}
+use Rattle.txn_core.proofs.Paid.{lanes_paid}
 use Rattle.txn_core.proofs.Phasing.{phased_with, noted_phased, owing_phased, moved_phased}
+use Rattle.txn_core.proofs.Paying.{goes_lane}
 
 -- ---- parts
 
@@ -85,7 +86,7 @@ pub part_phased : {E : Type 0} (book between later : Book E) (l part : ℕ) → 
     clears_in (stage_at (lane_at book l).phase (lane_at book l).has_records part (lane_at book l).doing) ≡ clears_in (stage_of (lane_at book l)) → ArePhased book → ArePhased later
 part_phased book between later l part lt pays is same phased =
     phased_with between later l (moved part (lane_at between l)) None (lanes_paid book between l pays lt) (ap (λ (b : Book _). b.lanes) is)
-    (moved_phased (lane_at between l) part (subst (λ (x : Lane _). clears_in (stage_of (moved part x)) ≡ clears_in (stage_of x)) (sym (goes_with book between l (paid_event (lane_at book l)) book.touched lt pays).lanes.here) same))
+    (moved_phased (lane_at between l) part (subst (λ (x : Lane _). clears_in (stage_of (moved part x)) ≡ clears_in (stage_of x)) (sym (goes_lane book between l (paid_event (lane_at book l)) book.touched lt pays).lanes.here) same))
     (paid_phased book between l lt pays phased)
 
 -- the stages before a fence

@@ -13,7 +13,7 @@ use Rattle.lane_book.specs.declared.book.Book.{Book}
 use Rattle.lane_book.specs.declared.lane.Doing.TheVariants as Doing
 use Rattle.lane_book.specs.FacesOf.{lane_at}
 use Rattle.lane_book.specs.Steps.{HasEntry, IsNextEntry, IsLawfulFrom}
-use Rattle.lawful_book.proofs.Fitting as fitting
+use Rattle.txn_core.proofs.LawfulKept as fitting
 use Rattle.log_keeper.specs.declared.keeper.LogKeeper.{LogKeeper}
 use Rattle.txn_state.specs.Stages.{is_commit}
 use Rattle.txn_state.proofs.Sums.{summand_within}
@@ -37,8 +37,8 @@ module _ {E : Type 0} (deeds : Deeds E) (layout : Layout) (book : Book E) (keepe
 
   pub lawful_from : (base : Base) → IsKept deeds layout base book keeper region spare counts → IsLawfulFrom deeds book.history.items base
   lawful_from base kept = record {
-    lawful = ∥∥₁_elim kept ∥∥₁_prop (λ w. w.lawful.lawful);
-    sorts = ∥∥₁_elim kept (sorts_prop base.sorts book.history.items) (λ w. w.lawful.sorts);
+    lawful = ∥∥₁_elim kept ∥∥₁_prop (λ w. w.lawful.owned.lawful);
+    sorts = ∥∥₁_elim kept (sorts_prop base.sorts book.history.items) (λ w. w.lawful.owned.sorts);
   }
 
   -- ---- a commit

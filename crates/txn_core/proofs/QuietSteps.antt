@@ -1,5 +1,5 @@
 -- The steps without an event, each by its laws.
-use Rattle.std.proofs.Common.{◌≡◌, ◌≢◌, inl, ℕ, ◌<◌, ◌^◌, ◌++◌, ◌∷◌, [], Bool, true, false, length, Option, Some, None, refl, sym, ap, ◌∙◌, subst, inr}
+use Rattle.std.proofs.Common.{◌≡◌, ◌≢◌, inl, ℕ, ◌<◌, ◌^◌, ◌++◌, ◌∷◌, List, [], map, Bool, true, false, length, Option, Some, None, refl, sym, ap, ◌∙◌, subst, inr}
 use Rattle.std.proofs.Math.Logic.{∥∥₁_elim}
 use Rattle.std.specs.Coded.{Coded-set, coded_bool}
 use Rattle.persist_model.specs.Region.{Region}
@@ -23,22 +23,29 @@ use Rattle.lane_book.specs.Calls.{Moves}
 use Rattle.lane_book.specs.Locks.{BeginEnds}
 use Rattle.log_keeper.specs.declared.keeper.LogKeeper.{LogKeeper}
 use Rattle.lawful_book.specs.LawfulBooks.{is_inside}
-use Rattle.lawful_book.proofs.Kept as lawful
+use Rattle.txn_core.proofs.LawfulKept as lawful
 use Rattle.lawful_book.proofs.Histories.{Depends}
 use Rattle.lawful_book.proofs.GoingOn.{noted_on, closed_answers, inside_of}
 use Rattle.txn_state.specs.Stages.{Free, Between, Naming, Leaving, stage_of, stage_at, is_commit, Deleting, Unbuilt, idle_stage}
 use Rattle.txn_state.proofs.Begins.{begins_keep}
 use Rattle.txn_state.proofs.SameTransaction.{notes_keep}
 use Rattle.txn_state.proofs.Leaves.{unrecorded_aborts_keep, unrecorded_commits_keep}
+use Rattle.txn_core.specs.Latched.{is_latched, Latches, stop_told, same_stage, none_held}
 use Rattle.txn_core.specs.States.{IsWorld, IsKept, HasWorld}
 use Rattle.txn_core.specs.Stepping.{HasMade, IsCause}
 use Rattle.txn_core.specs.Quiet.{KeepsWorld}
+use Rattle.txn_core.proofs.Latched.{idle_unlatched}
 use Rattle.txn_core.proofs.Touching.{TouchesNone, none_with}
 use Rattle.txn_core.proofs.Phasing.{phased_with, noted_phased, closed_phased, left_phased, begun_phased, commit_left_phased}
 use Rattle.txn_core.proofs.QuietAnswers.{answer_is, steps_answer, last_is}
-use Rattle.txn_core.proofs.Quieting.{goes_to, stops_to, joins_to, has_begun, quiet, answers_keep}
-use Rattle.txn_state.specs.Ties.{due_by}
+use Rattle.txn_core.proofs.Quieting.{joins_to, has_begun, quiet, answers_keep}
+use Rattle.lane_types.specs.May.{AreData}
+use Rattle.lane_traits.specs.declared.draft.WordWrite.{WordWrite}
+use Rattle.region_layout.specs.Layout.{layout_shape}
+use Rattle.txn_laws.specs.Txns.{txn_at}
+use Rattle.txn_state.specs.Ties.{due_by, plain_write, IsCome, under_of}
 use Rattle.txn_state.proofs.StageSteps.{due_none, ends_at, ends_by}
+use Rattle.txn_core.proofs.Paying.{goes_lane, goes_stopped, noted_same}
 
 -- ---- a lane that is as if it had no call
 
@@ -60,6 +67,18 @@ idle_due lane reply is = due_none lane.phase lane.has_records lane.part lane.doi
 idle_ends : {E : Type 0} (lane : Lane E) (reply : Reply) → stage_of (closed reply lane) ≡ stage_of lane → ends lane.doing ≡ false
 idle_ends lane reply is = ends_by lane.phase lane.has_records lane.part lane.doing (idle_stage (phase_after reply)) (sym is) ∙ idle_goes (phase_after reply)
 
+-- a transaction without a record has no write
+none_mapped : (writes : List WordWrite) → map plain_write writes ≡ [] → writes ≡ []
+none_mapped [] is = refl
+none_mapped (w ∷ writes) is = cc
+
+none_written : {E : Type 0} (deeds : Deeds E) (layout : Layout) (base : Base) (book : Book E) (keeper : LogKeeper) (region : Region) (spare : ℕ) (counts : Counts) (l : ℕ) → l < length book.lanes.items →
+    stage_of (lane_at book l) ≡ Leaving → IsWorld deeds layout base book keeper region spare counts.events → AreData base.heap (lane_at book l).writes.items
+none_written deeds layout base book keeper region spare counts l lt stage world =
+    let own = world.state.tied.each l (subst (λ n. l < n) (sym world.state.tied.lanes) lt) in
+    let come = subst (IsCome world.state.s.log (under_of (layout_shape layout) world.state.w l) (txn_at world.state.w.lanes l)) stage own.come in
+    subst (AreData base.heap) (sym (none_mapped (lane_at book l).writes.items (sym own.txn.writes ∙ come.unwritten))) tt
+
 module _ {E : Type 0} (deeds : Deeds E) (layout : Layout) (book later : Book E) (keeper : LogKeeper) (region : Region) (spare : ℕ) (counts : Counts) (l : ℕ)
     (lt : l < length book.lanes.items) (kept : IsBook later) where
   -- ---- the answer alone is noted
@@ -67,33 +86,8 @@ module _ {E : Type 0} (deeds : Deeds E) (layout : Layout) (book later : Book E) 
   noted_world : (base : Base) (answer : Stepped) (b : Book E) → b ≡ with_lane book l (noted answer (lane_at book l)) None → IsBook b →
       IsWorld deeds layout base book keeper region spare counts.events → IsWorld deeds layout base b keeper region spare counts.events
   noted_world base answer b is whole world = record {
-    state = notes_keep layout _ book b keeper region spare counts.events l (noted answer (lane_at book l)) (record {
-      stage = refl;
-      transaction = refl;
-      held = refl;
-      begun = refl;
-      commits = refl;
-      writes = refl;
-      updates = refl;
-      waits = λ at. refl;
-      stored = refl;
-      gives = refl;
-      has_records = refl;
-      rolled = refl;
-      ended = refl;
-      entry = refl;
-      entered = refl;
-      committing = refl;
-      takes = λ s k call. call;
-      due = refl;
-      gives_same = λ k call. call;
-      ending = refl;
-      gates = refl;
-      gates_wait = λ due. refl;
-      promised = refl;
-      owed_events = refl;
-      owed_records = refl;
-    }) (goes_to book b l (noted answer (lane_at book l)) None lt is) whole world.state;
+    state = notes_keep layout _ book b keeper region spare counts.events l (noted answer (lane_at book l)) (noted_same answer (lane_at book l))
+        (goes_lane book b l (noted answer (lane_at book l)) None lt is) whole world.state;
     lawful = lawful.steps_keep deeds layout base book b l (noted answer (lane_at book l)) None world.lawful lt is (noted_on answer (lane_at book l));
   }
 
@@ -101,11 +95,15 @@ module _ {E : Type 0} (deeds : Deeds E) (layout : Layout) (book later : Book E) 
   touches_nothing : (lane : Lane E) → later.lanes ≡ (with_lane book l lane None).lanes → later.touched ≡ None → TouchesNone book later
   touches_nothing lane is none = none_with book later l lane is none
 
+  -- the lane is at its stage yet
+  same_latches : (answer : Stepped) → later ≡ with_lane book l (noted answer (lane_at book l)) None → Latches layout book later keeper keeper l
+  same_latches answer is = same_stage refl (ap stage_of (goes_lane book later l (noted answer (lane_at book l)) None lt is).lanes.here)
+
   pub notes : (answer : Stepped) → later ≡ with_lane book l (noted answer (lane_at book l)) None → Steps deeds book later l answer → HasMade answer counts counts →
       IsCause layout book keeper counts l answer → KeepsWorld deeds layout book later keeper region spare counts l answer
   notes answer is steps made cause = quiet deeds layout book later keeper region spare counts l answer (λ base world. noted_world base answer later is kept world) (λ base world. steps base) made
       (phased_with book later l (noted answer (lane_at book l)) None lt (ap (λ (b : Book E). b.lanes) is) (noted_phased (lane_at book l) answer)) cause
-      (touches_nothing (noted answer (lane_at book l)) (ap (λ (b : Book E). b.lanes) is) (ap (λ (b : Book E). b.touched) is))
+      (touches_nothing (noted answer (lane_at book l)) (ap (λ (b : Book E). b.lanes) is) (ap (λ (b : Book E). b.touched) is)) (same_latches answer is)
 
   -- the same where the answer is told by the steps
   pub idles : (answer : Stepped) → (lane_at book l).doing ≡ Doing.Nothing → later ≡ with_lane book l (noted Stepped.Idle (lane_at book l)) None → Steps deeds book later l answer →
@@ -117,33 +115,8 @@ module _ {E : Type 0} (deeds : Deeds E) (layout : Layout) (book later : Book E) 
   stopped_world : (base : Base) → later ≡ record (with_lane book l (noted Stepped.Stopped (lane_at book l)) None) { stopped = true } →
       IsWorld deeds layout base book keeper region spare counts.events → IsWorld deeds layout base later keeper region spare counts.events
   stopped_world base is world = record {
-    state = notes_keep layout _ book later keeper region spare counts.events l (noted Stepped.Stopped (lane_at book l)) (record {
-      stage = refl;
-      transaction = refl;
-      held = refl;
-      begun = refl;
-      commits = refl;
-      writes = refl;
-      updates = refl;
-      waits = λ at. refl;
-      stored = refl;
-      gives = refl;
-      has_records = refl;
-      rolled = refl;
-      ended = refl;
-      entry = refl;
-      entered = refl;
-      committing = refl;
-      takes = λ s k call. call;
-      due = refl;
-      gives_same = λ k call. call;
-      ending = refl;
-      gates = refl;
-      gates_wait = λ due. refl;
-      promised = refl;
-      owed_events = refl;
-      owed_records = refl;
-    }) (stops_to book later l lt is) kept world.state;
+    state = notes_keep layout _ book later keeper region spare counts.events l (noted Stepped.Stopped (lane_at book l)) (noted_same Stepped.Stopped (lane_at book l))
+        (goes_stopped book later l (noted Stepped.Stopped (lane_at book l)) None lt is) kept world.state;
     lawful = lawful.same_books_keep deeds layout base (with_lane book l (noted Stepped.Stopped (lane_at book l)) None) later
         (lawful.steps_keep deeds layout base book _ l (noted Stepped.Stopped (lane_at book l)) None world.lawful lt refl (noted_on Stepped.Stopped (lane_at book l)))
         (record {
@@ -161,7 +134,8 @@ module _ {E : Type 0} (deeds : Deeds E) (layout : Layout) (book later : Book E) 
       (quiet deeds layout book later keeper region spare counts l Stepped.Stopped (λ base world. stopped_world base is world)
       (λ base world. subst (λ (a : Stepped). Steps deeds book later l a) at steps base) (inl refl)
       (phased_with book later l (noted Stepped.Stopped (lane_at book l)) None lt (ap (λ (b : Book E). b.lanes) is) (noted_phased (lane_at book l) Stepped.Stopped)) (inr before)
-      (touches_nothing (noted Stepped.Stopped (lane_at book l)) (ap (λ (b : Book E). b.lanes) is) (ap (λ (b : Book E). b.touched) is)))
+      (touches_nothing (noted Stepped.Stopped (lane_at book l)) (ap (λ (b : Book E). b.lanes) is) (ap (λ (b : Book E). b.touched) is))
+      (stop_told (ap (λ (b : Book E). b.stopped) is)))
 
   -- ---- a call is answered, and the transaction goes on or there is none
 
@@ -204,8 +178,8 @@ module _ {E : Type 0} (deeds : Deeds E) (layout : Layout) (book later : Book E) 
       promised = refl;
       owed_events = refl;
       owed_records = refl;
-    }) (goes_to book later l (closed reply (lane_at book l)) None lt is) kept world.state;
-    lawful = lawful.answers_keep deeds layout base book later l _ reply (closed reply (lane_at book l)) None world.lawful lt is
+    }) (goes_lane book later l (closed reply (lane_at book l)) None lt is) kept world.state;
+    lawful = lawful.answers_keep deeds layout base book later l reply (closed reply (lane_at book l)) None world.lawful lt is
         (closed_answers reply (lane_at book l) (no_call (lane_at book l).doing quiet_lane.no_commit) quiet_lane.inside);
   }
 
@@ -215,17 +189,18 @@ module _ {E : Type 0} (deeds : Deeds E) (layout : Layout) (book later : Book E) 
   closes reply quiet_lane is steps = quiet deeds layout book later keeper region spare counts l (Stepped.Answered reply) (λ base world. closed_world base reply is quiet_lane world) steps (inl refl)
       (phased_with book later l (closed reply (lane_at book l)) None lt (ap (λ (b : Book E). b.lanes) is) (closed_phased (lane_at book l) reply)) tt
       (touches_nothing (closed reply (lane_at book l)) (ap (λ (b : Book E). b.lanes) is) (ap (λ (b : Book E). b.touched) is))
+      (none_held refl (ap is_latched (sym quiet_lane.stage_is) ∙ idle_unlatched (phase_after reply)))
 
   -- ---- a transaction without a record ends
 
   pub aborts : stage_of (lane_at book l) ≡ Leaving → (lane_at book l).doing ≡ Doing.Abort → later ≡ with_lane book l (left Reply.Aborted (lane_at book l)) None →
       Steps deeds book later l (Stepped.Answered Reply.Aborted) → KeepsWorld deeds layout book later keeper region spare counts l (Stepped.Answered Reply.Aborted)
   aborts stage doing is steps = quiet deeds layout book later keeper region spare counts l (Stepped.Answered Reply.Aborted) (λ base world. record {
-    state = unrecorded_aborts_keep layout _ book later keeper region spare counts.events l stage doing (goes_to book later l (left Reply.Aborted (lane_at book l)) None lt is) kept world.state;
-    lawful = lawful.leaves_keep deeds layout base book later l Reply.Aborted None world.lawful lt refl is;
+    state = unrecorded_aborts_keep layout _ book later keeper region spare counts.events l stage doing (goes_lane book later l (left Reply.Aborted (lane_at book l)) None lt is) kept world.state;
+    lawful = lawful.leaves_keep deeds layout base book later l Reply.Aborted None world.lawful lt refl (λ new. none_written deeds layout base book keeper region spare counts l lt stage world) is;
   }) (λ base world. steps base) (inl refl)
       (phased_with book later l (left Reply.Aborted (lane_at book l)) None lt (ap (λ (b : Book E). b.lanes) is) (left_phased (lane_at book l) Reply.Aborted)) tt
-      (touches_nothing (left Reply.Aborted (lane_at book l)) (ap (λ (b : Book E). b.lanes) is) (ap (λ (b : Book E). b.touched) is))
+      (touches_nothing (left Reply.Aborted (lane_at book l)) (ap (λ (b : Book E). b.lanes) is) (ap (λ (b : Book E). b.touched) is)) (none_held refl (ap is_latched stage))
 
   pub commits : Depends deeds → (e : Entry E) → stage_of (lane_at book l) ≡ Leaving → (lane_at book l).doing ≡ Doing.Commit → (lane_at book l).entry ≡ Some e → IsBook book →
       later ≡ with_history (book.history.items ++ e ∷ []) (with_lane book l (left Reply.Committed (entered_lane (lane_at book l))) None) →
@@ -236,7 +211,7 @@ module _ {E : Type 0} (deeds : Deeds E) (layout : Layout) (book later : Book E) 
     lawful = lawful.commits_keep deeds depends layout base book later l e world.lawful whole lt entry is;
   }) (λ base world. steps base) (inl refl)
       (phased_with book later l (left Reply.Committed (entered_lane (lane_at book l))) None lt (ap (λ (b : Book E). b.lanes) is) (commit_left_phased (lane_at book l) Reply.Committed)) tt
-      (touches_nothing (left Reply.Committed (entered_lane (lane_at book l))) (ap (λ (b : Book E). b.lanes) is) (ap (λ (b : Book E). b.touched) is))
+      (touches_nothing (left Reply.Committed (entered_lane (lane_at book l))) (ap (λ (b : Book E). b.lanes) is) (ap (λ (b : Book E). b.touched) is)) (none_held refl (ap is_latched stage))
 
   -- ---- a transaction begins
 
@@ -248,6 +223,7 @@ module _ {E : Type 0} (deeds : Deeds E) (layout : Layout) (book later : Book E) 
       (phased_with book later l (noted (Stepped.Waiting (Structure s) holder) (lane_at book l)) None lt (ap (λ (b : Book E). b.lanes) is) (noted_phased (lane_at book l) (Stepped.Waiting (Structure s) holder)))
       (record { set = set; call = doing; least = held })
       (touches_nothing (noted (Stepped.Waiting (Structure s) holder) (lane_at book l)) (ap (λ (b : Book E). b.lanes) is) (ap (λ (b : Book E). b.touched) is))
+      (same_latches (Stepped.Waiting (Structure s) holder) is)
   begins set answer doing few whole (BeginEnds.takes loose is) steps =
       quiet deeds layout book later keeper region spare counts l (Stepped.Answered (Reply.Begun book.next_transaction)) (λ base world. record {
         state = begins_keep layout _ book later keeper region spare counts.events l set (record {
@@ -259,6 +235,7 @@ module _ {E : Type 0} (deeds : Deeds E) (layout : Layout) (book later : Book E) 
       }) steps (inl refl)
       (phased_with book later l (begun_lane book.next_transaction set (length book.history.items) (lane_at book l)) None lt (ap (λ (b : Book E). b.lanes) is) (begun_phased (lane_at book l) book.next_transaction set (length book.history.items))) tt
       (touches_nothing (begun_lane book.next_transaction set (length book.history.items) (lane_at book l)) (ap (λ (b : Book E). b.lanes) is) (ap (λ (b : Book E). b.touched) is))
+      (none_held refl (ap (λ d. is_latched (stage_at (lane_at book l).phase (lane_at book l).has_records (lane_at book l).part d)) doing))
 
   -- ---- the answers, as the book's calls tell them
 
@@ -331,7 +308,7 @@ module _ {E : Type 0} (deeds : Deeds E) (layout : Layout) (book later : Book E) 
       (answers_made answer told)
       (phased_with book later l (closed (Reply.Word v) (lane_at book l)) None lt (ap (λ (b : Book E). b.lanes) is) (closed_phased (lane_at book l) (Reply.Word v)))
       (answers_cause answer told)
-      (touches_nothing (closed (Reply.Word v) (lane_at book l)) (ap (λ (b : Book E). b.lanes) is) (ap (λ (b : Book E). b.touched) is))
+      (touches_nothing (closed (Reply.Word v) (lane_at book l)) (ap (λ (b : Book E). b.lanes) is) (ap (λ (b : Book E). b.touched) is)) (none_held refl (ap is_latched between))
     where
       told : is_answered answer ≡ true
       told = ∥∥₁_elim world (Coded-set coded_bool _ _) (λ w. is_an_answer (Reply.Word v) answer

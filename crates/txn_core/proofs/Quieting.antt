@@ -1,5 +1,5 @@
 -- What a step without an event leaves of the state, and of the faces.
-use Rattle.std.proofs.Common.{◌≡◌, ◌≢◌, ℕ, ◌+◌, ◌%◌, ◌<◌, ◌≤◌, ◌==◌, ◌&&◌, ◌||◌, not, if◌then◌else◌, Bool, true, false, List, [], ◌∷◌, ◌++◌, length, Option, None, map, refl, sym, ap, ◌∙◌, subst, arith}
+use Rattle.std.proofs.Common.{◌≡◌, ◌≢◌, ℕ, ◌+◌, ◌%◌, ◌<◌, ◌≤◌, ◌==◌, ◌&&◌, ◌||◌, not, if◌then◌else◌, Bool, true, false, List, [], ◌∷◌, ◌++◌, length, None, map, refl, sym, ap, ◌∙◌, subst, arith}
 use Rattle.std.proofs.Math.Logic.{∥∥₁_map}
 use Rattle.std.proofs.lemmas.List.{length-set}
 use Rattle.persist_model.specs.Region.{Words, Region}
@@ -15,7 +15,7 @@ use Rattle.offset_alloc.specs.declared.Standing.{Standing}
 use Rattle.lane_book.specs.declared.book.Book.{Book}
 use Rattle.lane_book.specs.declared.lane.Lane.{Lane}
 use Rattle.lane_book.specs.FacesOf.{lane_at, faces_of}
-use Rattle.lane_book.specs.Lanes.{with_lane, with_history, noted, begun_lane}
+use Rattle.lane_book.specs.Lanes.{with_lane, with_history, begun_lane}
 use Rattle.lane_book.specs.Reserved.{reserved_by, undo_cells}
 use Rattle.lane_book.specs.Steps.{IsStep}
 use Rattle.lane_book.specs.Books.{IsBook}
@@ -34,6 +34,7 @@ use Rattle.txn_state.specs.States.{IsStateOf}
 use Rattle.txn_state.proofs.Lanes.{lane_sum_same, reserved_less, reserved_by_same, roomy_less, its_entry, entries_stay, same_entry, joining_same}
 use Rattle.txn_state.proofs.Steps.{numbers_stay, goes_on, beside_same, apart_own}
 use Rattle.txn_state.proofs.SameTransaction.{lane_same, owes_of, same_slots, wants, pending_same}
+use Rattle.txn_core.specs.Latched.{Latches}
 use Rattle.txn_core.specs.Phases.{ArePhased}
 use Rattle.txn_core.specs.Stepping.{HasMade, IsCause}
 use Rattle.txn_core.specs.States.{IsWorld, IsKept}
@@ -43,37 +44,7 @@ use Rattle.txn_state.proofs.Given.{deletes_none}
 
 -- ---- the book
 
--- The lane is this one in the later book.
-pub goes_to : {E : Type 0} (book later : Book E) (l : ℕ) (lane : Lane E) (touched : Option ℕ) → l < length book.lanes.items → later ≡ with_lane book l lane touched →
-    GoesTo book later l lane
-goes_to book later l lane touched lt is = subst (λ (b : Book _). GoesTo book b l lane) (sym is) (record {
-  lanes = record {
-    inside = lt;
-    count = length-set book.lanes.items l lane;
-    here = lane_at-same book l lane touched lt;
-    others = λ k ne. lane_at-other book l k lane touched ne;
-    blocks = refl;
-  };
-  history = refl;
-  next = refl;
-})
-
--- and the device had stopped,
-pub stops_to : {E : Type 0} (book later : Book E) (l : ℕ) → l < length book.lanes.items →
-    later ≡ record (with_lane book l (noted Stepped.Stopped (lane_at book l)) None) { stopped = true } → GoesTo book later l (noted Stepped.Stopped (lane_at book l))
-stops_to book later l lt is = subst (λ (b : Book _). GoesTo book b l (noted Stepped.Stopped (lane_at book l))) (sym is) (record {
-  lanes = record {
-    inside = lt;
-    count = length-set book.lanes.items l (noted Stepped.Stopped (lane_at book l));
-    here = lane_at-same book l (noted Stepped.Stopped (lane_at book l)) None lt;
-    others = λ k ne. lane_at-other book l k (noted Stepped.Stopped (lane_at book l)) None ne;
-    blocks = refl;
-  };
-  history = refl;
-  next = refl;
-})
-
--- or an entry joined the history,
+-- an entry joined the history,
 pub joins_to : {E : Type 0} (book later : Book E) (l : ℕ) (lane : Lane E) (e : Entry E) → l < length book.lanes.items →
     later ≡ with_history (book.history.items ++ e ∷ []) (with_lane book l lane None) → JoinsTo book later l lane e
 joins_to book later l lane e lt is = subst (λ (b : Book _). JoinsTo book b l lane e) (sym is) (record {
@@ -108,8 +79,8 @@ pub quiet : {E : Type 0} (deeds : Deeds E) (layout : Layout) (book later : Book 
     ((base : Base) → IsWorld deeds layout base book keeper region spare counts.events → IsWorld deeds layout base later keeper region spare counts.events) →
     ((base : Base) → IsKept deeds layout base book keeper region spare counts → IsStep deeds (faces_of base book) (faces_of base later) l answer) →
     HasMade answer counts counts → (ArePhased book → ArePhased later) → IsCause layout book keeper counts l answer → TouchesNone book later →
-    KeepsWorld deeds layout book later keeper region spare counts l answer
-quiet deeds layout book later keeper region spare counts l answer keeps face made phased cause touches = record {
+    Latches layout book later keeper keeper l → KeepsWorld deeds layout book later keeper region spare counts l answer
+quiet deeds layout book later keeper region spare counts l answer keeps face made phased cause touches latches = record {
   stays = λ base kept. ∥∥₁_map kept (keeps base);
   face = face;
   made = made;
@@ -117,6 +88,7 @@ quiet deeds layout book later keeper region spare counts l answer keeps face mad
   cause = cause;
   count = touches.count;
   touches = λ base kept. touches_none layout region region later.touched touches.none (same_leaves layout region region refl);
+  latches = latches;
 }
 
 -- ---- a call is answered
@@ -167,6 +139,7 @@ unpromised_of layout blocks log newest u p lane x other none_due of = record {
   recorded = of.recorded;
   begun = of.begun;
   has_some = of.has_some;
+  uncompensated = of.uncompensated;
 }
 
 -- The call is answered, and what was promised to it isn't any more.

@@ -16,9 +16,6 @@ use Rattle.lane_book.specs.declared.book.Book.{Book}
 use Rattle.lane_book.specs.declared.lane.Doing.{Doing}
 use Rattle.lane_book.specs.FacesOf.{lane_at}
 use Rattle.lane_book.specs.Steps.{held_by}
-use Rattle.lawful_book.specs.LawfulBooks.{is_word_of}
-use Rattle.lawful_book.proofs.Valued.{values_are_held}
-use Rattle.lawful_book.proofs.Showing.{holds_word}
 use Rattle.log_keeper.specs.declared.keeper.LogKeeper.{LogKeeper}
 use Rattle.txn_laws.specs.Txns.{txn_at}
 use Rattle.txn_state.specs.Stages.{Between, stage_of, stage_at, is_commit}
@@ -26,13 +23,14 @@ use Rattle.txn_state.specs.Ties.{IsCome, under_of}
 use Rattle.txn_state.specs.States.{IsStateOf}
 use Rattle.txn_core.proofs.Facts.{IsRead, any_start, has_logs}
 use Rattle.txn_core.proofs.Finding.{below, found_running}
+use Rattle.txn_core.proofs.LawfulKept.{values_are_held, reads_are_held, own_word}
 use Rattle.txn_core.specs.States.{IsWorld, IsKept, HasWorld, start_of}
 
 -- ---- between calls
 
 module _ {E : Type 0} (deeds : Deeds E) (layout : Layout) (base : Base) (book : Book E) (keeper : LogKeeper) (region : Region) (spare : ℕ) (counts : Counts) (l a : ℕ)
     (lt : l < length book.lanes.items) (between : stage_of (lane_at book l) ≡ Between) (no_commit : is_commit (lane_at book l).doing ≡ false)
-    (place : is_word_of (lane_at book l).held base.heap a ≡ true) (world : IsWorld deeds layout base book keeper region spare counts.events) where
+    (has : has_word (held_by base book l) a ≡ true) (world : IsWorld deeds layout base book keeper region spare counts.events) where
   abbrev state : IsStateOf layout (start_of layout base) book keeper region spare counts.events
   state = world.state
 
@@ -43,8 +41,9 @@ module _ {E : Type 0} (deeds : Deeds E) (layout : Layout) (base : Base) (book : 
   runs = (subst (IsCome state.s.log (under_of (layout_shape layout) state.w l) (txn_at state.w.lanes l)) between (state.tied.each l inside).come).going.runs
 
   pub held_is : (held_by base book l).word a ≡ Some (newest (region.at a))
-  held_is = values_are_held deeds layout base book world.lawful state.is_book.kept l a (holds_word deeds base book.history.items book.next_transaction l (lane_at book l) world.lawful.past (world.lawful.lanes l) a ∙ place) ∙
-      ap (λ v. Some v) (sym (found_running deeds layout base book keeper region spare counts l a lt place world runs (state.is_book.entries.others l no_commit).unentered))
+  held_is = values_are_held deeds layout base book world.lawful state.is_book.kept l a has ∙
+      ap (λ v. Some v) (sym (found_running deeds layout base book keeper region spare counts l a lt (own_word deeds layout base book world.lawful l a has) world runs
+      (state.is_book.entries.others l no_commit).unentered))
 
 -- ---- as the device reads it
 
@@ -63,7 +62,7 @@ read_of words region counts reads full within fits = record { reads = reads; ful
 pub record HoldsWord {E : Type 0} (base : Base) (book : Book E) (l a : ℕ) : Type 0 where
   pub between : stage_of (lane_at book l) ≡ Between
   pub no_commit : is_commit (lane_at book l).doing ≡ false
-  pub place : is_word_of (lane_at book l).held base.heap a ≡ true
+  pub has : has_word (held_by base book l) a ≡ true
 
 module _ {E : Type 0} (deeds : Deeds E) (layout : Layout) (book : Book E) (keeper : LogKeeper) (words : List ℕ) (region : Region) (spare : ℕ) (counts : Counts) (l a : ℕ)
     (read : IsRead words region counts) (lt : l < length book.lanes.items) where
@@ -71,7 +70,7 @@ module _ {E : Type 0} (deeds : Deeds E) (layout : Layout) (book : Book E) (keepe
     -- it is one of the device's words,
     pub inside_words : a < length words
     inside_words = let long = (has_logs deeds layout book keeper words region spare counts read (any_start deeds layout base book keeper region spare counts kept)).long in
-        let lt = ∥∥₁_elim kept le_prop (λ w. below deeds layout base book keeper region spare counts l a lt holds.place w) in omega (arith, long, lt)
+        let lt = ∥∥₁_elim kept le_prop (λ w. below deeds layout base book keeper region spare counts l a lt (own_word deeds layout base book w.lawful l a holds.has) w) in omega (arith, long, lt)
 
     word_is : slice_index words a ≡ newest (region.at a)
     word_is = ap (λ ws. slice_index ws a) read.reads ∙ row_word region a (let here = inside_words in let same = ap length read.reads in let long = row_length region in omega (arith, here, same, long))
@@ -79,7 +78,7 @@ module _ {E : Type 0} (deeds : Deeds E) (layout : Layout) (book : Book E) (keepe
     -- where it has the lane's value
     pub value_is_held : (v : ℕ) → v ≡ slice_index words a → (held_by base book l).word a ≡ Some v
     value_is_held v is = ∥∥₁_elim kept (Coded-set (coded_option coded_ℕ) _ _)
-        (λ w. held_is deeds layout base book keeper region spare counts l a lt holds.between holds.no_commit holds.place w ∙ ap (λ u. Some u) (sym word_is ∙ sym is))
+        (λ w. held_is deeds layout base book keeper region spare counts l a lt holds.between holds.no_commit holds.has w ∙ ap (λ u. Some u) (sym word_is ∙ sym is))
 
   -- ---- in a read
 
@@ -88,7 +87,7 @@ module _ {E : Type 0} (deeds : Deeds E) (layout : Layout) (book : Book E) (keepe
     reads_own base kept = record {
       between = ap (stage_at (lane_at book l).phase (lane_at book l).has_records (lane_at book l).part) doing;
       no_commit = ap is_commit doing;
-      place = ∥∥₁_elim kept (Coded-set coded_bool _ _) (λ w. (w.lawful.lanes l).own_read a doing);
+      has = ∥∥₁_elim kept (Coded-set coded_bool _ _) (λ w. reads_are_held deeds layout base book w.lawful l a doing);
     }
 
     pub read_inside : HasWorld deeds layout book keeper region spare counts → a < length words
@@ -105,8 +104,7 @@ module _ {E : Type 0} (deeds : Deeds E) (layout : Layout) (book : Book E) (keepe
     looks_own = record {
       between = λ i. stage_at (phase i) (lane_at book l).has_records (lane_at book l).part (rests i);
       no_commit = ap is_commit rests;
-      place = ∥∥₁_elim kept (Coded-set coded_bool _ _)
-          (λ w. sym (holds_word deeds base book.history.items book.next_transaction l (lane_at book l) w.lawful.past (w.lawful.lanes l) a) ∙ has);
+      has = has;
     }
 
     pub look_inside : a < length words

@@ -7,6 +7,7 @@ use Rattle.lane_book.specs.declared.lane.Doing.{Doing}
 use Rattle.txn_state.specs.Stages.{Stage, Leaving, Naming, Storing, Securing, Opening, Undoing, TakingBack, Keeping, Ending, Closing, ClosingEnd, Dropping, stage_at, stage_of, write_stage, end_stage, commit_stage, abort_stage, is_commit}
 use Rattle.txn_state.specs.ReadLaws.{clears_in}
 use Rattle.txn_state.specs.declared.parts.TheConstants.{FIRST, STORE, UNDO, KEEP, END, CLOSE, CLOSE_END}
+use Rattle.txn_state.specs.ClosingLaws.{HasCleared}
 use Rattle.txn_core.specs.Phases.{IsPhased}
 
 pub test_on : (m n : ℕ) → m ≡ n → (m == n) ≡ true
@@ -27,6 +28,17 @@ module _ {E : Type 0} (lane : Lane E) where
   pub naming : (a v : ℕ) → lane.doing ≡ Doing.Write a v → lane.part ≢ STORE → stage_of lane ≡ Naming
   naming a v doing other = write_stages a v doing ∙ ap (λ (b : Bool). if b then Storing else Naming) (test_off lane.part STORE other)
 
+  -- ---- a take
+
+  take_stages : (s k : ℕ) → lane.doing ≡ Doing.Take s k → stage_of lane ≡ write_stage lane.part
+  take_stages s k doing = ap (stage_at lane.phase lane.has_records lane.part) doing
+
+  pub take_storing : (s k : ℕ) → lane.doing ≡ Doing.Take s k → lane.part ≡ STORE → stage_of lane ≡ Storing
+  take_storing s k doing is = take_stages s k doing ∙ ap (λ (b : Bool). if b then Storing else Naming) (test_on lane.part STORE is)
+
+  pub take_naming : (s k : ℕ) → lane.doing ≡ Doing.Take s k → lane.part ≢ STORE → stage_of lane ≡ Naming
+  take_naming s k doing other = take_stages s k doing ∙ ap (λ (b : Bool). if b then Storing else Naming) (test_off lane.part STORE other)
+
   -- ---- an end
 
   module _ (stage : stage_of lane ≡ end_stage lane.part) where
@@ -42,11 +54,12 @@ module _ {E : Type 0} (lane : Lane E) where
     behind_close : lane.part ≢ END → lane.part ≢ CLOSE → stage_of lane ≡ (if lane.part == CLOSE_END then ClosingEnd else Dropping)
     behind_close other more = behind other ∙ ap (λ (b : Bool). if b then Closing else (if lane.part == CLOSE_END then ClosingEnd else Dropping)) (test_off lane.part CLOSE more)
 
-    pub closing_end : lane.part ≢ END → lane.part ≢ CLOSE → lane.part ≡ CLOSE_END → stage_of lane ≡ ClosingEnd
-    closing_end other more is = behind_close other more ∙ ap (λ (b : Bool). if b then ClosingEnd else Dropping) (test_on lane.part CLOSE_END is)
-
-    pub dropping : lane.part ≢ END → lane.part ≢ CLOSE → lane.part ≢ CLOSE_END → stage_of lane ≡ Dropping
-    dropping other more last = behind_close other more ∙ ap (λ (b : Bool). if b then ClosingEnd else Dropping) (test_off lane.part CLOSE_END last)
+    pub clearing_further : lane.part ≢ END → lane.part ≢ CLOSE → HasCleared lane
+    clearing_further other more = by (lane.part == CLOSE_END) (behind_close other more)
+      where
+        by : (b : Bool) → stage_of lane ≡ (if b then ClosingEnd else Dropping) → HasCleared lane
+        by true is = inl is
+        by false is = inr is
 
   -- ---- a commit
 

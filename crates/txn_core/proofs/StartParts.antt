@@ -12,9 +12,10 @@ use Rattle.lane_types.specs.Deeds.{Deeds}
 use Rattle.lane_book.specs.declared.book.Book.{Book}
 use Rattle.lane_book.specs.Books.{IsBook, IsFresh}
 use Rattle.log_keeper.specs.declared.keeper.LogKeeper.{LogKeeper}
-use Rattle.lawful_book.specs.LawfulBooks.{IsHeapOf, IsLawfulBook}
-use Rattle.lawful_book.proofs.Kept.{fresh_books_are_lawful}
-use Rattle.lawful_book.proofs.Fitting.{owners_are_structures}
+use Rattle.lawful_book.specs.LawfulBooks.{IsHeapOf}
+use Rattle.txn_core.specs.LawfulWorlds.{IsLawfulWorld}
+use Rattle.txn_core.proofs.LawfulKept.{fresh_books_are_lawful}
+use Rattle.txn_core.proofs.LawfulKept.{owners_are_structures}
 use Rattle.txn_laws.specs.StartLaws.{IsStartingRegion}
 use Rattle.txn_state.specs.StartLaw.{IsFreshBook, IsFreshKeeper}
 use Rattle.txn_state.proofs.Starts.{states_start}
@@ -38,7 +39,7 @@ module _ {E : Type 0} (deeds : Deeds E) (lanes : ℕ) (sorts words : List ℕ) (
   heap_of : IsHeapOf layout (base_of layout sorts words counts)
   heap_of = record { start = refl; blocks = refl; structures = refl; few = (let most = layout.structures_within in omega (arith, most)) }
 
-  lawful : IsLawfulBook deeds layout (base_of layout sorts words counts) book
+  lawful : IsLawfulWorld deeds layout (base_of layout sorts words counts) book
   lawful = fresh_books_are_lawful deeds layout (base_of layout sorts words counts) lanes book.blocks sorts book made.fresh heap_of made.many made.owned
 
   fresh_book : IsFreshBook layout book

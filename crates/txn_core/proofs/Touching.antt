@@ -1,5 +1,5 @@
 -- What a step leaves of the words that a read finds.
-use Rattle.std.proofs.Common.{◌≡◌, ◌≢◌, inl, inr, ℕ, ◌+◌, ◌%◌, ◌++◌, ◌∷◌, [], cond, if◌then◌else◌, length, Option, Some, None, refl, sym, ap, ◌∙◌, subst}
+use Rattle.std.proofs.Common.{◌≡◌, ◌≢◌, inl, inr, ℕ, ◌+◌, ◌-◌, ◌*◌, ◌/◌, ◌%◌, ◌++◌, ◌∷◌, [], cond, if◌then◌else◌, length, Option, Some, None, refl, sym, ap, ◌∙◌, subst, arith}
 use Rattle.std.specs.Vec.{with_item}
 use Rattle.std.proofs.Math.Logic.{∥∥₁_elim}
 use Rattle.std.proofs.Props.{props}
@@ -8,6 +8,7 @@ use Rattle.std.proofs.lemmas.List.{length-set}
 use Rattle.persist_model.specs.declared.event.Event.{Event}
 use Rattle.persist_model.specs.declared.event.Event.TheVariants.{Store, PStore, WriteBack, Fence}
 use Rattle.persist_model.specs.Region.{Words, Region, newest, after, candidate}
+use Rattle.persist_model.specs.Shape.{block, heap}
 use Rattle.persist_model.proofs.Candidates.{newest-push}
 use Rattle.lane_traits.specs.Device.{Counts}
 use Rattle.region_layout.specs.declared.layout.Layout.{Layout}
@@ -21,6 +22,7 @@ use Rattle.log_keeper.specs.declared.keeper.LogKeeper.{LogKeeper}
 use Rattle.txn_laws.proofs.LogEvents.{IsLogEvent, next_is_log, leaves_heap}
 use Rattle.txn_state.specs.AppendLaws.{IsMade}
 use Rattle.txn_state.specs.States.{IsStateOf}
+use Rattle.txn_state.specs.Ties.{IsWrittenWord}
 use Rattle.txn_state.proofs.Making.{is_next}
 use Rattle.txn_core.specs.declared.advancing.Went.{Went}
 use Rattle.txn_core.specs.declared.running.Ran.{Ran}
@@ -162,6 +164,19 @@ store_elsewhere region by a v b ne = elim (eqb_tells b a) [
   | inr off ↦ ap (λ t. newest (cond t (region.at b ++ candidate v (by + 1) ∷ []) (region.at b))) off.0
 ]
 
+-- an owner word is stored
+pub owner_leaves : (layout : Layout) (region behind : Region) (by a v : ℕ) → behind ≡ after region by (PStore a v) → (IsDataWord (layout_shape layout) a → ⊥) → LeavesData layout region behind
+owner_leaves layout region behind by a v is off = record {
+  size = ap (λ (r : Region). r.size) is;
+  same = λ b m. ap (λ (r : Region). newest (r.at b)) is ∙ store_elsewhere region by a v b (λ e. off (subst (IsDataWord (layout_shape layout)) e m));
+}
+
+pub owner_is_no_data : (layout : Layout) (a k : ℕ) → a ≡ block (layout_shape layout) k → IsDataWord (layout_shape layout) a → ⊥
+owner_is_no_data layout a k is on = on.1 (is ∙ own_block (heap (layout_shape layout)) k ∙ ap (λ n. block (layout_shape layout) ((n - heap (layout_shape layout)) / 16)) (sym is))
+  where
+    own_block : (h k : ℕ) → h + 16 * k ≡ h + 16 * ((h + 16 * k - h) / 16)
+    own_block h k = omega arith
+
 -- The touched word is this one, where its value was another.
 pub store_touches : (layout : Layout) (region behind : Region) (by a v : ℕ) (touched : Option ℕ) → behind ≡ after region by (PStore a v) → IsDataWord (layout_shape layout) a →
     touched ≡ changed_word (newest (region.at a)) v a → TouchesWord layout region behind touched
@@ -175,3 +190,12 @@ store_touches layout region behind by a v touched is data_word told = record {
     | inr off ↦ store_elsewhere region by a v b off.1
   ];
 }
+
+-- a word that a lane writes: a data word, or an owner word, at which none is touched
+pub written_touches : (layout : Layout) (region behind : Region) (by a v : ℕ) (touched : Option ℕ) → behind ≡ after region by (PStore a v) → IsWrittenWord (layout_shape layout) a →
+    (IsDataWord (layout_shape layout) a → touched ≡ changed_word (newest (region.at a)) v a) → ((IsDataWord (layout_shape layout) a → ⊥) → touched ≡ None) →
+    TouchesWord layout region behind touched
+written_touches layout region behind by a v touched is (inl data_word) changes none = store_touches layout region behind by a v touched is data_word (changes data_word)
+written_touches layout region behind by a v touched is (inr plain) changes none =
+    let off = owner_is_no_data layout a plain.0 plain.3 in
+    touches_none layout region behind touched (none off) (owner_leaves layout region behind by a v is off)

@@ -20,7 +20,7 @@ use Rattle.lane_book.specs.Books.{IsBook}
 use Rattle.lane_book.specs.Calls.{Moves}
 use Rattle.lawful_book.specs.Laws.{GoesOn}
 use Rattle.lawful_book.proofs.GoingOn.{noted_on, moved_on, update_on, rollback_on, compensation_on, end_on}
-use Rattle.lawful_book.proofs.Kept.{steps_keep, same_books_keep}
+use Rattle.txn_core.proofs.LawfulKept.{steps_keep, same_books_keep}
 use Rattle.log_keeper.specs.declared.keeper.LogKeeper.{LogKeeper}
 use Rattle.log_keeper.specs.Keeper.{keeping_of, KeepsSlots, free_places}
 use Rattle.log_keeper.specs.Logged.{Keeping as Logging, latched}
@@ -119,7 +119,7 @@ stopped_world deeds layout base book later keeper region spare events l lt stops
 }
 
 -- what the device is where it stopped
-stopped_runs : (layout : Layout) (keeper kept : LogKeeper) (region behind : Region) (counts after : Counts) (l spare left : ℕ) →
+pub stopped_runs : (layout : Layout) (keeper kept : LogKeeper) (region behind : Region) (counts after : Counts) (l spare left : ℕ) →
     Runs layout keeper kept region behind counts after l spare left Ran.Stopped → HasStopped region behind counts after spare left × (kept ≡ keeper)
 stopped_runs layout keeper kept region behind counts after l spare left (stopped has same) = (has, same)
 
@@ -154,7 +154,7 @@ answered_world deeds layout base book later keeper kept region behind spare left
 answered_world deeds layout base book later keeper kept region behind spare left counts after l _ lt (goes_so between runs pays moves) world =
     going_world deeds layout base book between later keeper kept region behind spare left counts after l lt runs pays moves world
 
-going_counted : (layout : Layout) (keeper kept : LogKeeper) (region behind : Region) (counts after : Counts) (l spare left : ℕ) →
+pub going_counted : (layout : Layout) (keeper kept : LogKeeper) (region behind : Region) (counts after : Counts) (l spare left : ℕ) →
     Runs layout keeper kept region behind counts after l spare left Ran.Going → after ≡ one_made counts
 going_counted layout keeper kept region behind counts after l spare left (going e n made counted are no_gate keeps) = counted
 
@@ -278,11 +278,11 @@ settled_world deeds layout base book between later keeper mid kept region behind
 
 -- ---- what an event is that was not answered yet
 
-stored_counted : (layout : Layout) (keeper kept : LogKeeper) (region behind : Region) (counts after : Counts) (l spare left : ℕ) (c : Cell) →
+pub stored_counted : (layout : Layout) (keeper kept : LogKeeper) (region behind : Region) (counts after : Counts) (l spare left : ℕ) (c : Cell) →
     Runs layout keeper kept region behind counts after l spare left (Ran.Stored c) → after ≡ one_made counts
 stored_counted layout keeper kept region behind counts after l spare left _ (stored e place c made counted are part_is keeps) = counted
 
-whole_counted : (layout : Layout) (keeper kept : LogKeeper) (region behind : Region) (counts after : Counts) (l spare left : ℕ) →
+pub whole_counted : (layout : Layout) (keeper kept : LogKeeper) (region behind : Region) (counts after : Counts) (l spare left : ℕ) →
     Runs layout keeper kept region behind counts after l spare left Ran.Whole → after ≡ one_made counts
 whole_counted layout keeper kept region behind counts after l spare left (whole e made counted are keeps) = counted
 

@@ -1,9 +1,9 @@
 -- What the code gets of a world's state, whatever stood at the start.
-use Rattle.std.proofs.Common.{◌≡◌, ℕ, ◌%◌, ◌<◌, ◌≤◌, ◌^◌, true, List, length, refl, sym, ap, ◌∙◌, subst}
+use Rattle.std.proofs.Common.{◌≡◌, ℕ, ◌%◌, ◌<◌, ◌≤◌, ◌^◌, true, List, length, sym, ap, ◌∙◌, subst}
 use Rattle.std.proofs.Math.Logic.{∥∥₁_map, ∥∥₁_elim}
 use Rattle.std.proofs.Math.Bridge.{le_prop}
 use Rattle.std.proofs.Math.Nat.{ℕ_set}
-use Rattle.persist_model.specs.Region.{Words, Region, newest_words}
+use Rattle.persist_model.specs.Region.{Region, newest_words}
 use Rattle.lane_traits.specs.Device.{Counts}
 use Rattle.region_layout.specs.declared.layout.Layout.{Layout}
 use Rattle.lane_types.specs.Deeds.{Deeds}
@@ -17,22 +17,9 @@ use Rattle.txn_state.specs.ReadLaws.{makes_events, appends_in, HasLogs}
 use Rattle.txn_core.specs.Advancing.{CanBegin}
 use Rattle.txn_core.specs.States.{IsWorld, IsKept, HasWorld, start_of}
 use Rattle.txn_core.proofs.Propositions.{book_prop}
-use Rattle.txn_core.proofs.Logs.{sound_by, logs_of_sound}
-use Rattle.persist_model.specs.Shape.{shape_of, words_of_shape}
-use Rattle.persist_model.specs.Sound.{IsSound}
-use Rattle.region_layout.specs.Layout.{layout_shape}
-use Rattle.bucket_log.proofs.Partitions.{few_parts}
-use Rattle.log_partition.proofs.Marking.{allowed}
-use Rattle.log_keeper.proofs.EventsPass.{images_are_reached}
-use Rattle.history_laws.specs.Stands.{StandsFor}
-use Rattle.history_laws.proofs.Headers.{header_is_none's, header_below, same_shape}
-use Rattle.txn_laws.specs.Flights.{flight_of}
-use Rattle.txn_laws.proofs.Moments.{worlds_stand}
-use Rattle.txn_laws.proofs.Rooms.{newest_stand}
-use Rattle.txn_state.specs.States.{IsStateOf}
-use Rattle.txn_state.specs.AppendLaws.{newest_image}
 use Rattle.log_keeper.specs.Keeper.{keeping_of, free_places}
 use Rattle.txn_state.specs.ReadLaws.{room_seen}
+use Rattle.txn_core.proofs.ClearedWords.{sound_words, sound_words_by, logs_of_words}
 use Rattle.txn_state.proofs.Owed.{events_are_owed, records_are_owed}
 use Rattle.txn_state.proofs.ReservedRoom.{views_are_read}
 use Rattle.txn_state.proofs.SmallNumbers.{numbers_are_small}
@@ -67,32 +54,12 @@ owes_event deeds layout book keeper region spare counts l lt makes world =
 
 -- ---- the newest words
 
--- they are an image, which is sound, and of the layout
-module _ {E : Type 0} (layout : Layout) (start : Words) (book : Book E) (keeper : LogKeeper) (region : Region) (spare events : ℕ)
-    (full : (a : ℕ) → 0 < length (region.at a)) (st : IsStateOf layout start book keeper region spare events) where
-  newest_stands : StandsFor region.size start st.w.history (flight_of st.w.lanes) (newest_image region)
-  newest_stands = worlds_stand (layout_shape layout) st.base st.s st.chains start st.w region st.world (newest_image region)
-      (newest_stand region (newest_image region) (λ a lt. full a) (λ a lt. refl))
-
-  newest_sound : IsSound region.size (newest_image region)
-  newest_sound = record { shape = newest_stands.shape; state = newest_stands.state; has = newest_stands.has; sound = newest_stands.sound }
-
-  newest_shape : shape_of (newest_image region) ≡ layout_shape layout
-  newest_shape = same_shape region.size st.base (newest_image region) st.world.log.header (λ a m.
-      (images_are_reached (layout_shape layout) st.base st.s st.chains st.w.keeping region (newest_image region) st.world.log.logged
-      (newest_stand region (newest_image region) (λ b lt. full b) (λ b lt. refl))).header a (header_below a m)
-      (λ p inside. header_is_none's (layout_shape layout) p a (few_parts (layout_shape layout) p (allowed layout) inside) m)) ∙ st.world.log.of_shape
-
-  newest_long : region.size ≡ words_of_shape (layout_shape layout)
-  newest_long = st.world.log.logged.size
-
--- so they have a list for each partition
+-- they have a list for each partition
 pub has_logs : {E : Type 0} (deeds : Deeds E) (layout : Layout) (book : Book E) (keeper : LogKeeper) (words : List ℕ) (region : Region) (spare : ℕ) (counts : Counts) →
     IsRead words region counts → HasWorld deeds layout book keeper region spare counts → HasLogs layout words
-has_logs deeds layout book keeper words region spare counts read world = subst (HasLogs layout) (sym read.reads) (logs_of_sound layout region
-    (sound_by region.size (newest_image region) (∥∥₁_map world (λ y. newest_sound layout (start_of layout y.0) book keeper region spare counts.events read.full y.1.state)))
-    (∥∥₁_elim world (hlevel ℕ_set) (λ y. newest_shape layout (start_of layout y.0) book keeper region spare counts.events read.full y.1.state))
-    (∥∥₁_elim world (ℕ_set _ _) (λ y. newest_long layout (start_of layout y.0) book keeper region spare counts.events read.full y.1.state)))
+has_logs deeds layout book keeper words region spare counts read world =
+    subst (HasLogs layout) (sym read.reads) (logs_of_words layout region (sound_words_by layout region (∥∥₁_map world (λ y.
+    sound_words layout y.1.state.base (start_of layout y.0) y.1.state.s y.1.state.chains y.1.state.w region (λ a lt. read.full a) y.1.state.world))))
 
 pub can_begin : {E : Type 0} (deeds : Deeds E) (layout : Layout) (book : Book E) (keeper : LogKeeper) (words : List ℕ) (region : Region) (spare : ℕ) (counts : Counts) (l : ℕ) →
     IsRead words region counts → l < length book.lanes.items → appends_in (stage_of (lane_at book l)) ≡ true → HasWorld deeds layout book keeper region spare counts →

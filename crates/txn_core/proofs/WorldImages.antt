@@ -17,7 +17,7 @@ use Rattle.lane_book.specs.Books.{IsFresh}
 use Rattle.lane_book.specs.Flights.{flight_of, flights_in, flights_of}
 use Rattle.lane_book.specs.Steps.{IsLawfulFrom}
 use Rattle.lawful_book.proofs.Histories.{Depends}
-use Rattle.lawful_book.proofs.Kept as laws
+use Rattle.txn_core.proofs.LawfulKept as laws
 use Rattle.log_keeper.specs.declared.keeper.LogKeeper.{LogKeeper}
 use Rattle.offset_alloc.specs.declared.Standing.{Standing}
 use Rattle.txn_core.specs.Phases.{ArePhased}
@@ -53,8 +53,8 @@ module _ {E : Type 0} (deeds : Deeds E) (layout : Layout) (base : Base) (book : 
       ∥∥₁_map kept (λ w. flights.images_stand layout (start_of layout base) book keeper region spare counts.events phased w.state i m)
 
   pub history_is_lawful : IsLawfulFrom deeds book.history.items base
-  history_is_lawful = ∥∥₁_elim kept (lawful_prop deeds book.history.items base) (λ w. record { lawful = w.lawful.lawful; sorts = w.lawful.sorts })
+  history_is_lawful = ∥∥₁_elim kept (lawful_prop deeds book.history.items base) (λ w. record { lawful = w.lawful.owned.lawful; sorts = w.lawful.owned.sorts })
 
   pub some_flights_are_lawful : Depends deeds → (picks : Entry E → Bool) → IsLawfulFrom deeds (book.history.items ++ filter picks (flights_of book)) base
   some_flights_are_lawful depends picks = ∥∥₁_elim kept (lawful_prop deeds (book.history.items ++ filter picks (flights_of book)) base)
-      (λ w. laws.some_flights_are_lawful deeds depends layout base book w.lawful picks)
+      (λ w. laws.some_flights_are_lawful deeds layout base book w.lawful depends picks)

@@ -21,23 +21,24 @@ use Rattle.lane_book.specs.Lanes.{with_lane, closed, stored_one, paid_event}
 use Rattle.lane_book.specs.Steps.{StepsIf, held_by}
 use Rattle.lane_book.specs.Books.{IsBook}
 use Rattle.lane_book.specs.Calls.{IsDoing}
-use Rattle.lawful_book.proofs.Kept as lawful
+use Rattle.txn_core.proofs.LawfulKept as lawful
 use Rattle.lawful_book.proofs.GoingOn.{stored_answers, inside_of}
 use Rattle.log_keeper.specs.declared.keeper.LogKeeper.{LogKeeper}
 use Rattle.txn_state.specs.Stages.{Storing, stage_of}
 use Rattle.txn_state.proofs.HeapSteps.{writes_are_stored}
 use Rattle.txn_state.proofs.SmallNumbers.{numbers_are_small}
 use Rattle.txn_core.specs.Making.{Makes, made, changed_word}
+use Rattle.txn_core.specs.Latched.{is_latched, none_held}
 use Rattle.txn_core.specs.Phases.{IsPhased, ArePhased}
 use Rattle.txn_core.specs.States.{IsWorld, IsKept, HasWorld, start_of}
 use Rattle.txn_core.specs.Stepping.{StepsWorld, TouchesWord, HasMade, IsCause}
 use Rattle.txn_core.proofs.Facts.{IsRead}
 use Rattle.txn_core.proofs.Phasing.{phased_with, closed_anyway}
 use Rattle.txn_core.proofs.PhasedSteps.{paid_phased}
-use Rattle.txn_core.proofs.Paid.{goes_with, paid_goes, lawful_paid, lanes_paid, count_paid}
-use Rattle.txn_core.proofs.Paying.{paid_lane, paid_step}
+use Rattle.txn_core.proofs.Paid.{paid_goes, lawful_paid, lanes_paid, count_paid}
+use Rattle.txn_core.proofs.Paying.{paid_lane, paid_step, goes_lane}
 use Rattle.txn_core.proofs.Touching.{touches_prop, store_touches}
-use Rattle.txn_core.proofs.WritingWords.{one_write, next_write, write_is_data}
+use Rattle.txn_core.proofs.WritingWords.{one_write, next_write, write_data, writes_it}
 
 -- few writes are stored
 pub few_stored : {E : Type 0} (deeds : Deeds E) (layout : Layout) (book : Book E) (keeper : LogKeeper) (words : _) (region : Region) (spare : ℕ) (counts : Counts) (l : ℕ) → IsRead words region counts →
@@ -48,7 +49,7 @@ few_stored deeds layout book keeper words region spare counts l read at world =
 -- behind the payment the lane is in its write yet
 module _ {E : Type 0} (book between : Book E) (l a v : ℕ) (lt : l < length book.lanes.items) (pays : between ≡ with_lane book l (paid_event (lane_at book l)) book.touched) where
   lane_paid : lane_at between l ≡ paid_event (lane_at book l)
-  lane_paid = (goes_with book between l (paid_event (lane_at book l)) book.touched lt pays).lanes.here
+  lane_paid = (goes_lane book between l (paid_event (lane_at book l)) book.touched lt pays).lanes.here
 
   pub few_paid : (lane_at book l).stored < 2 ^ 62 → (lane_at between l).stored < 2 ^ 62
   few_paid few = subst (λ (n : ℕ). n < 2 ^ 62) (sym (ap (λ (x : Lane E). x.stored) lane_paid)) few
@@ -74,10 +75,10 @@ module _ {E : Type 0} (deeds : Deeds E) (layout : Layout) (book between later : 
       (base : Base) → IsWorld deeds layout base book keeper region spare counts.events → IsWorld deeds layout base later keeper behind left after.events
   stored_state has kept (made event counted paid) base world = record {
     state = writes_are_stored layout (start_of layout base) book later keeper region behind spare left counts.events after.events l (one_write a v) event at
-        (next_write deeds layout book keeper region spare counts l a v has doing)
+        (next_write deeds layout book keeper region spare counts l a v lt has (writes_it layout (lane_at book l).doing a v doing))
         (paid_goes book between later l (paid_event (lane_at book l)) (λ (x : Lane E). closed Reply.Written (stored_one x)) book.touched lt pays
-        (goes_with between later l (closed Reply.Written (stored_one (lane_at between l))) touched was.inside is)) kept world.state;
-    lawful = lawful.answers_keep deeds layout base between later l _ Reply.Written (closed Reply.Written (stored_one (lane_at between l))) touched
+        (goes_lane between later l (closed Reply.Written (stored_one (lane_at between l))) touched was.inside is)) kept world.state;
+    lawful = lawful.answers_keep deeds layout base between later l Reply.Written (closed Reply.Written (stored_one (lane_at between l))) touched
         (lawful_paid deeds layout base book between l lt pays world.lawful) was.inside is
         (stored_answers Reply.Written (lane_at between l) no_commit (λ e. inside_of (Doing.Write a v) (lane_at between l) was.calling was.call refl));
   }
@@ -98,7 +99,7 @@ module _ {E : Type 0} (deeds : Deeds E) (layout : Layout) (book between later : 
   stored_touches : Makes (PStore a v) region behind counts after spare left book between l Done.Made → touched ≡ changed_word (newest (region.at a)) v a →
       (base : Base) → IsWorld deeds layout base book keeper region spare counts.events → TouchesWord layout region behind later.touched
   stored_touches (made event counted paid) changes base world = store_touches layout region behind l a v later.touched event.cells
-      (write_is_data deeds layout book keeper region spare counts l a v ∣ (base, world) ∣₁ doing) (ap (λ (b : Book E). b.touched) is ∙ changes)
+      (write_data deeds layout base book l a v world.lawful world.state.is_book.kept doing) (ap (λ (b : Book E). b.touched) is ∙ changes)
 
   pub word_stored : (answer : Stepped) → answer ≡ Stepped.Answered Reply.Written → HasWorld deeds layout book keeper region spare counts → IsBook later →
       Makes (PStore a v) region behind counts after spare left book between l Done.Made → StepsIf (λ base. has_word (held_by base between l) a ≡ true) deeds between later l answer →
@@ -111,5 +112,6 @@ module _ {E : Type 0} (deeds : Deeds E) (layout : Layout) (book between later : 
         (paid_lane book between l (paid_event (lane_at book l)).owed_events (lane_at book l).owed_records book.touched lt pays) (step base (holds base stood));
     made = subst (λ (s : Stepped). HasMade s counts after) (sym told) (stored_counted makes);
     phased = stored_phased;
+    latches = none_held refl (ap is_latched at);
     cause = subst (λ (s : Stepped). IsCause layout book keeper counts l s) (sym told) tt;
   }

@@ -17,6 +17,7 @@ use Rattle.txn_state.specs.declared.parts.TheConstants.{DROP}
 use Rattle.txn_state.specs.Stages.{is_commit}
 use Rattle.txn_state.specs.ReadLaws.{IsRemovalSeen}
 use Rattle.txn_state.specs.ClosingLaws.{end_reply}
+use Rattle.txn_core.specs.Freeing.{blocks_left, with_blocks}
 
 -- the keeper's data are those, and all else of it is as it was
 pub record HasTurned (keeper later : LogKeeper) (k : Keeping) : Type 0 where
@@ -25,10 +26,11 @@ pub record HasTurned (keeper later : LogKeeper) (k : Keeping) : Type 0 where
   pub ledger : later.ledger ≡ keeper.ledger
   pub slots : KeepsSlots keeper.slots.items later.slots.items
 
--- The removal of the bucket that is read there begins; or the latch is let go, and the call is answered.
+-- The removal of the bucket that is read there begins; or the latch is let go, and the call is answered: the blocks that an aborted transaction took are free.
 pub data Clears {E : Type 0} (deeds : Deeds E) (layout : Layout) (keeper kept : LogKeeper) (words : List ℕ) (book next : Book E) (l : ℕ) (answer : Stepped) : Type 0 where
   begins : (r : Remove) → IsRemovalSeen layout (l % layout.partitions) words r → answer ≡ Stepped.Moved →
       HasTurned keeper kept (begun_in (l % layout.partitions) (drops r) (keeping_of keeper).ledger (keeping_of keeper)) →
       Moves deeds book next l None answer (moved DROP (lane_at book l)) → Clears deeds layout keeper kept words book next l answer
   ends : answer ≡ Stepped.Answered (end_reply (is_commit (lane_at book l).doing)) → HasTurned keeper kept (latched (l % layout.partitions) NOBODY (keeping_of keeper)) →
-      Moves deeds book next l None answer (left_lane (end_reply (is_commit (lane_at book l).doing)) (lane_at book l)) → Clears deeds layout keeper kept words book next l answer
+      Moves deeds (with_blocks (blocks_left layout (is_commit (lane_at book l).doing) (lane_at book l) book.blocks) book) next l None answer
+      (left_lane (end_reply (is_commit (lane_at book l).doing)) (lane_at book l)) → Clears deeds layout keeper kept words book next l answer

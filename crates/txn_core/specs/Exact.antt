@@ -1,6 +1,6 @@
 -- What the answer of a step says of the state before it, what the step costs the lane, and how the history grows.
 use Rattle.log_keeper.specs.declared.slots.TheConstants.{NOBODY}
-use Rattle.std.specs.Prelude.{◌≡◌, ◌≢◌, ◌⊎◌, ℕ, ◌+◌, ◌%◌, ◌<◌, ◌≤◌, true, false, ◌||◌, if◌then◌else◌, [], ◌∷◌, ◌++◌, length, Some}
+use Rattle.std.specs.Prelude.{◌≡◌, ◌≢◌, ◌⊎◌, ℕ, ◌+◌, ◌*◌, ◌%◌, ◌<◌, ◌≤◌, true, false, if◌then◌else◌, [], ◌∷◌, ◌++◌, length, Some, slice_set}
 use Rattle.persist_model.specs.Shape.{Shape}
 use Rattle.lane_traits.specs.Device.{Counts}
 use Rattle.region_layout.specs.declared.layout.Layout.{Layout}
@@ -12,6 +12,8 @@ use Rattle.lane_types.specs.declared.call.Stepped.{Stepped}
 use Rattle.lane_types.specs.declared.call.Stepped.TheVariants.{Moved, Answered, Waiting, Stopped, Idle}
 use Rattle.lane_types.specs.declared.call.What.TheVariants as What
 use Rattle.lane_types.specs.declared.face.Entry.{Entry}
+use Rattle.offset_alloc.specs.declared.Standing.TheVariants.{Owned}
+use Rattle.offset_alloc.specs.Blocks.{IsLeastFree}
 use Rattle.lane_book.specs.declared.book.Book.{Book}
 use Rattle.lane_book.specs.declared.lane.Lane.{Lane}
 use Rattle.lane_book.specs.declared.lane.Doing.{Doing}
@@ -19,11 +21,9 @@ use Rattle.lane_book.specs.FacesOf.{lane_at}
 use Rattle.lane_book.specs.Locks.{AreLoose}
 use Rattle.log_keeper.specs.declared.keeper.LogKeeper.{LogKeeper}
 use Rattle.log_keeper.specs.Keeper.{keeping_of}
-use Rattle.log_keeper.specs.Listing.{gates_in}
-use Rattle.log_keeper.specs.Logged.{plan_in}
 use Rattle.txn_state.specs.Owing.{append_most}
 use Rattle.txn_state.specs.QuietLaws.{ending_needs}
-use Rattle.txn_state.specs.ReadLaws.{makes_events, appends_in, clears_in}
+use Rattle.txn_state.specs.ReadLaws.{makes_events, appends_in}
 use Rattle.txn_state.specs.Stages.{Leaving, Ending, Closing, stage_of}
 use Rattle.txn_core.specs.Running.{one_made}
 use Rattle.txn_core.specs.Stepping.{IsLatched, WaitsForStructure}
@@ -112,37 +112,37 @@ pub record StepsExactly {E : Type 0} (layout : Layout) (book later : Book E) (ke
 
 -- ---- an ask
 
--- So many events a call has at the most, where the log has so many records of the lane's transaction, of which so many are updates that stand.
-abbrev pub most_events : {E : Type 0} → Shape → ℕ → ℕ → Call E → ℕ
-most_events shape records updates (Begin set) = 0
-most_events shape records updates (Read a) = 0
-most_events shape records updates (Write a v) = append_most shape + 1
-most_events shape records updates (Take s) = 0
-most_events shape records updates (Give block) = 0
-most_events shape records updates (Commit deed) = (ending_needs shape records 0 true).events
-most_events shape records updates Abort = (ending_needs shape records updates false).events
-most_events shape records updates Checkpoint = 0
-most_events shape records updates (Batch writes) = 0
-most_events shape records updates Savepoint = 0
-most_events shape records updates (RollbackTo n) = 0
+-- So many events a call has at the most, where so many updates of the lane's transaction stand.
+abbrev pub call_events : {E : Type 0} → Shape → ℕ → Call E → ℕ
+call_events shape updates (Begin set) = 0
+call_events shape updates (Read a) = 0
+call_events shape updates (Write a v) = append_most shape + 1
+call_events shape updates (Take s) = append_most shape + 1
+call_events shape updates (Give block) = 0
+call_events shape updates (Commit deed) = (ending_needs shape updates 0 true).events
+call_events shape updates Abort = (ending_needs shape updates updates false).events
+call_events shape updates Checkpoint = 0
+call_events shape updates (Batch writes) = 0
+call_events shape updates Savepoint = 0
+call_events shape updates (RollbackTo n) = 0
 
--- The lane's call may make at most what it has.
-abbrev pub MayMake : {E : Type 0} → Layout → LogKeeper → Call E → Book E → Book E → ℕ → Type 0
-MayMake layout keeper call book later l = events_owed (lane_at later l) ≤
-    most_events (layout_shape layout) (length (gates_in (lane_at book l).transaction false (keeping_of keeper).ledger)) (length (lane_at book l).updates.items) call
+-- The lane's call may make at most what it has, by the lane's own updates.
+abbrev pub MayMake : {E : Type 0} → Layout → Call E → Book E → Book E → ℕ → Type 0
+MayMake layout call book later l = events_owed (lane_at later l) ≤ call_events (layout_shape layout) (length (lane_at book l).updates.items) call
 
--- No other lane is another, and the history is the same.
+-- And no call of any lane makes more than so many, by the sizes of the region.
+abbrev pub world_events : Layout → ℕ
+world_events layout = 16 * layout.blocks + (31 + layout.cells) * layout.cells * layout.buckets + 8
+
+-- No block stands otherwise; or the lane's call is to take the least free one, which is the structure's from now on.
+pub data GoBlocks {E : Type 0} (book later : Book E) (l : ℕ) : Type 0 where
+  blocks_stay : later.blocks ≡ book.blocks → GoBlocks book later l
+  block_taken : (s k : ℕ) → (lane_at later l).doing ≡ Doing.Take s k → IsLeastFree book.blocks k → later.blocks ≡ slice_set book.blocks k (Owned s) → GoBlocks book later l
+
+-- No other lane is another, and all else of the book is the same but for a block that is taken.
 pub record KeepsBeside {E : Type 0} (book later : Book E) (l : ℕ) : Type 0 where
   pub others : (k : ℕ) → k ≢ l → lane_at later k ≡ lane_at book k
   pub history : later.history.items ≡ book.history.items
-
--- ---- latches
-
--- The lane holds the latch of partition p, where it appends: its call in progress appends there, closes or takes out, and an event is left of what is
--- under way. Where the device has stopped at the first event of an append, none of it may be made.
-pub record HoldsLatch {E : Type 0} (layout : Layout) (book : Book E) (keeper : LogKeeper) (p l : ℕ) : Type 0 where
-  pub lane : l < length book.lanes.items
-  pub here : l % layout.partitions ≡ p
-  pub call : (lane_at book l).doing ≢ Doing.Nothing
-  pub latched : (appends_in (stage_of (lane_at book l)) || clears_in (stage_of (lane_at book l))) ≡ true
-  pub left : ((keeping_of keeper).runs p).made < length (plan_in (layout_shape layout) (keeping_of keeper) p)
+  pub blocks : GoBlocks book later l
+  pub next : later.next_transaction ≡ book.next_transaction
+  pub stopped : later.stopped ≡ book.stopped

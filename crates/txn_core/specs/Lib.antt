@@ -1,8 +1,12 @@
 pub mod Running
 pub mod Beginning
 pub mod Exact
+pub mod Latched
 pub mod Making
 pub mod Advancing
+pub mod LawfulWorlds
+pub mod Putting
+pub mod Freeing
 pub mod States
 pub mod Stepping
 pub mod Images

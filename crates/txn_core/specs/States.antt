@@ -8,7 +8,7 @@ use Rattle.region_layout.specs.Layout.{layout_shape}
 use Rattle.lane_types.specs.Deeds.{Deeds}
 use Rattle.lane_types.specs.Faces.{Base}
 use Rattle.lane_book.specs.declared.book.Book.{Book}
-use Rattle.lawful_book.specs.LawfulBooks.{IsLawfulBook}
+use Rattle.txn_core.specs.LawfulWorlds.{IsLawfulWorld}
 use Rattle.log_keeper.specs.declared.keeper.LogKeeper.{LogKeeper}
 use Rattle.txn_state.specs.States.{IsStateOf}
 
@@ -29,7 +29,7 @@ start_of layout base = heap_words (layout_shape layout) base.heap.at
 -- Book, keeper and device are a state whose history began there, and the history is lawful.
 pub record IsWorld {E : Type 0} (deeds : Deeds E) (layout : Layout) (base : Base) (book : Book E) (keeper : LogKeeper) (region : Region) (spare events : ℕ) : Type 0 where
   pub state : IsStateOf layout (start_of layout base) book keeper region spare events
-  pub lawful : IsLawfulBook deeds layout base book
+  pub lawful : IsLawfulWorld deeds layout base book
 
 abbrev pub IsKept : {E : Type 0} → Deeds E → Layout → Base → Book E → LogKeeper → Region → ℕ → Counts → Type 0
 IsKept deeds layout base book keeper region spare counts = ∥ IsWorld deeds layout base book keeper region spare counts.events ∥₁

@@ -17,6 +17,7 @@ use Rattle.lane_types.specs.declared.call.What.TheVariants as What
 use Rattle.log_keeper.specs.declared.slots.TheConstants.{NOBODY}
 use Rattle.log_keeper.specs.Keeper.{keeping_of}
 use Rattle.log_keeper.specs.declared.keeper.LogKeeper.{LogKeeper}
+use Rattle.txn_core.specs.Latched.{Latches}
 use Rattle.txn_core.specs.Running.{one_made}
 use Rattle.txn_core.specs.Phases.{ArePhased}
 use Rattle.txn_core.specs.States.{IsKept}
@@ -59,8 +60,8 @@ pub record TouchesWord (layout : Layout) (region behind : Region) (touched : Opt
   pub others : (a : ℕ) → IsDataWord (layout_shape layout) a → touched ≢ Some a → newest (behind.at a) ≡ newest (region.at a)
 
 -- From one state to the next: it is kept, whatever stood where the world began; the lane's face changes by the row of the answer and no other does;
--- so many events are made; the phases stay those of the calls; the answer has its cause; lanes are as many; and at most the touched one of the heap's
--- data words has another value.
+-- so many events are made; the phases stay those of the calls; the answer has its cause; lanes are as many; at most the touched one of the heap's data
+-- words has another value; and of the latches at most the one of the lane's partition is another.
 pub record StepsWorld {E : Type 0} (deeds : Deeds E) (layout : Layout) (book later : Book E) (keeper kept : LogKeeper) (region behind : Region) (spare left : ℕ) (counts after : Counts) (lane : ℕ) (answer : Stepped) : Type 0 where
   pub stays : (base : Base) → IsKept deeds layout base book keeper region spare counts → IsKept deeds layout base later kept behind left after
   pub face : (base : Base) → IsKept deeds layout base book keeper region spare counts → IsStep deeds (faces_of base book) (faces_of base later) lane answer
@@ -69,3 +70,4 @@ pub record StepsWorld {E : Type 0} (deeds : Deeds E) (layout : Layout) (book lat
   pub cause : IsCause layout book keeper counts lane answer
   pub count : length later.lanes.items ≡ length book.lanes.items
   pub touches : (base : Base) → IsKept deeds layout base book keeper region spare counts → TouchesWord layout region behind later.touched
+  pub latches : Latches layout book later keeper kept lane

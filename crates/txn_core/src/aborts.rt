@@ -10,7 +10,7 @@ ghost use Rattle.txn_core.specs.States.{HasWorld};
 ghost use Rattle.txn_core.specs.Stepping.{StepsWorld};
 
 use crate::advancing::{Went, append};
-use crate::events::{changed, make};
+use crate::events::{changed_data, make};
 use lane_book::Book;
 use lane_traits::{Device, Done};
 use lane_types::{Deed, Stepped};
@@ -120,7 +120,7 @@ pub(crate) fn take_word_back<D: Device, E: Deed>(
         return book.stop(lane);
     };
     let next = undo_part(book, lane);
-    let touched = changed(device, a, v);
+    let touched = changed_data(device, layout, a, v);
     match make(device, book, lane, Event::PStore(a, v)) {
         Done::Stopped => book.stop(lane),
         Done::Made => book.word_taken_back(lane, touched, next),

@@ -1,5 +1,5 @@
 // The calls that append nothing are asked.
-ghost use Rattle.std.specs.Prelude.{◌≡◌, ◌≢◌, ◌<◌, length, OnOk, OnErr};
+ghost use Rattle.std.specs.Prelude.{◌≡◌, ◌≢◌, ◌<◌, ℕ, length, OnOk, OnErr};
 ghost use Rattle.lane_types.specs.Asks as Asks;
 ghost use Rattle.lane_types.specs.May.{May};
 ghost use Rattle.lane_types.specs.Faces.{Base};
@@ -8,8 +8,9 @@ ghost use Rattle.lane_book.specs.declared.lane.Doing.TheVariants as Doing;
 ghost use Rattle.lane_book.specs.FacesOf.{lane_at, faces_of};
 ghost use Rattle.lane_book.specs.Books.{IsBook};
 ghost use Rattle.lane_book.specs.Steps.{IsPlain};
+ghost use Rattle.log_keeper.specs.declared.keeper.LogKeeper.{LogKeeper};
 ghost use Rattle.txn_core.specs.Exact.{KeepsBeside, events_owed};
-ghost use Rattle.txn_core.specs.Asking.{AppendsNothing, ChangesFace, StaysAsked, StaysAlways};
+ghost use Rattle.txn_core.specs.Asking.{AppendsNothing, ChangesFace, IsUnasked, StaysAsked, StaysAlways};
 ghost use Rattle.txn_core.specs.Phases.{ArePhased};
 
 use lane_book::{Book, Doing};
@@ -32,6 +33,7 @@ pub(crate) fn ask_quiet<E: Deed>(
     ensures same_face { OnErr result (ChangesFace (λ face. face) book.old book.new lane) }
     ensures stays { OnOk result (StaysAsked E.meaning call.now book.old book.new lane) }
     ensures still { OnErr result (StaysAlways E.meaning book.old book.new) }
+    ensures unasked { OnErr result ((keeper : LogKeeper) (spare : ℕ) → IsUnasked book.old book.new keeper keeper spare spare lane) }
     ensures phased { ArePhased book.old → ArePhased book.new }
     ensures beside { KeepsBeside book.old book.new lane }
     ensures owes { OnOk result (events_owed (lane_at book.new lane) ≡ 0) }

@@ -10,8 +10,8 @@ ghost use Rattle.lane_book.specs.FacesOf.{lane_at};
 ghost use Rattle.log_keeper.specs.Keeper.{keeping_of};
 ghost use Rattle.txn_state.specs.QuietLaws.{HasMorePlaces};
 ghost use Rattle.txn_core.specs.Exact.{KeepsBeside, MayMake};
-ghost use Rattle.txn_core.specs.Asking.{ChangesFace};
-ghost use Rattle.txn_core.specs.AskedEnds.{IsCommitAsked, StaysTaken, StaysRefused};
+ghost use Rattle.txn_core.specs.Asking.{ChangesFace, IsUnasked, StaysTaken, StaysRefused};
+ghost use Rattle.txn_core.specs.AskedEnds.{IsCommitAsked};
 ghost use Rattle.txn_core.specs.Phases.{ArePhased};
 ghost use Rattle.txn_core.specs.States.{HasWorld};
 
@@ -44,9 +44,10 @@ pub(crate) fn ask_abort<D: Device, E: Deed>(
     ensures same_face { OnErr result (ChangesFace (λ face. face) book.old book.new lane) }
     ensures stays { OnOk result (StaysTaken E.meaning layout Call.Abort book.old book.new log.old log.new (D.cells device.old) (D.spare device.old) (D.spare device.new) (D.counts device.old) lane) }
     ensures still { OnErr result (StaysRefused E.meaning layout book.old book.new log.old log.new (D.cells device.old) (D.spare device.old) (D.spare device.new) (D.counts device.old)) }
+    ensures unasked { OnErr result (IsUnasked book.old book.new log.old log.new (D.spare device.old) (D.spare device.new) lane) }
     ensures phased { ArePhased book.old → ArePhased book.new }
     ensures beside { KeepsBeside book.old book.new lane }
-    ensures owes { OnOk result (MayMake layout log.old Call.Abort book.old book.new lane) }
+    ensures owes { OnOk result (MayMake layout Call.Abort book.old book.new lane) }
     ensures book { IsBook book.new }
 {
     let kept = &book.lanes[lane as usize];
@@ -107,9 +108,10 @@ pub(crate) fn ask_commit<D: Device, E: Deed>(
     ensures same_face { OnErr result (ChangesFace (λ face. face) book.old book.new lane) }
     ensures stays { OnOk result (StaysTaken E.meaning layout (Call.Commit deed) book.old book.new log.old log.new (D.cells device.old) (D.spare device.old) (D.spare device.new) (D.counts device.old) lane) }
     ensures still { OnErr result (StaysRefused E.meaning layout book.old book.new log.old log.new (D.cells device.old) (D.spare device.old) (D.spare device.new) (D.counts device.old)) }
+    ensures unasked { OnErr result (IsUnasked book.old book.new log.old log.new (D.spare device.old) (D.spare device.new) lane) }
     ensures phased { ArePhased book.old → ArePhased book.new }
     ensures beside { KeepsBeside book.old book.new lane }
-    ensures owes { OnOk result (MayMake layout log.old (Call.Commit deed) book.old book.new lane) }
+    ensures owes { OnOk result (MayMake layout (Call.Commit deed) book.old book.new lane) }
     ensures deed { IfErr result (λ refused. refused.1 ≡ deed) }
     ensures book { IsBook book.new }
 {

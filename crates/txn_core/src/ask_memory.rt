@@ -4,7 +4,7 @@ ghost use Rattle.lane_book.specs.FacesOf.{lane_at};
 ghost use Rattle.lane_book.specs.Books.{IsBook};
 ghost use Rattle.log_keeper.specs.Keeper.{keeping_of, free_places, HasRoomIn, KeepsSlots};
 ghost use Rattle.txn_state.specs.Changes as Changes;
-ghost use Rattle.txn_core.specs.Asking.{Owes, StaysBetween};
+ghost use Rattle.txn_core.specs.Asking.{HasNoLess, Owes, StaysBetween};
 
 use lane_book::Book;
 use lane_traits::Device;
@@ -70,6 +70,7 @@ pub(crate) fn take_memory<D: Device, E: Deed>(
     ensures counts { D.counts device.new ≡ D.counts device.old }
     ensures log { keeping_of log.new ≡ keeping_of log.old }
     ensures slots { length log.new.slots.items ≡ length log.old.slots.items }
+    ensures more { HasNoLess log.old log.new (D.spare device.old) (D.spare device.new) }
     ensures book { IsBook book.new }
     ensures stays { StaysBetween E.meaning book.old book.new log.old log.new (D.cells device.old) (D.spare device.old) (D.spare device.new) (D.counts device.old) lane }
     ensures owes { OnOk result (Owes book.old book.new lane wants.events wants.records) }

@@ -6,8 +6,9 @@ ghost use Rattle.lane_types.specs.declared.call.Phase.TheVariants as Phase;
 ghost use Rattle.lane_book.specs.declared.lane.Doing.TheVariants as Doing;
 ghost use Rattle.lane_book.specs.FacesOf.{lane_at};
 ghost use Rattle.lane_book.specs.Refusals.{is_mine, block_in};
+ghost use Rattle.log_keeper.specs.Keeper.{keeping_of};
 ghost use Rattle.txn_core.specs.Exact.{KeepsBeside, MayMake};
-ghost use Rattle.txn_core.specs.Asking.{IsAsked, LacksMemory, need_for, room_for};
+ghost use Rattle.txn_core.specs.Asking.{IsAsked, IsUnasked, LacksMemory, need_for, room_for};
 ghost use Rattle.txn_core.specs.States.{HasWorld};
 
 use crate::ask_memory::take_memory;
@@ -38,10 +39,12 @@ pub(crate) fn ask_write<D: Device, E: Deed>(
     requires world { HasWorld E.meaning layout book.old log.old (D.cells device.old) (D.spare device.old) (D.counts device.old) }
     ensures cells { D.cells device.new ≡ D.cells device.old }
     ensures counts { D.counts device.new ≡ D.counts device.old }
+    ensures log { keeping_of log.new ≡ keeping_of log.old }
     ensures asked { OnOk result (IsAsked E.meaning layout (Call.Write a v) book.old book.new log.old log.new (D.cells device.old) (D.spare device.old) (D.spare device.new) (D.counts device.old) lane) }
     ensures lacks { OnErr result (LacksMemory E.meaning layout book.old book.new log.old log.new (D.cells device.old) (D.spare device.old) (D.spare device.new) (D.counts device.old) lane) }
+    ensures unasked { OnErr result (IsUnasked book.old book.new log.old log.new (D.spare device.old) (D.spare device.new) lane) }
     ensures beside { KeepsBeside book.old book.new lane }
-    ensures owes { OnOk result (MayMake layout log.old (Call.Write a v) book.old book.new lane) }
+    ensures owes { OnOk result (MayMake layout (Call.Write a v) book.old book.new lane) }
 {
     match take_memory(
         device,

@@ -1,6 +1,7 @@
 // An event of a lane on its own words.
-ghost use Rattle.std.specs.Prelude.{◌≡◌, ◌<◌, ◌≤◌, length, slice_index};
+ghost use Rattle.std.specs.Prelude.{◌≡◌, ◌<◌, ◌≤◌, length, slice_index, None};
 ghost use Rattle.lane_traits.specs.Device.{IsWithin};
+ghost use Rattle.region_layout.specs.Layout.{layout_shape, IsDataWord};
 ghost use Rattle.lane_book.specs.FacesOf.{lane_at};
 ghost use Rattle.lane_book.specs.Books.{IsBook};
 ghost use Rattle.txn_core.specs.Making.{Makes, changed_word};
@@ -8,6 +9,7 @@ ghost use Rattle.txn_core.specs.Making.{Makes, changed_word};
 use lane_book::Book;
 use lane_traits::{Device, Done};
 use persist_model::Event;
+use region_layout::Layout;
 
 /// The event is made, and the lane's book pays for it. After `Stopped` the book and the words are as they were.
 pub fn make<D: Device, E>(device: &mut D, book: &mut Book<E>, lane: u32, event: Event) -> Done
@@ -35,4 +37,17 @@ pub(crate) fn changed<D: Device>(device: &D, a: u32, v: u64) -> Option<u32>
     ensures { result ≡ changed_word (slice_index (D.words device.now) a) v a }
 {
     if device.word(a) == v { None } else { Some(a) }
+}
+
+// The same where it is a data word of the heap, and none where it is the owner word of a block.
+pub(crate) fn changed_data<D: Device>(device: &D, layout: Layout, a: u32, v: u64) -> Option<u32>
+    requires { a < length (D.words device.now) }
+    ensures data_word { IsDataWord (layout_shape layout) a → result ≡ changed_word (slice_index (D.words device.now) a) v a }
+    ensures owner { (IsDataWord (layout_shape layout) a → ⊥) → result ≡ None }
+{
+    if layout.is_data(a) {
+        changed(device, a, v)
+    } else {
+        None
+    }
 }

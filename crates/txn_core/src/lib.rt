@@ -7,6 +7,7 @@ mod ask_calls;
 mod ask_ends;
 mod ask_memory;
 mod ask_refusals;
+mod ask_takes;
 mod ask_wants;
 mod ask_writes;
 mod asking;
@@ -21,6 +22,7 @@ mod quiet;
 mod running;
 mod starting;
 mod stepping;
+mod takes;
 mod world;
 mod writes;
 

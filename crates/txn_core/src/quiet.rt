@@ -5,6 +5,7 @@ ghost use Rattle.lane_book.specs.FacesOf.{lane_at};
 ghost use Rattle.lane_book.specs.declared.lane.Doing.TheVariants as Doing;
 ghost use Rattle.txn_state.specs.Stages.{Leaving, stage_of};
 ghost use Rattle.txn_core.specs.Exact.{GoesExactly, StepsExactly};
+ghost use Rattle.txn_core.specs.Latched.{HaveBegun};
 ghost use Rattle.txn_core.specs.States.{HasWorld};
 ghost use Rattle.txn_core.specs.Quiet.{KeepsWorld};
 
@@ -44,6 +45,7 @@ pub(crate) fn stop<D: Device, E: Deed>(
     requires lane { lane < length book.old.lanes.items }
     requires stopped { book.old.stopped ≡ true }
     requires world { HasWorld E.meaning layout book.old log.now (D.cells device.now) (D.spare device.now) (D.counts device.now) }
+    ensures begins { HaveBegun layout book.new log.now }
     ensures steps { KeepsWorld E.meaning layout book.old book.new log.now (D.cells device.now) (D.spare device.now) (D.counts device.now) lane result }
     ensures exact { StepsExactly layout book.old book.new log.now (D.counts device.now) (D.counts device.now) lane result }
 {

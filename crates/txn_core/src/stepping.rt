@@ -6,23 +6,25 @@ ghost use Rattle.lane_book.specs.declared.lane.Doing.TheVariants as Doing;
 ghost use Rattle.txn_state.specs.Stages.{stage_of, end_stage};
 ghost use Rattle.txn_state.specs.declared.parts.TheConstants as parts;
 ghost use Rattle.txn_core.specs.Exact.{GoesExactly, StepsExactly};
+ghost use Rattle.txn_core.specs.Latched.{HaveBegun};
 ghost use Rattle.txn_core.specs.Phases.{IsPhased};
 ghost use Rattle.txn_core.specs.States.{HasWorld};
 ghost use Rattle.txn_core.specs.Stepping.{StepsWorld};
 
 use crate::aborts::{append_compensation, append_rollback, take_word_back};
-use crate::clearing::{close_end, close_records, drop_bucket};
+use crate::clearing::{clear_further, close_records};
 use crate::ends::{append_commit, append_undone, fence};
 use crate::quiet::{
     abort_unrecorded, begin_transaction, checkpoint, commit_unrecorded, idle, read_word, stop,
 };
+use crate::takes::store_owner;
 use crate::writes::{append_update, store_word};
 use lane_book::{Book, Doing};
 use lane_traits::Device;
 use lane_types::{Deed, Stepped};
 use log_keeper::LogKeeper;
 use region_layout::Layout;
-use txn_state::parts::{CLOSE, CLOSE_END, END, FIRST, KEEP, STORE, UNDO};
+use txn_state::parts::{CLOSE, END, FIRST, KEEP, STORE, UNDO};
 
 // Whether the lane's transaction has a record.
 fn has_records<E>(book: &Book<E>, lane: u32) -> bool
@@ -57,6 +59,32 @@ fn step_write<D: Device, E: Deed>(
     append_update(device, layout, log, book, lane, a, v)
 }
 
+// A take: the update of the block's owner word is appended, and then the word is stored.
+fn step_take<D: Device, E: Deed>(
+    device: &mut D,
+    layout: Layout,
+    log: &mut LogKeeper,
+    book: &mut Book<E>,
+    lane: u32,
+    structure: u32,
+    block: u32,
+) -> Stepped
+    requires lane { lane < length book.old.lanes.items }
+    requires calling { (lane_at book.old lane).phase ≡ Phase.Calling }
+    requires phased { IsPhased (lane_at book.old lane) }
+    requires doing { (lane_at book.old lane).doing ≡ Doing.Take structure block }
+    requires world { HasWorld E.meaning layout book.old log.old (D.cells device.old) (D.spare device.old) (D.counts device.old) }
+    ensures steps { StepsWorld E.meaning layout book.old book.new log.old log.new (D.cells device.old) (D.cells device.new) (D.spare device.old) (D.spare device.new) (D.counts device.old) (D.counts device.new) lane result }
+    ensures exact { GoesExactly layout book.old book.new log.old (D.counts device.old) (D.counts device.new) lane result }
+{
+    let part = book.part(lane);
+    if part == STORE {
+        return store_owner(device, layout, log, book, lane, structure, block);
+    }
+    let owner = u64::from(structure) + 1;
+    append_update(device, layout, log, book, lane, layout.block(block), owner)
+}
+
 // Behind the append of the end: its transaction's records are closed, and buckets are taken out.
 fn step_clearing<D: Device, E: Deed>(
     device: &mut D,
@@ -78,10 +106,7 @@ fn step_clearing<D: Device, E: Deed>(
     if part == CLOSE {
         return close_records(device, layout, log, book, lane);
     }
-    if part == CLOSE_END {
-        return close_end(device, layout, log, book, lane);
-    }
-    drop_bucket(device, layout, log, book, lane)
+    clear_further(device, layout, log, book, lane)
 }
 
 // A commit.
@@ -186,6 +211,7 @@ pub fn step<D: Device, E: Deed>(
     requires world { HasWorld E.meaning layout book.old log.old (D.cells device.old) (D.spare device.old) (D.counts device.old) }
     ensures steps { StepsWorld E.meaning layout book.old book.new log.old log.new (D.cells device.old) (D.cells device.new) (D.spare device.old) (D.spare device.new) (D.counts device.old) (D.counts device.new) lane result }
     ensures exact { StepsExactly layout book.old book.new log.old (D.counts device.old) (D.counts device.new) lane result }
+    ensures begins { HaveBegun layout book.old log.old → HaveBegun layout book.new log.new }
 {
     if book.stopped {
         return stop(device, layout, log, book, lane);
@@ -198,8 +224,10 @@ pub fn step<D: Device, E: Deed>(
         Doing::Commit => step_commit(device, layout, log, book, lane),
         Doing::Abort => step_abort(device, layout, log, book, lane),
         Doing::Checkpoint => checkpoint(device, layout, log, book, lane),
+        Doing::Take(structure, block) => step_take(
+            device, layout, log, book, lane, structure, block,
+        ),
         // No lane has such a call in progress.
-        Doing::Take(_, _) => stop(device, layout, log, book, lane),
         Doing::Give(_) => stop(device, layout, log, book, lane),
         Doing::Batch(_) => stop(device, layout, log, book, lane),
         Doing::Savepoint => stop(device, layout, log, book, lane),

@@ -1,4 +1,4 @@
-ghost use Rattle.std.specs.Prelude.{◌≡◌, ◌≢◌, ◌<◌, ◌≤◌, ◌-◌, ◌^◌, ◌++◌, [], ℕ, Bool, min, true, length, slice_index, Some, OnOk, IfOk, IfErr};
+ghost use Rattle.std.specs.Prelude.{◌≡◌, ◌≢◌, ◌<◌, ◌≤◌, ◌-◌, ◌^◌, ◌++◌, [], ℕ, Bool, min, true, false, length, slice_index, Some, OnOk, IfOk, IfErr};
 ghost use Rattle.std.specs.List.{filter};
 ghost use Rattle.std.specs.Option.{option_copied};
 ghost use Rattle.persist_model.specs.Region.{AreSettled};
@@ -17,7 +17,8 @@ ghost use Rattle.txn_core.specs.Asking.{IsBuilt, Accepts, Refuses};
 ghost use Rattle.txn_core.specs.Laning.{seen_in};
 ghost use Rattle.log_keeper.specs.declared.slots.TheConstants.{NOBODY};
 ghost use Rattle.log_keeper.specs.Keeper.{keeping_of};
-ghost use Rattle.txn_core.specs.Exact.{HoldsLatch, KeepsBeside, MayMake, StepsExactly};
+ghost use Rattle.txn_core.specs.Exact.{events_owed, world_events, KeepsBeside, MayMake, StepsExactly};
+ghost use Rattle.txn_core.specs.Latched.{HasMadeOne, HaveBegun, HoldsLatch};
 ghost use Rattle.txn_core.specs.Images.{LeavesNothing};
 ghost use Rattle.txn_core.specs.Phases.{ArePhased};
 ghost use Rattle.txn_core.specs.Starting.{IsForced, Starts};
@@ -62,6 +63,8 @@ pub struct World<D: Device, E: Deed> {
     pub(crate) ghost kept: { IsKept E.meaning layout (base_of layout sorts.value (D.words begun.value) (D.counts begun.value)) book log (D.cells device) (D.spare device) (D.counts device) },
     /// Where a call is in progress, and a commit's entry has joined.
     pub(crate) ghost phased: { ArePhased book },
+    /// An append that is begun has made an event, or a step was told to have stopped.
+    pub(crate) ghost begins: { HaveBegun layout book log },
     /// What its faces show is in the words.
     pub(crate) ghost agreed: { AreInAgreement (seen_in (D.words device) (base_of layout sorts.value (D.words begun.value) (D.counts begun.value)) book) },
     pub(crate) ghost none_put: { flight.items ≡ [] },
@@ -139,7 +142,8 @@ impl<D: Device, E: Deed> World<D, E> {
     /// Makes this the lane's call in progress, for which no step is made, or gives it back. The words stay.
     ///
     /// It is refused where the lane is not in the call's phase, where it names what the lane doesn't hold, where its partition of the log has too little
-    /// room beside what is reserved, and for want of memory, in this order. Then only the lane's tally is another.
+    /// room beside what is reserved, and for want of memory, in this order. Then only the lane's tally is another. An accepted call makes at most as many
+    /// events as its transaction's updates want, which the sizes of the region bound.
     pub fn ask(&mut self, lane: u32, call: Call<E>) -> Result<(), (Refusal, Call<E>)>
         requires lane { lane < length self.old.book.lanes.items }
         requires built { IsBuilt call }
@@ -149,9 +153,11 @@ impl<D: Device, E: Deed> World<D, E> {
             (D.words self.old.device) call refused.0 self.old.book self.new.book lane) }
         ensures returned { IfErr result (λ refused. refused.1 ≡ call) }
         ensures beside { KeepsBeside self.old.book self.new.book lane }
-        ensures owes { OnOk result (MayMake self.old.layout self.old.log call self.old.book self.new.book lane) }
+        ensures owes { OnOk result (MayMake self.old.layout call self.old.book self.new.book lane) }
+        ensures within { OnOk result (events_owed (lane_at self.new.book lane) ≤ world_events self.old.layout) }
         ensures cells { D.cells self.new.device ≡ D.cells self.old.device }
         ensures counts { D.counts self.new.device ≡ D.counts self.old.device }
+        ensures log { keeping_of self.new.log ≡ keeping_of self.old.log }
         ensures layout { self.new.layout ≡ self.old.layout }
         ensures begun { self.new.begun ≡ self.old.begun }
         ensures sorts { self.new.sorts ≡ self.old.sorts }
@@ -276,10 +282,12 @@ impl<D: Device, E: Deed> World<D, E> {
         ensures { (p : ℕ) → p < self.now.layout.partitions → reserved_for self.now.layout self.now.book p ≤ room_seen self.now.layout p (D.words self.now.device) }
     {}
 
-    /// Who holds a partition's latch has a call in progress that appends there, closes or takes out, and an event is left of what is under way. It does
-    /// nothing: the clause is the law.
+    /// Who holds a partition's latch has a call in progress that appends there, closes or takes out, and an event is left of what is under way. Where no
+    /// step was told that the device has stopped, an event was made under it. It does nothing: the clauses are the law.
     pub fn latches_are_held(&self)
-        ensures { (p : ℕ) → p < self.now.layout.partitions → (keeping_of self.now.log).holder p ≢ NOBODY
+        ensures made { self.now.book.stopped ≡ false → (p : ℕ) → p < self.now.layout.partitions → (keeping_of self.now.log).holder p ≢ NOBODY
+            → HasMadeOne self.now.layout self.now.book self.now.log p ((keeping_of self.now.log).holder p) }
+        ensures held { (p : ℕ) → p < self.now.layout.partitions → (keeping_of self.now.log).holder p ≢ NOBODY
             → HoldsLatch self.now.layout self.now.book self.now.log p ((keeping_of self.now.log).holder p) }
     {}
 

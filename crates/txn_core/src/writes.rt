@@ -7,6 +7,7 @@ ghost use Rattle.txn_state.specs.AppendLaws as AppendLaws;
 ghost use Rattle.txn_state.specs.Stages.{Naming, Storing, stage_of};
 ghost use Rattle.txn_core.specs.Exact.{GoesExactly};
 ghost use Rattle.txn_core.specs.States.{HasWorld};
+ghost use Rattle.txn_core.specs.Putting.{Puts};
 ghost use Rattle.txn_core.specs.Stepping.{StepsWorld};
 
 use crate::advancing::{Went, append};
@@ -30,7 +31,7 @@ fn top_number(updates: &[Cell]) -> u64
     }
 }
 
-// The cell of the update of the lane's write.
+// The cell of the update of what the lane is to write.
 fn write_cell<D: Device, E: Deed>(device: &D, book: &Book<E>, lane: u32, a: u32, v: u64) -> Cell
     requires lane { lane < length book.now.lanes.items }
     requires word { a < (D.cells device.now).size }
@@ -46,7 +47,7 @@ fn write_cell<D: Device, E: Deed>(device: &D, book: &Book<E>, lane: u32, a: u32,
     })
 }
 
-// The update of the write is appended, event by event.
+// The update of the write, or of the take, is appended, event by event.
 pub(crate) fn append_update<D: Device, E: Deed>(
     device: &mut D,
     layout: Layout,
@@ -57,7 +58,7 @@ pub(crate) fn append_update<D: Device, E: Deed>(
     v: u64,
 ) -> Stepped
     requires lane { lane < length book.old.lanes.items }
-    requires doing { (lane_at book.old lane).doing ≡ Doing.Write a v }
+    requires puts { Puts layout (lane_at book.old lane).doing a v }
     requires stage { stage_of (lane_at book.old lane) ≡ Naming }
     requires world { HasWorld E.meaning layout book.old log.old (D.cells device.old) (D.spare device.old) (D.counts device.old) }
     ensures steps { StepsWorld E.meaning layout book.old book.new log.old log.new (D.cells device.old) (D.cells device.new) (D.spare device.old) (D.spare device.new) (D.counts device.old) (D.counts device.new) lane result }

@@ -652,6 +652,7 @@ module _ (E : Type 0) (layout : Layout) (start : Words) (book later : Book E) (k
     recorded = was.recorded;
     begun = was.begun;
     has_some = was.has_some;
+    uncompensated = was.uncompensated;
   }
 
   own : IsLaneOf layout book.blocks st.s.log (newest_log v.keeping.ledger) (under_of (layout_shape layout) v l) part (paid_record (lane_at book l)) (txn_at v.lanes l)

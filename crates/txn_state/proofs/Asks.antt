@@ -165,6 +165,7 @@ module _ {E : Type 0} (layout : Layout) (start : Words) (book later : Book E) (k
     recorded = λ one on. same.has_records ∙ was.recorded one on;
     begun = λ on. was.begun (sym same.has_records ∙ on);
     has_some = λ one on runs. was.has_some one (sym same.has_records ∙ on) runs;
+    uncompensated = λ unrolled. was.uncompensated (sym same.rolled ∙ unrolled);
   }
 
   goes_there : IsRoomy (layout_shape layout) region (reserved_for layout later) → AreEntries later → ((v : Write) → IsAmong (map plain_write more) v → IsMine x v.address) →

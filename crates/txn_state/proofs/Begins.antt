@@ -8,6 +8,7 @@ use Rattle.persist_model.specs.Region.{Words, Region}
 use Rattle.persist_model.specs.Records.{IsAmong, Log}
 use Rattle.persist_model.specs.Need.{has_of}
 use Rattle.persist_model.specs.Shape.{heap, IsHeapWord}
+use Rattle.log_laws.proofs.Needs.{has_of_true}
 use Rattle.log_laws.proofs.MoveRooms.{some_of}
 use Rattle.region_layout.specs.declared.layout.Layout.{Layout}
 use Rattle.region_layout.specs.Layout.{layout_shape}
@@ -191,6 +192,7 @@ module _ {E : Type 0} (layout : Layout) (start : Words) (book later : Book E) (k
     recorded = λ one on. absurd (unknown on);
     begun = λ recorded. absurd (unrecorded recorded);
     has_some = λ one recorded on. absurd (unrecorded recorded);
+    uncompensated = λ unrolled one on r m of. absurd (unknown (has_of_true book.next_transaction (newest_log state.w.keeping.ledger) (r, m, of.0)));
   }
 
   -- ---- its words are nobody's

@@ -211,6 +211,7 @@ module _ {E : Type 0} (layout : Layout) (start : Words) (book : Book E) (keeper 
         recorded = of.recorded;
         begun = of.begun;
         has_some = of.has_some;
+        uncompensated = of.uncompensated;
       }))
       (λ l. refl) (λ l lt. state.owing.each l lt)
 

@@ -55,12 +55,12 @@ use Rattle.txn_state.proofs.StageSteps.{ends_by}
 
 -- ---- the gates of a transaction's ends
 
-and_parts : (b c : Bool) → (b && c) ≡ true → (b ≡ true) × (c ≡ true)
+pub and_parts : (b c : Bool) → (b && c) ≡ true → (b ≡ true) × (c ≡ true)
 and_parts true true e = (refl, refl)
 and_parts true false e = cc
 and_parts false c e = cc
 
-same_number : (a b : ℕ) → (a == b) ≡ true → a ≡ b
+pub same_number : (a b : ℕ) → (a == b) ≡ true → a ≡ b
 same_number a b on = elim (eqb_tells a b) [ inl k ↦ k.1 | inr k ↦ absurd (let e : true ≡ false = sym on ∙ k.0 in cc) ]
 
 chosen_told : (t : ℕ) (r : Record) → is_chosen t true r ≡ true → (r.transaction ≡ t) × IsEnd r
@@ -102,7 +102,7 @@ none_in_none xs a none m = subst (λ (ys : List ℕ). IsAmong ys a) none m
 -- ---- the records of a transaction that is over
 
 -- an append is of a transaction that runs
-append_runs : (shape : Shape) (s : State) (h : Words) (q : ℕ) (y : Txn) (u : UnderWay) (place : Place) (r : Record) → (run_of u).part ≡ adds place r → Fits shape s h q y u →
+pub append_runs : (shape : Shape) (s : State) (h : Words) (q : ℕ) (y : Txn) (u : UnderWay) (place : Place) (r : Record) → (run_of u).part ≡ adds place r → Fits shape s h q y u →
     (1 ≤ y.number) × (r.transaction ≡ y.number) × (y.over ≡ false)
 append_runs shape s h q y nothing place r is fits = absurd (let e : rests ≡ adds place r = is in cc)
 append_runs shape s h q y (appends adding made) place r is fits =

@@ -78,4 +78,5 @@ free_lane layout blocks log newest u p lane is rests = subst (λ u. IsLaneOf lay
   recorded = λ one on. absurd (omega (arith, one));
   begun = λ recorded. (let off = sym is.records ∙ recorded in cc);
   has_some = λ one recorded on. absurd (omega (arith, one));
+  uncompensated = λ unrolled one on. absurd (omega (arith, one));
 })

@@ -2,7 +2,7 @@
 use Rattle.std.proofs.Common.{◌≡◌, ◌≢◌, ◌⊎◌, inl, inr, ℕ, suc, ◌+◌, ◌-◌, ◌%◌, ◌<◌, ◌≤◌, ◌==◌, ◌&&◌, ◌++◌, Bool, true, false, if◌then◌else◌, List, [], ◌∷◌, length, map, take, reverse, length-append, refl, sym, ap, ◌∙◌, subst, arith}
 use Rattle.persist_model.specs.declared.event.Event.{Event}
 use Rattle.persist_model.specs.Region.{Words, Region}
-use Rattle.persist_model.specs.Records.{Log, Record, IsAmong, Has, IsOf, IsEnd}
+use Rattle.persist_model.specs.Records.{Log, Record, IsAmong, Has, IsOf, IsEnd, IsCompensation}
 use Rattle.persist_model.specs.Shape.{Shape, block}
 use Rattle.region_layout.specs.declared.layout.Layout.{Layout}
 use Rattle.region_layout.specs.declared.cell.Cell.{Cell}
@@ -50,7 +50,7 @@ use Rattle.txn_state.proofs.Staying.{numbered_or_free}
 use Rattle.txn_state.proofs.Lanes.{its_entry, same_entry, joining_same, entries_stay, world_book}
 use Rattle.txn_state.proofs.Likeness.{IsOneLess, come_further, needs_further}
 use Rattle.txn_state.proofs.StageSteps.{EndsCall, commit, abort, call_at, due_none}
-use Rattle.txn_state.proofs.Named.{naming_recorded, adding_of, kind_under, no_checkpoint, AddsUpdate, adds_update, AddsRollback, adds_rollback, AddsCompensation, adds_compensation, AddsEnd, adds_end, updates_counted, cells_more, cells_less, AddsDeletion, adds_deletion}
+use Rattle.txn_state.proofs.Named.{end_kind, naming_recorded, adding_of, kind_under, no_checkpoint, AddsUpdate, adds_update, AddsRollback, adds_rollback, AddsCompensation, adds_compensation, AddsEnd, adds_end, updates_counted, cells_more, cells_less, AddsDeletion, adds_deletion}
 use Rattle.txn_state.proofs.Rebuilding.{Owes, events_paid, records_owed, numbered_there, rebuilt}
 use Rattle.txn_state.proofs.SameTransaction.{takes_same, pending_same}
 use Rattle.txn_state.proofs.Going as going
@@ -169,8 +169,9 @@ module _ (E : Type 0) (layout : Layout) (blocks : List Standing) (log newest : L
       (booked adding.added (record_of_adding adding) y).rolled ≡ later.rolled → y.ended ≡ later.ended → IsCome log (appends adding (suc made)) y (stage_of lane) →
       (stage_of later ≡ Naming → length later.updates.items ≡ later.stored → WaitsToAppend later) → later.has_records ≡ true →
       (lane.has_records ≡ later.has_records) ⊎ Has (λ q. IsOf x.number q × (IsEnd q → ⊥)) (inserted (record_of_adding adding) newest) →
+      (later.rolled ≡ false → (lane.rolled ≡ false) × (IsCompensation (record_of_adding adding) → ⊥)) →
       IsLaneOf layout blocks log (inserted (record_of_adding adding) newest) (appends adding (suc made)) p later y
-  lane_for later b given deleting updates rolled ended come naming recorded some = let t = is.txn in record {
+  lane_for later b given deleting updates rolled ended come naming recorded some still = let t = is.txn in record {
     txn = record {
       number = t.number ∙ sym b.transaction;
       here = t.here;
@@ -199,6 +200,10 @@ module _ (E : Type 0) (layout : Layout) (blocks : List Standing) (log newest : L
       | inl same ↦ (let h = is.has_some one (same ∙ on) over in (h.0, inserted_in (record_of_adding adding) newest h.0 (inr h.1), h.2))
       | inr has ↦ has
     ];
+    uncompensated = λ unrolled one over r m of. elim (inserted_out (record_of_adding adding) newest r m) [
+      | inl same ↦ (still unrolled).1 (ap (λ (z : Record). z.kind) (sym same) ∙ of.1)
+      | inr among ↦ is.uncompensated (still unrolled).0 one over r among of
+    ];
   }
 
   -- what no kind but a deletion changes
@@ -225,6 +230,7 @@ module _ (E : Type 0) (layout : Layout) (blocks : List Standing) (log newest : L
       (λ stage long. absurd (no_more (ap (λ (z : Lane E). length z.updates.items) (sym same) ∙ long ∙ ap (λ (z : Lane E). z.stored) same)))
       (ap (λ (z : Lane E). z.has_records) same)
       (inr (inserted_has (λ q. IsOf x.number q × (IsEnd q → ⊥)) (record_of_adding adding) newest ((of, no_checkpoint adding.added), no_end)))
+      (λ unrolled. (sym (ap (λ (z : Lane E). z.rolled) same) ∙ unrolled, no_compensation))
     where
       come : IsNaming (appends adding made) x
       come = subst (IsCome log (appends adding made) x) at is.come
@@ -234,6 +240,9 @@ module _ (E : Type 0) (layout : Layout) (blocks : List Standing) (log newest : L
 
       no_end : IsEnd (record_of_adding adding) → ⊥
       no_end e = let kind = k.kind in omega (arith, e, kind)
+
+      no_compensation : IsCompensation (record_of_adding adding) → ⊥
+      no_compensation e = let kind = k.kind in omega (arith, e, kind)
 
       no_more : length (lane.updates.items ++ c ∷ []) ≡ lane.stored → ⊥
       no_more long =
@@ -256,6 +265,7 @@ module _ (E : Type 0) (layout : Layout) (blocks : List Standing) (log newest : L
       (λ stage long. absurd (let no : Opening ≡ Naming = sym at ∙ sym b.stage ∙ stage in cc))
       (ap (λ (z : Lane E). z.has_records) same ∙ has_record lane.has_records lane.doing Opening (call_at lane.phase lane.has_records lane.part lane.doing Opening at refl))
       (inl (sym (ap (λ (z : Lane E). z.has_records) same)))
+      (λ unrolled. absurd (let on : true ≡ false = sym (ap (λ (z : Lane E). z.rolled) same) ∙ unrolled in cc))
     where
       come : IsOpening (appends adding made) x
       come = subst (IsCome log (appends adding made) x) at is.come
@@ -277,6 +287,7 @@ module _ (E : Type 0) (layout : Layout) (blocks : List Standing) (log newest : L
       (λ stage long. absurd (let no : Undoing ≡ Naming = sym at ∙ sym b.stage ∙ stage in cc))
       (ap (λ (z : Lane E). z.has_records) same ∙ has_record lane.has_records lane.doing Undoing (call_at lane.phase lane.has_records lane.part lane.doing Undoing at refl))
       (inl (sym (ap (λ (z : Lane E). z.has_records) same)))
+      (λ unrolled. absurd (let on : true ≡ false = sym come.rolled ∙ rolled_was ∙ sym (ap (λ (z : Lane E). z.rolled) same) ∙ unrolled in cc))
     where
       come : IsUndoing (appends adding made) x
       come = subst (IsCome log (appends adding made) x) at is.come
@@ -305,12 +316,16 @@ module _ (E : Type 0) (layout : Layout) (blocks : List Standing) (log newest : L
       (λ stage long. absurd (let no : Ending ≡ Naming = sym at ∙ sym b.stage ∙ stage in cc))
       (ap (λ (z : Lane E). z.has_records) same ∙ has_record lane.has_records lane.doing Ending (call_at lane.phase lane.has_records lane.part lane.doing Ending at refl))
       (inl (sym (ap (λ (z : Lane E). z.has_records) same)))
+      (λ unrolled. (sym (ap (λ (z : Lane E). z.rolled) same) ∙ unrolled, no_compensation))
     where
       come : IsEndingIt (appends adding made) x
       come = subst (IsCome log (appends adding made) x) at is.come
 
       k : AddsEnd adding.added
       k = adds_end x.commits adding.added (kind_under (IsEnding x.commits) adding made come.under_way)
+
+      no_compensation : IsCompensation (record_of_adding adding) → ⊥
+      no_compensation e = let kind = end_kind adding.added k.ends in omega (arith, e, kind)
 
   -- the gift of a deletion
   abbrev gift : Gift
@@ -336,6 +351,7 @@ module _ (E : Type 0) (layout : Layout) (blocks : List Standing) (log newest : L
       (λ stage long. absurd (let no : Deleting ≡ Naming = sym at ∙ sym b.stage ∙ stage in cc))
       (ap (λ (z : Lane E). z.has_records) same)
       (inr (inserted_has (λ q. IsOf x.number q × (IsEnd q → ⊥)) (record_of_adding adding) newest ((of, no_checkpoint adding.added), no_end)))
+      (λ unrolled. (sym (ap (λ (z : Lane E). z.rolled) same) ∙ unrolled, no_compensation))
     where
       come : IsGiving (appends adding made) x
       come = subst (IsCome log (appends adding made) x) at is.come
@@ -345,6 +361,9 @@ module _ (E : Type 0) (layout : Layout) (blocks : List Standing) (log newest : L
 
       no_end : IsEnd (record_of_adding adding) → ⊥
       no_end e = let kind = kind_is.kind in omega (arith, e, kind)
+
+      no_compensation : IsCompensation (record_of_adding adding) → ⊥
+      no_compensation e = let kind = kind_is.kind in omega (arith, e, kind)
 
       was_gifts : AreGiftsOf (layout_shape layout) lane.gives.items lane.gates.items x.gifts
       was_gifts = subst (λ (z : Txn). AreGiftsOf (layout_shape layout) lane.gives.items lane.gates.items z.gifts) was_noticed is.given.gifts_are

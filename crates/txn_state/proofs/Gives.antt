@@ -155,6 +155,7 @@ module _ {E : Type 0} (layout : Layout) (start : Words) (book later : Book E) (k
     recorded = λ one on. asks.same.has_records ∙ was.recorded one on;
     begun = λ on. was.begun (sym asks.same.has_records ∙ on);
     has_some = λ one on runs. was.has_some one (sym asks.same.has_records ∙ on) runs;
+    uncompensated = λ unrolled. was.uncompensated (sym asks.same.rolled ∙ unrolled);
   }
 
   room_for : IsRoomy (layout_shape layout) region (reserved_for layout later)

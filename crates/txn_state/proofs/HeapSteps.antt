@@ -297,6 +297,7 @@ fence_step layout start book later keeper region spare events l few inside state
     recorded = mine.recorded;
     begun = mine.begun;
     has_some = mine.has_some;
+    uncompensated = mine.uncompensated;
   };
   owes = fenced.owes;
   pays = record {
@@ -520,6 +521,7 @@ module _ {E : Type 0} (layout : Layout) (start : Words) (book : Book E) (keeper 
           recorded = mine.recorded;
           begun = mine.begun;
           has_some = mine.has_some;
+          uncompensated = mine.uncompensated;
         };
         owes = record { events = omega arith; records = owed.records; lists = owed.lists };
         pays = record {
@@ -613,6 +615,7 @@ module _ {E : Type 0} (layout : Layout) (start : Words) (book : Book E) (keeper 
         recorded = its_lane.recorded;
         begun = its_lane.begun;
         has_some = its_lane.has_some;
+        uncompensated = its_lane.uncompensated;
       };
       owes = owes;
       pays = record {

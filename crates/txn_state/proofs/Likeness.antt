@@ -85,6 +85,7 @@ like_lane E layout blocks log newest u p lane later x like is = let t = is.txn i
   recorded = λ one has. like.has_records ∙ is.recorded one has;
   begun = λ on. is.begun (sym like.has_records ∙ on);
   has_some = λ one some over. is.has_some one (sym like.has_records ∙ some) over;
+  uncompensated = λ unrolled. is.uncompensated (sym like.rolled ∙ unrolled);
 }
 
 -- ---- one event more

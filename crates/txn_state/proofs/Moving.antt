@@ -1,7 +1,7 @@
 -- A lane that comes to another stage, with a record settled.
 use Rattle.std.proofs.Common.{◌≡◌, ◌≢◌, ℕ, ◌+◌, ◌≤◌, true, false, List, [], ◌∷◌, ◌++◌, length, map, reverse, refl, sym, ap, ◌∙◌, subst, arith}
 use Rattle.std.specs.Prelude.{Some}
-use Rattle.persist_model.specs.Records.{Log, Record, IsAmong, Has, IsOf, IsEnd}
+use Rattle.persist_model.specs.Records.{Log, Record, IsAmong, Has, HasNo, IsOf, IsEnd, IsCompensation}
 use Rattle.persist_model.specs.Need.{rest, has_of}
 use Rattle.persist_model.specs.Shape.{Shape}
 use Rattle.persist_model.specs.State.{State}
@@ -82,6 +82,8 @@ lane_as E layout blocks log after newest u v p x z lane later stage is keeps gif
   begun = λ on. subst (λ k. 1 ≤ k) (sym keeps.number) (is.begun (sym same.has_records ∙ on));
   has_some = λ one some runs. subst (λ (k : ℕ). Has (λ r. IsOf k r × (IsEnd r → ⊥)) newest) (sym keeps.number)
       (is.has_some (subst (λ k. 1 ≤ k) keeps.number one) (sym same.has_records ∙ some) (over runs));
+  uncompensated = λ unrolled one runs. subst (λ (k : ℕ). HasNo (λ r. IsOf k r × IsCompensation r) newest) (sym keeps.number)
+      (is.uncompensated (sym same.rolled ∙ unrolled) (subst (λ k. 1 ≤ k) keeps.number one) (over runs));
 }
 
 -- ---- what is appended

@@ -1,7 +1,7 @@
 -- A lane that appends: its call, its kind of record, and how many updates it has.
 use Rattle.std.proofs.Common.{◌≡◌, ◌≢◌, ℕ, suc, ◌-◌, Bool, true, false, List, [], ◌∷◌, ◌++◌, length, take, reverse, length-append, refl, sym, ap, ◌∙◌, subst, arith}
 use Rattle.std.proofs.lemmas.List.{reverse-append, reverse-reverse, length-reverse}
-use Rattle.persist_model.specs.Kinds.{UPDATE, CHECKPOINT, DELETION}
+use Rattle.persist_model.specs.Kinds.{UPDATE, CHECKPOINT, DELETION, END}
 use Rattle.persist_model.specs.Records.{Record}
 use Rattle.persist_model.specs.Need.{rest}
 use Rattle.region_layout.specs.declared.cell.Cell.{Cell}
@@ -82,6 +82,15 @@ no_checkpoint (a_rollback t) e = omega (arith, e)
 no_checkpoint (a_compensation u cell) e = omega (arith, e)
 no_checkpoint (an_undone_end t) e = omega (arith, e)
 no_checkpoint (a_commit_end t) e = omega (arith, e)
+
+-- and the kind of an end is one
+pub end_kind : (added : Added) → is_end added ≡ true → (cell_of added).kind ≡ END
+end_kind (an_update u) on = cc
+end_kind (a_deletion g) on = cc
+end_kind (a_rollback t) on = cc
+end_kind (a_compensation u cell) on = cc
+end_kind (an_undone_end t) on = refl
+end_kind (a_commit_end t) on = refl
 
 -- what an update is, a rollback record, a compensation and an end
 pub record AddsUpdate (added : Added) : Type 0 where

@@ -211,6 +211,7 @@ module _ {E : Type 0} (layout : Layout) (start : Words) (book later : Book E) (k
             recorded = λ one has. recorded;
             begun = mine.begun;
             has_some = λ one has off. absurd (let f : true ≡ false = sym is_over ∙ off in cc);
+            uncompensated = λ unrolled one off. absurd (let f : true ≡ false = sym is_over ∙ off in cc);
           });
           number = state.tied.fresh l;
           owes = owes_to its_shape over.chains_behind later kept begun_world l (moved part (paid_event (lane_at book l))) x next stage goes.lanes.here refl under_next stage_is owes;

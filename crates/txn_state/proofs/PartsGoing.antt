@@ -90,6 +90,7 @@ lane_further E layout blocks log newest u p lane x busy waits is = let t = is.tx
   recorded = is.recorded;
   begun = is.begun;
   has_some = is.has_some;
+  uncompensated = is.uncompensated;
 }
 
 like_of : (E : Type 0) (lane later : Lane E) → HasSameTransaction (paid_event lane) later → IsLike lane later

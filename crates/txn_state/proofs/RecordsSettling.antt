@@ -325,6 +325,7 @@ module _ (E : Type 0) (layout : Layout) (blocks : List Standing) (s : State) (h 
       recorded = is.recorded;
       begun = is.begun;
       has_some = is.has_some;
+      uncompensated = is.uncompensated;
     });
     less = λ j c d. subst (λ st. IsOneLess (needs_at (layout_shape layout) p j c (appends adding n) x st) (needs_at (layout_shape layout) p j d nothing (txn_behind adding.added (record_of_adding adding) x) Between))
         (sym at) (let one = append_one in record { events = omega (arith, one); records = refl; gates = refl });

@@ -88,6 +88,7 @@ lane_same layout blocks log newest u p lane later x same of = record {
   recorded = λ one on. same.has_records ∙ of.recorded one on;
   begun = λ recorded. of.begun (sym same.has_records ∙ recorded);
   has_some = λ one recorded on. of.has_some one (sym same.has_records ∙ recorded) on;
+  uncompensated = λ unrolled. of.uncompensated (sym same.rolled ∙ unrolled);
 }
 
 -- it owes more, or less
@@ -119,6 +120,7 @@ owing_else layout blocks log newest u p lane x m n of = record {
   recorded = of.recorded;
   begun = of.begun;
   has_some = of.has_some;
+  uncompensated = of.uncompensated;
 }
 
 -- ---- what lane l may want

@@ -106,6 +106,7 @@ lane_stays layout blocks t log later newest newer u p lane x apart added newest_
   begun = l.begun;
   has_some = λ one recorded on. (let some = l.has_some one recorded on in
       (some.0, elim (newest_taken some.0 some.1) [ inl k ↦ k | inr is ↦ absurd (apart one (sym some.2.0.0 ∙ is.0)) ], some.2));
+  uncompensated = λ unrolled one runs r m of. l.uncompensated unrolled one runs r (came_not t x.number newest newer r (apart one) newest_added m of.0) of;
 }
 
 -- ---- what it owes

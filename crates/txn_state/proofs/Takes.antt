@@ -236,6 +236,7 @@ module _ {E : Type 0} (layout : Layout) (start : Words) (book : Book E) (keeper 
     recorded = was.recorded;
     begun = was.begun;
     has_some = was.has_some;
+    uncompensated = was.uncompensated;
   }
 
   other : (j : ℕ) → j ≢ l → j < length state.w.lanes →
@@ -259,6 +260,7 @@ module _ {E : Type 0} (layout : Layout) (start : Words) (book : Book E) (keeper 
     recorded = of.recorded;
     begun = of.begun;
     has_some = of.has_some;
+    uncompensated = of.uncompensated;
   }
 
   abbrev wanted : ℕ → Txn → Needs

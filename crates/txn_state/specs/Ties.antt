@@ -2,7 +2,7 @@
 use Rattle.log_keeper.specs.declared.slots.TheConstants.{NOBODY}
 use Rattle.std.specs.Prelude.{◌≡◌, ◌≢◌, ◌⊎◌, ℕ, ◌+◌, ◌*◌, ◌%◌, ◌<◌, ◌≤◌, ◌==◌, Bool, true, false, ◌&&◌, ◌||◌, not, nat_lt, if◌then◌else◌, List, [], ◌∷◌, length, map, reverse, slice_get, Some}
 use Rattle.persist_model.specs.Progress.{Write}
-use Rattle.persist_model.specs.Records.{Record, Log, IsAmong, Has, HasNo, IsOf, IsEnd}
+use Rattle.persist_model.specs.Records.{Record, Log, IsAmong, Has, HasNo, IsOf, IsEnd, IsCompensation}
 use Rattle.persist_model.specs.Shape.{Shape, heap, block, IsPlainOwner}
 use Rattle.persist_model.specs.State.{State}
 use Rattle.lane_traits.specs.declared.draft.WordWrite.{WordWrite}
@@ -352,7 +352,7 @@ pub record WaitsToAppend {E : Type 0} (lane : Lane E) : Type 0 where
 
 -- The lane's transaction is x, as far as its call has come; its words are those of the lane's blocks and of those that it gave, whose deletions are its
 -- gifts; it writes data words, and owner words of blocks that it takes; and its book has a record where the newest log has one, which isn't its end, and
--- none without a transaction. For now no transaction that gave a block comes to its end.
+-- none without a transaction. Before its rollback record is there, no update of it is compensated. For now no transaction that gave a block comes to its end.
 pub record IsLaneOf {E : Type 0} (layout : Layout) (blocks : List Standing) (log newest : Log) (u : UnderWay) (p : ℕ) (lane : Lane E) (x : Txn) : Type 0 where
   pub txn : IsTxnOf (layout_shape layout) p lane u x
   pub come : IsCome log u x (stage_of lane)
@@ -366,6 +366,7 @@ pub record IsLaneOf {E : Type 0} (layout : Layout) (blocks : List Standing) (log
   pub recorded : 1 ≤ x.number → has_of x.number newest ≡ true → lane.has_records ≡ true
   pub begun : lane.has_records ≡ true → 1 ≤ x.number
   pub has_some : 1 ≤ x.number → lane.has_records ≡ true → x.over ≡ false → Has (λ r. IsOf x.number r × (IsEnd r → ⊥)) newest
+  pub uncompensated : lane.rolled ≡ false → 1 ≤ x.number → x.over ≡ false → HasNo (λ r. IsOf x.number r × IsCompensation r) newest
 
 -- A latch is held only where something is under way, an event of which is left, by a lane that appends there.
 pub record AreHeld (shape : Shape) (w : World) : Type 0 where

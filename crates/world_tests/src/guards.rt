@@ -48,6 +48,15 @@ pub fn expect_data(rt: &impl Abort, heap: u32, a: u32)
     }
 }
 
+// It is one of two structures.
+fn expect_structure(rt: &impl Abort, structure: u32)
+    ensures { structure < 2 }
+{
+    if structure >= 2 {
+        panic!(rt; "no structure: {structure}");
+    }
+}
+
 /// The deed names what the lane holds.
 fn expect_commit(world: &World<PlainCells, Named>, rt: &impl Abort, lane: u32, deed: &Named)
     requires { lane < length world.now.book.lanes.items }
@@ -74,6 +83,7 @@ pub fn expect_may(
         Call::Begin(set) => expect_begin(world, rt, lane, *set),
         Call::Read(a) => expect_data(rt, heap, *a),
         Call::Write(a, _) => expect_data(rt, heap, *a),
+        Call::Take(structure) => expect_structure(rt, *structure),
         Call::Commit(deed) => expect_commit(world, rt, lane, deed),
         Call::Abort => {}
         Call::Checkpoint => {}

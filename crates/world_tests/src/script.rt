@@ -20,6 +20,7 @@ pub enum Ask {
     Begin(u8),
     Read(u32),
     Write(u32, u64),
+    Take(u32),
     /// The structures that the deed names.
     Commit(u8),
     Abort,
@@ -60,6 +61,7 @@ fn call_of(ask: Ask) -> Call<Named> {
         Ask::Begin(set) => Call::Begin(set),
         Ask::Read(a) => Call::Read(a),
         Ask::Write(a, v) => Call::Write(a, v),
+        Ask::Take(structure) => Call::Take(structure),
         Ask::Commit(names) => Call::Commit(Named { names }),
         Ask::Abort => Call::Abort,
         Ask::Checkpoint => Call::Checkpoint,

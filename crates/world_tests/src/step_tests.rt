@@ -34,10 +34,38 @@ const SPLIT: &[(u32, u64)] = &[
     (432, 2),
 ];
 
+/// The small one, where structure 0 has each block but root 1.
+const FULL: &[(u32, u64)] = &[
+    (0, 0x5257_4e44_0000_0001),
+    (1, 1),
+    (2, 1),
+    (3, 4),
+    (4, 16),
+    (5, 2),
+    (96, 1),
+    (112, 2),
+    (128, 1),
+    (144, 1),
+    (160, 1),
+    (176, 1),
+    (192, 1),
+    (208, 1),
+    (224, 1),
+    (240, 1),
+    (256, 1),
+    (272, 1),
+    (288, 1),
+    (304, 1),
+    (320, 1),
+    (336, 1),
+];
+
 /// A region: its words, how many there are, and the address of its heap.
 type Region = (&'static [(u32, u64)], u32, u32);
 
 const WHOLE_LOG: Region = (SMALL, 352, 96);
+
+const FULL_HEAP: Region = (FULL, 352, 96);
 
 const SPLIT_LOG: Region = (SPLIT, 672, 416);
 
@@ -171,6 +199,77 @@ const A_LATCH: &[(u32, Turn)] = &[
 #[test]
 fn a_lane_waits_for_a_latch(rt: HostRuntime) -> Result<(), Fail> {
     plays(&rt, rt.alloc(), SPLIT_LOG, 3, A_LATCH, (46, 0))
+}
+
+/// A take makes the events of a write, of which the owner word of the least free block is the last, and its commit those of a commit.
+const A_TAKE: &[(u32, Turn)] = &[
+    (0, Turn::Makes(Ask::Begin(1), Reply::Begun(1))),
+    (
+        0,
+        Turn::Refused(Ask::Take(1), Refusal::NotHeld { owner: 2 }),
+    ),
+    (0, Turn::Asks(Ask::Take(0))),
+    (0, Turn::Moves(22)),
+    (0, Turn::Word(128, 0)),
+    (0, Turn::Steps(Stepped::Answered(Reply::Block(2)))),
+    (0, Turn::Word(128, 1)),
+    (0, Turn::Makes(Ask::Read(129), Reply::Word(0))),
+    (0, Turn::Makes(Ask::Commit(1), Reply::Committed)),
+];
+
+#[test]
+fn a_take_is_committed(rt: HostRuntime) -> Result<(), Fail> {
+    plays(&rt, rt.alloc(), WHOLE_LOG, 1, A_TAKE, (57, 1))
+}
+
+/// A block is its taker's from the ask on: another lane gets the next one. Three updates make 23 events each, a commit of one record 34, and one of two
+/// records 42: a gate more is closed, and a bucket more is taken out.
+const TWO_TAKES: &[(u32, Turn)] = &[
+    (0, Turn::Makes(Ask::Begin(1), Reply::Begun(1))),
+    (1, Turn::Makes(Ask::Begin(2), Reply::Begun(2))),
+    (0, Turn::Asks(Ask::Take(0))),
+    (1, Turn::Asks(Ask::Take(1))),
+    (0, Turn::Moves(5)),
+    (1, Turn::Ends(Reply::Block(3))),
+    (0, Turn::Ends(Reply::Block(2))),
+    (0, Turn::Word(448, 1)),
+    (0, Turn::Word(464, 2)),
+    (1, Turn::Makes(Ask::Write(465, 7), Reply::Written)),
+    (1, Turn::Makes(Ask::Commit(2), Reply::Committed)),
+    (0, Turn::Makes(Ask::Commit(1), Reply::Committed)),
+];
+
+#[test]
+fn two_lanes_take_blocks(rt: HostRuntime) -> Result<(), Fail> {
+    plays(&rt, rt.alloc(), SPLIT_LOG, 2, TWO_TAKES, (145, 2))
+}
+
+/// The events of a write and of an abort of it. The block is free again, and another lane takes it.
+const A_TAKE_BACK: &[(u32, Turn)] = &[
+    (0, Turn::Makes(Ask::Begin(1), Reply::Begun(1))),
+    (1, Turn::Makes(Ask::Begin(2), Reply::Begun(2))),
+    (0, Turn::Makes(Ask::Take(0), Reply::Block(2))),
+    (0, Turn::Makes(Ask::Abort, Reply::Aborted)),
+    (0, Turn::Word(448, 0)),
+    (1, Turn::Makes(Ask::Take(1), Reply::Block(2))),
+    (0, Turn::Word(448, 2)),
+];
+
+#[test]
+fn an_abort_gives_its_block_back(rt: HostRuntime) -> Result<(), Fail> {
+    plays(&rt, rt.alloc(), SPLIT_LOG, 2, A_TAKE_BACK, (141, 0))
+}
+
+/// No block is free.
+const NO_BLOCK: &[(u32, Turn)] = &[
+    (0, Turn::Makes(Ask::Begin(1), Reply::Begun(1))),
+    (0, Turn::Refused(Ask::Take(0), Refusal::HeapFull)),
+    (0, Turn::Makes(Ask::Commit(1), Reply::Committed)),
+];
+
+#[test]
+fn a_full_heap_is_told(rt: HostRuntime) -> Result<(), Fail> {
+    plays(&rt, rt.alloc(), FULL_HEAP, 1, NO_BLOCK, (0, 1))
 }
 
 /// The events of a write and of an abort of it, as above.

@@ -4,10 +4,11 @@ use Rattle.lane_book.proofs.Faces.{lane_read}
 use Rattle.log_keeper.specs.Keeper.{keeping_of}
 use Rattle.txn_state.specs.AppendLaws.{IsNextCell, GoesOnTo, rollback, undo}
 use Rattle.txn_state.specs.ReadLaws.{appends_in, makes_events}
+use Rattle.txn_core.proofs.Appended.{paid_inside, paid_stage, paid_calling, stored_is_paid, whole_is_paid, slot_behind_append, rests_behind_append}
 use Rattle.txn_core.proofs.Facts.{IsRead, is_book, slots_are, can_begin, runs_behind_if_free, owes_event}
 use Rattle.txn_core.proofs.Exits.{append_answered_if_free}
 use Rattle.txn_core.proofs.Reading.{read_of}
-use Rattle.txn_core.proofs.Aborting.{next_rollback, can_roll_back, paid_stage, paid_inside, paid_calling, whole_is_paid, whole_rests, stored_is_paid, was_at_gate, stored_step, settled_step}
+use Rattle.txn_core.proofs.Aborting.{next_rollback, can_roll_back, was_at_gate, stored_step, settled_step}
 use Rattle.txn_core.proofs.aborts.append_rollback.Goals.{After-rollback_cell-cell}
 use Rattle.txn_core.proofs.aborts.append_rollback.Goals as goal
 use Rattle.txn_core.proofs.ExactParts.{append_answered_exactly, append_stored_paid, append_whole_paid, paid_moves}
@@ -49,13 +50,12 @@ undo_part-next-requires g c = paid_inside c.args.book.now _ c.args.lane
 
 pub release_latch-requires-clause-slot : goal.release_latch-requires-clause-slot
 release_latch-requires-clause-slot g c =
-    (whole_rests _ _ c.args.book.now _ _ _ _ _ _ _ _ (g.D.Device.counts c.args.device.now) (g.D.Device.counts c.append.new.device) c.args.lane _ c.requires.lane
-    (slots_are _ _ _ _ _ _ (g.D.Device.counts c.args.device.now) c.requires.world) c.in-Whole.ensures.appends).slot
+    slot_behind_append _ _ c.args.book.now _ _ _ _ _ _ _ _ (g.D.Device.counts c.args.device.now) (g.D.Device.counts c.append.new.device) c.args.lane _ c.requires.lane
+    (slots_are _ _ _ _ _ _ (g.D.Device.counts c.args.device.now) c.requires.world) c.in-Whole.ensures.appends
 
 pub release_latch-requires-clause-rests : goal.release_latch-requires-clause-rests
 release_latch-requires-clause-rests g c =
-    (whole_rests _ _ c.args.book.now _ _ _ _ _ _ _ _ (g.D.Device.counts c.args.device.now) (g.D.Device.counts c.append.new.device) c.args.lane _ c.requires.lane
-    (slots_are _ _ _ _ _ _ (g.D.Device.counts c.args.device.now) c.requires.world) c.in-Whole.ensures.appends).rests_now
+    rests_behind_append _ _ c.args.book.now _ _ _ _ _ _ _ _ (g.D.Device.counts c.args.device.now) (g.D.Device.counts c.append.new.device) c.args.lane _ c.requires.lane c.in-Whole.ensures.appends
 
 pub go_on-requires : goal.go_on-requires
 go_on-requires g c = paid_calling c.args.book.now _ c.args.lane

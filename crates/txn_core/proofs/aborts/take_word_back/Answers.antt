@@ -1,4 +1,6 @@
-use Rattle.std.proofs.Common.{◌≡◌, ◌∙◌, ◌-◌, get_or, Some, None, ap, refl}
+use Rattle.std.proofs.Common.{◌≡◌, ◌∙◌, ◌-◌, ◌≤◌, get_or, Some, None, ap, refl, subst, sym}
+use Rattle.lane_book.specs.declared.lane.Lane.{Lane}
+use Rattle.txn_core.proofs.Taking.{stopped_inside, paid_calling}
 use Rattle.lane_book.specs.FacesOf.{lane_at}
 use Rattle.lane_book.specs.Stores.{no_write}
 use Rattle.lane_book.proofs.Faces.{lane_read}
@@ -37,11 +39,11 @@ returns-in_default g c = let at = (goal.at.returns-in_default g c).After-as_slic
     (get_or c.as_slice.result.now (c.index-kept.result.now.stored - 1) no_write) (write_is g at)
     (finds_same c.args.log.now (lane_at c.args.book.now c.args.lane) c.index-kept.result.now _ _ None (lane_is g at) c.from.ensures c.in_default.ensures))
 
-pub changed-touched-requires : goal.changed-touched-requires
-changed-touched-requires g c = word_seen _ _ c.args.book.now _ _ _ (g.D.Device.counts c.args.device.now) c.args.lane c.requires.lane c.requires.stage c.requires.world _
+pub changed_data-touched-requires : goal.changed_data-touched-requires
+changed_data-touched-requires g c = word_seen _ _ c.args.book.now _ _ _ (g.D.Device.counts c.args.device.now) c.args.lane c.requires.lane c.requires.stage c.requires.world _
     (get_or c.as_slice.result.now (c.index-kept.result.now.stored - 1) no_write)
     (read_of _ _ (g.D.Device.counts c.args.device.now) (g.met.D.Device.reads c.args.device.now) (g.met.D.Device.full c.args.device.now) (g.met.D.Device.within c.args.device.now)
-    (g.met.D.Device.budget_fits c.args.device.now)) (write_is g (goal.at.changed-touched-requires g c).After-as_slice)
+    (g.met.D.Device.budget_fits c.args.device.now)) (write_is g (goal.at.changed_data-touched-requires g c).After-as_slice)
 
 pub make-requires-clause-few : goal.make-requires-clause-few
 make-requires-clause-few g c = few_lanes _ _ _ _ _ _ (g.D.Device.counts c.args.device.now) c.requires.world
@@ -81,10 +83,10 @@ returns-in-Made-clause-steps g c = let at = (goal.at.returns-in-Made-clause-step
     c.undo_part-next.ensures
     (finds_same c.args.log.now (lane_at c.args.book.now c.args.lane) c.index-kept.result.now _ _ (Some c.in-Some.v) (lane_is g at) c.from.ensures c.in-Some.ensures)
     c.in-Made.ensures.makes c.word_taken_back.ensures.moves
-    (c.changed-touched.ensures ∙ ap (λ n. changed_word n c.in-Some.v (get_or c.as_slice.result.now (c.index-kept.result.now.stored - 1) no_write).address)
+    (λ on. c.changed_data-touched.ensures.data_word on ∙ ap (λ n. changed_word n c.in-Some.v (get_or c.as_slice.result.now (c.index-kept.result.now.stored - 1) no_write).address)
     (word_read _ (g.D.Device.cells c.args.device.now) _ (g.met.D.Device.reads c.args.device.now)
     (word_inside _ _ c.args.book.now _ _ _ (g.D.Device.counts c.args.device.now) c.args.lane c.requires.lane c.requires.stage c.requires.world
-    (get_or c.as_slice.result.now (c.index-kept.result.now.stored - 1) no_write) (write_is g at))))
+    (get_or c.as_slice.result.now (c.index-kept.result.now.stored - 1) no_write) (write_is g at)))) c.changed_data-touched.ensures.owner
 
 pub returns-in-Stopped-clause-exact : goal.returns-in-Stopped-clause-exact
 returns-in-Stopped-clause-exact g c = make_stops c.args.layout c.args.book.now c.make.new.book c.stop-in-Stopped.new.self c.args.log.now _ _ _ (g.D.Device.counts c.args.device.now) (g.D.Device.counts c.make.new.device) _ _ c.args.lane _ c.stop-in-Stopped.ensures.result c.requires.lane
@@ -95,3 +97,14 @@ returns-in-Made-clause-exact g c = paid_moves g.E.Deed.meaning c.args.layout c.a
     (make_paid c.args.layout c.args.book.now c.make.new.book c.args.log.now _ _ _ (g.D.Device.counts c.args.device.now) (g.D.Device.counts c.make.new.device) _ _ c.args.lane c.requires.lane (unblocked_own c.args.layout c.args.book.now c.args.log.now c.args.lane (ap makes_events c.requires.stage) (ap appends_in c.requires.stage))
     (owes_event _ _ _ _ _ _ (g.D.Device.counts c.args.device.now) c.args.lane c.requires.lane (ap makes_events c.requires.stage) c.requires.world).0 c.in-Made.ensures.makes)
     (ap makes_events c.requires.stage) (g.met.D.Device.within c.make.new.device) refl refl c.word_taken_back.ensures.moves
+
+pub overflow_sub-a : goal.overflow_sub-a
+overflow_sub-a g c = subst (λ (x : Lane _). 1 ≤ x.stored) (sym (lane_is g (goal.at.overflow_sub-a g c).After-as_slice))
+    (some_stored _ _ c.args.book.now _ _ _ (g.D.Device.counts c.args.device.now) c.args.lane c.requires.lane c.requires.stage c.requires.world)
+
+pub stop-requires-in-Stopped-clause-lane : goal.stop-requires-in-Stopped-clause-lane
+stop-requires-in-Stopped-clause-lane g c = stopped_inside _ _ _ (g.D.Device.counts c.args.device.now) (g.D.Device.counts c.make.new.device) _ _ c.args.book.now c.make.new.book c.args.lane c.requires.lane c.in-Stopped.ensures.makes
+
+pub word_taken_back-requires-clause-lane : goal.word_taken_back-requires-clause-lane
+word_taken_back-requires-clause-lane g c = paid_calling c.args.book.now c.make.new.book c.args.lane c.requires.lane
+    (made_pays _ _ _ (g.D.Device.counts c.args.device.now) (g.D.Device.counts c.make.new.device) _ _ _ _ _ c.in-Made.ensures.makes) c.requires.calling c.make.ensures.book

@@ -3,6 +3,7 @@ use Rattle.txn_core.proofs.Asked.{is_plain, stays_asked, stays_roomier}
 use Rattle.txn_core.proofs.AskedFaces.{asked_phases, roomier_phases, either_way}
 use Rattle.txn_core.proofs.AskedExactly.{beside_with, quiet_owes}
 use Rattle.lane_book.specs.FacesOf.{lane_at}
+use Rattle.txn_core.proofs.Unasked.{unasked_quietly}
 use Rattle.txn_core.proofs.ask_calls.ask_quiet.Goals as goal
 
 pub ask_plain-requires-clause-plain : goal.ask_plain-requires-clause-plain
@@ -30,3 +31,6 @@ returns-clause-beside g c = either_way c.ask_plain.result
 
 pub returns-clause-owes : goal.returns-clause-owes
 returns-clause-owes g c = on_ok c.ask_plain.result (λ asked. quiet_owes c.args.book.now c.ask_plain.new.self c.args.lane c.args.call.now c.args.doing c.requires.quiet asked) c.ask_plain.ensures.asked
+
+pub returns-clause-unasked : goal.returns-clause-unasked
+returns-clause-unasked g c = on_err c.ask_plain.result (unasked_quietly c.args.book.now c.ask_plain.new.self c.args.lane) c.ask_plain.ensures.roomier

@@ -1,5 +1,6 @@
 use Rattle.lane_book.proofs.Asking.{on_ok}
 use Rattle.std.proofs.Common.{arith}
+use Rattle.txn_core.proofs.AskedEnds.{is_between}
 use Rattle.txn_core.proofs.AskedFaces.{owed_phases, either_way}
 use Rattle.txn_core.proofs.Facts.{is_book}
 use Rattle.txn_core.proofs.Reading.{read_of}
@@ -7,6 +8,8 @@ use Rattle.txn_core.proofs.AskedWriting.{on_ok_three, on_err_two, write_asked, l
 use Rattle.txn_core.proofs.AskedExactly.{beside_asked, beside_roomier, beside_goes, write_owes}
 use Rattle.lane_book.specs.FacesOf.{lane_at}
 use Rattle.lane_book.specs.Lanes.{owing}
+use Rattle.lane_book.proofs.Asking.{on_err}
+use Rattle.txn_core.proofs.Unasked.{unasked_at_once, unasked_behind}
 use Rattle.txn_core.proofs.ask_writes.ask_write.Goals as goal
 
 pub take_memory-requires-clause-book : goal.take_memory-requires-clause-book
@@ -48,8 +51,18 @@ returns-in-Ok-clause-beside g c = either_way c.ask_write.result
 
 pub returns-in-Ok-clause-owes : goal.returns-in-Ok-clause-owes
 returns-in-Ok-clause-owes g c = on_ok c.ask_write.result
-    (λ asked. write_owes c.args.layout c.args.log.now c.args.book.now c.take_memory.new.book c.ask_write.new.self c.args.lane c.write_wants.result.events c.write_wants.result.records c.args.a c.args.v _ _ _ _ c.in-Ok.ensures.owes c.write_wants.ensures.events asked)
+    (λ asked. write_owes c.args.layout c.args.book.now c.take_memory.new.book c.ask_write.new.self c.args.lane c.write_wants.result.events c.write_wants.result.records c.args.a c.args.v _ _ _ _ c.in-Ok.ensures.owes c.write_wants.ensures.events asked)
     c.ask_write.ensures.asked
 
 pub returns-in-Err-clause-beside : goal.returns-in-Err-clause-beside
-returns-in-Err-clause-beside g c = beside_goes c.args.book.now c.take_memory.new.book c.args.lane (owing 0 0 (lane_at c.args.book.now c.args.lane)) c.in-Err.ensures.owes_nothing.goes
+returns-in-Err-clause-beside g c = beside_goes c.args.book.now c.take_memory.new.book c.args.lane (owing 0 0 (lane_at c.args.book.now c.args.lane)) c.in-Err.ensures.owes_nothing.goes c.in-Err.ensures.owes_nothing.stopped
+
+pub returns-in-Ok-clause-unasked : goal.returns-in-Ok-clause-unasked
+returns-in-Ok-clause-unasked g c = on_err c.ask_write.result
+    (λ roomier. unasked_behind c.args.book.now c.ask_write.new.self c.args.log.now c.take_memory.new.log (g.D.Device.spare c.args.device.now) (g.D.Device.spare c.take_memory.new.device) c.args.lane
+    c.take_memory.new.book c.write_wants.result.events c.write_wants.result.records c.in-Ok.ensures.owes (is_between (lane_at c.args.book.now c.args.lane) c.requires.nothing c.requires.phase)
+    roomier c.take_memory.ensures.more) c.ask_write.ensures.roomier
+
+pub returns-in-Err-clause-unasked : goal.returns-in-Err-clause-unasked
+returns-in-Err-clause-unasked g c = unasked_at_once c.args.book.now c.take_memory.new.book c.args.log.now c.take_memory.new.log (g.D.Device.spare c.args.device.now)
+    (g.D.Device.spare c.take_memory.new.device) c.args.lane 0 0 c.in-Err.ensures.owes_nothing (is_between (lane_at c.args.book.now c.args.lane) c.requires.nothing c.requires.phase) c.take_memory.ensures.more

@@ -1,14 +1,16 @@
-use Rattle.std.proofs.Common.{◌≡◌, ◌-◌, ◌^◌, min, refl, subst}
+use Rattle.std.proofs.Common.{◌≡◌, ◌-◌, ◌^◌, ◌≤◌, min, refl, subst, arith}
 use Rattle.lane_types.specs.Faces.{Base}
 use Rattle.lane_book.specs.FacesOf.{lane_at, faces_of}
 use Rattle.lane_book.specs.Refusals.{Told}
 use Rattle.txn_core.specs.Asking.{IsExact, WritesData, need_for, room_for}
 use Rattle.txn_core.specs.States.{base_of, HasWorld}
-use Rattle.txn_core.proofs.AskedCalls.{can_be_asked, blocks_are, structures_are, shows_blocks, stays_refused, refused_phases, is_exact, refused_face, lacks_face, kept_there}
+use Rattle.txn_core.proofs.AskedCalls.{can_be_asked, blocks_are, structures_are, told_anyway, stays_refused, refused_phases, is_exact, refused_face, lacks_face, kept_there}
 use Rattle.txn_core.proofs.AskedData.{names_data, writes_data}
 use Rattle.txn_core.proofs.AskedRoom.{need_is_told}
 use Rattle.txn_core.proofs.Facts.{any_start, is_book, has_logs}
 use Rattle.txn_core.proofs.Reading.{read_of}
+use Rattle.txn_core.proofs.Paying.{goes_lane}
+use Rattle.txn_core.proofs.Unasked.{refused_lanes, lacking_lane}
 use Rattle.txn_core.proofs.asking.ask.Goals as goal
 use Rattle.txn_core.proofs.AskedExactly.{beside_with}
 use Rattle.lane_book.specs.Lanes.{refused_lane}
@@ -24,12 +26,14 @@ world : (g : _) (c : After-refusal g) → HasWorld g.E.Deed.meaning c.args.layou
 world g c = any_start g.E.Deed.meaning c.args.layout (start g c) c.args.book.now c.args.log.now (g.D.Device.cells c.args.device.now) (g.D.Device.spare c.args.device.now)
     (g.D.Device.counts c.args.device.now) c.requires.kept
 
+few : (g : _) (c : After-refusal g) → c.args.layout.structures ≤ 8
+few g c = let most = c.args.layout.structures_within in omega (arith, most)
+
 -- the face says why, or that the call fits it
 told : (g : _) (c : After-refusal g) → Told (faces_of (start g c) c.args.book.now c.args.lane) c.args.call c.refusal.result
-told g c = c.refusal.ensures.told (start g c)
-    (shows_blocks g.E.Deed.meaning c.args.layout (start g c) c.args.book.now c.args.log.now (g.D.Device.cells c.args.device.now) (g.D.Device.spare c.args.device.now) (g.D.Device.counts c.args.device.now)
-    c.requires.kept c.args.lane)
-    (names_data g.E.Deed.meaning c.args.layout (start g c) c.args.book.now c.args.lane (record { start = refl; blocks = refl }) c.args.call c.requires.built c.requires.may)
+told g c = told_anyway g.E.Deed.meaning c.args.layout (start g c) c.args.book.now c.args.log.now (g.D.Device.cells c.args.device.now) (g.D.Device.spare c.args.device.now) (g.D.Device.counts c.args.device.now)
+    c.requires.kept c.args.lane _ _ c.args.call c.refusal.result (c.requires.phased c.args.lane) c.refusal.ensures.decides (λ shows. c.refusal.ensures.told (start g c) shows
+    (names_data g.E.Deed.meaning c.args.layout (start g c) c.args.book.now c.args.lane (record { start = refl; blocks = refl }) (few g c) refl c.args.call c.requires.built c.requires.may))
 
 -- the need is told as it is
 need_told : (g : _) (c : After-refusal g) → min (need_for c.args.layout c.args.book.now c.args.lane c.args.call) (2 ^ 64 - 1) ≡ need_for c.args.layout c.args.book.now c.args.lane c.args.call
@@ -38,7 +42,7 @@ need_told g c = need_is_told c.args.layout c.args.book.now c.args.log.now (g.D.L
     (g.met.D.Device.budget_fits c.args.device.now)) g.E.Deed.meaning (g.D.Device.spare c.args.device.now) c.requires.built (world g c)
 
 data_word : (g : _) (c : After-refusal g) → WritesData c.args.layout c.args.call
-data_word g c = writes_data g.E.Deed.meaning c.args.layout (start g c) c.args.book.now c.args.lane (record { start = refl; blocks = refl }) c.args.call c.requires.built c.requires.may
+data_word g c = writes_data g.E.Deed.meaning c.args.layout (start g c) c.args.book.now c.args.lane (record { start = refl; blocks = refl }) (few g c) refl c.args.call c.requires.built c.requires.may
 
 -- ---- what the calls ask
 
@@ -62,14 +66,14 @@ pub refuse-requires-clause-book : goal.refuse-requires-clause-book
 refuse-requires-clause-book g c = is_book g.E.Deed.meaning c.args.layout c.args.book.now c.args.log.now (g.D.Device.cells c.args.device.now) (g.D.Device.spare c.args.device.now) (g.D.Device.counts c.args.device.now)
     (world g (goal.at.refuse-requires-clause-book g c).After-refusal)
 
-pub ask_fitting-requires-clause-can : goal.ask_fitting-requires-clause-can
-ask_fitting-requires-clause-can g c =
-    let at = (goal.at.ask_fitting-requires-clause-can g c).After-refusal in
+pub ask_whole-requires-clause-can : goal.ask_whole-requires-clause-can
+ask_whole-requires-clause-can g c =
+    let at = (goal.at.ask_whole-requires-clause-can g c).After-refusal in
     can_be_asked c.args.layout c.args.book.now (g.D.Look.words c.args.device.now) c.args.lane (min (need_for c.args.layout c.args.book.now c.args.lane c.args.call) (2 ^ 64 - 1)) c.args.call
     c.requires.lane c.requires.phased (need_told g at) (data_word g at) c.in-None.ensures.decides
 
-pub ask_fitting-requires-clause-world : goal.ask_fitting-requires-clause-world
-ask_fitting-requires-clause-world g c = world g (goal.at.ask_fitting-requires-clause-world g c).After-refusal
+pub ask_whole-requires-clause-world : goal.ask_whole-requires-clause-world
+ask_whole-requires-clause-world g c = world g (goal.at.ask_whole-requires-clause-world g c).After-refusal
 
 -- ---- what is left
 
@@ -90,13 +94,15 @@ returns-in-Some-clause-refuses g c =
           (is_exact c.args.layout room (min (need_for c.args.layout c.args.book.now c.args.lane c.args.call) (2 ^ 64 - 1)) _ (lane_at c.args.book.now c.args.lane) c.args.call
           c.in-Some.refusal c.in-Some.ensures.decides);
       face = refused_face c.args.book.now c.refuse.new.self c.args.lane c.args.call c.in-Some.refusal c.refuse.ensures.is c.refuse.ensures.ask;
+      lane = refused_lanes c.args.call c.in-Some.refusal (lane_at c.args.book.now c.args.lane) (lane_at c.refuse.new.self c.args.lane)
+          (goes_lane c.args.book.now c.refuse.new.self c.args.lane (refused_lane c.args.call c.in-Some.refusal (lane_at c.args.book.now c.args.lane)) c.args.book.now.touched c.requires.lane c.refuse.ensures.is).lanes.here;
     }
 
 pub returns-in-Ok-clause-kept : goal.returns-in-Ok-clause-kept
 returns-in-Ok-clause-kept g c =
     let at = (goal.at.returns-in-Ok-clause-kept g c).After-refusal in
-    kept_there g.E.Deed.meaning c.args.layout (start g at) c.ask_fitting.new.book c.ask_fitting.new.log (g.D.Device.cells c.args.device.now) (g.D.Device.cells c.ask_fitting.new.device)
-    (g.D.Device.spare c.ask_fitting.new.device) (g.D.Device.counts c.args.device.now) (g.D.Device.counts c.ask_fitting.new.device) c.ask_fitting.ensures.cells c.ask_fitting.ensures.counts
+    kept_there g.E.Deed.meaning c.args.layout (start g at) c.ask_whole.new.book c.ask_whole.new.log (g.D.Device.cells c.args.device.now) (g.D.Device.cells c.ask_whole.new.device)
+    (g.D.Device.spare c.ask_whole.new.device) (g.D.Device.counts c.args.device.now) (g.D.Device.counts c.ask_whole.new.device) c.ask_whole.ensures.cells c.ask_whole.ensures.counts
     (c.in-Ok.ensures.asked.stays (start g at) (subst (Told (faces_of (start g at) c.args.book.now c.args.lane) c.args.call) c.in-None.is (told g at)) c.requires.may c.requires.kept)
 
 pub returns-in-Ok-clause-accepts : goal.returns-in-Ok-clause-accepts
@@ -110,7 +116,8 @@ returns-in-Err-clause-refuses g c =
     record {
       why = subst (Told (faces_of (start g at) c.args.book.now c.args.lane) c.args.call) c.in-None.is (told g at);
       exact = tt;
-      face = lacks_face c.args.call c.args.book.now c.ask_fitting.new.book c.args.lane c.in-Err.ensures.lacks.face;
+      face = lacks_face c.args.call c.args.book.now c.ask_whole.new.book c.args.lane c.in-Err.ensures.lacks.face;
+      lane = lacking_lane c.args.call (lane_at c.args.book.now c.args.lane) (lane_at c.ask_whole.new.book c.args.lane) c.in-Err.ensures.leaves;
     }
 
 pub returns-in-Some-clause-beside : goal.returns-in-Some-clause-beside

@@ -10,6 +10,7 @@ use Rattle.txn_core.proofs.AskedWriting.{on_err_two}
 use Rattle.txn_core.proofs.AskedExactly.{quiet_may}
 use Rattle.txn_core.specs.Exact.{MayMake}
 use Rattle.std.specs.Prelude.{OnOk}
+use Rattle.lane_book.proofs.Asking.{on_err}
 use Rattle.txn_core.proofs.asking.ask_plainly.Goals as goal
 
 pub ask_quiet-requires-clause-quiet : goal.ask_quiet-requires-clause-quiet
@@ -65,24 +66,33 @@ returns-in-Checkpoint-clause-lacks g c = on_err_two c.ask_quiet-in-Checkpoint.re
 
 pub returns-in-Begin-clause-owes : goal.returns-in-Begin-clause-owes
 returns-in-Begin-clause-owes g c = on_ok c.ask_quiet.result
-    (quiet_may c.args.layout c.args.log.now c.args.call.now c.args.book.now c.ask_quiet.new.book c.args.lane) c.ask_quiet.ensures.owes
+    (quiet_may c.args.layout c.args.call.now c.args.book.now c.ask_quiet.new.book c.args.lane) c.ask_quiet.ensures.owes
 
 pub returns-in-Read-clause-owes : goal.returns-in-Read-clause-owes
 returns-in-Read-clause-owes g c = on_ok c.ask_quiet-in-Read.result
-    (quiet_may c.args.layout c.args.log.now c.args.call.now c.args.book.now c.ask_quiet-in-Read.new.book c.args.lane) c.ask_quiet-in-Read.ensures.owes
+    (quiet_may c.args.layout c.args.call.now c.args.book.now c.ask_quiet-in-Read.new.book c.args.lane) c.ask_quiet-in-Read.ensures.owes
 
 pub returns-in-Checkpoint-clause-owes : goal.returns-in-Checkpoint-clause-owes
 returns-in-Checkpoint-clause-owes g c = on_ok c.ask_quiet-in-Checkpoint.result
-    (quiet_may c.args.layout c.args.log.now c.args.call.now c.args.book.now c.ask_quiet-in-Checkpoint.new.book c.args.lane) c.ask_quiet-in-Checkpoint.ensures.owes
+    (quiet_may c.args.layout c.args.call.now c.args.book.now c.ask_quiet-in-Checkpoint.new.book c.args.lane) c.ask_quiet-in-Checkpoint.ensures.owes
 
 pub returns-in-Write-clause-owes : goal.returns-in-Write-clause-owes
-returns-in-Write-clause-owes g c = subst (λ call. OnOk c.ask_write.result (MayMake c.args.layout c.args.log.now call c.args.book.now c.ask_write.new.book c.args.lane)) (sym c.in-Write.is) c.ask_write.ensures.owes
+returns-in-Write-clause-owes g c = subst (λ call. OnOk c.ask_write.result (MayMake c.args.layout call c.args.book.now c.ask_write.new.book c.args.lane)) (sym c.in-Write.is) c.ask_write.ensures.owes
 
 pub returns-in-Abort-clause-owes : goal.returns-in-Abort-clause-owes
-returns-in-Abort-clause-owes g c = subst (λ call. OnOk c.ask_abort.result (MayMake c.args.layout c.args.log.now call c.args.book.now c.ask_abort.new.book c.args.lane)) (sym c.in-Abort.is) c.ask_abort.ensures.owes
+returns-in-Abort-clause-owes g c = subst (λ call. OnOk c.ask_abort.result (MayMake c.args.layout call c.args.book.now c.ask_abort.new.book c.args.lane)) (sym c.in-Abort.is) c.ask_abort.ensures.owes
 
 pub returns-in-Abort-clause-asked : goal.returns-in-Abort-clause-asked
 returns-in-Abort-clause-asked g c =
     subst (λ call. OnOk c.ask_abort.result (IsAsked g.E.Deed.meaning c.args.layout call c.args.book.now c.ask_abort.new.book c.args.log.now c.ask_abort.new.log
     (g.D.Device.cells c.args.device.now) (g.D.Device.spare c.args.device.now) (g.D.Device.spare c.ask_abort.new.device) (g.D.Device.counts c.args.device.now) c.args.lane)) (sym c.in-Abort.is)
     (on_ok_two c.ask_abort.result (λ face stays. record { stays = stays; face = face; phased = c.ask_abort.ensures.phased }) c.ask_abort.ensures.face c.ask_abort.ensures.stays)
+
+pub returns-in-Begin-clause-unasked : goal.returns-in-Begin-clause-unasked
+returns-in-Begin-clause-unasked g c = on_err c.ask_quiet.result (λ quiet. quiet c.args.log.now (g.D.Device.spare c.args.device.now)) c.ask_quiet.ensures.unasked
+
+pub returns-in-Read-clause-unasked : goal.returns-in-Read-clause-unasked
+returns-in-Read-clause-unasked g c = on_err c.ask_quiet-in-Read.result (λ quiet. quiet c.args.log.now (g.D.Device.spare c.args.device.now)) c.ask_quiet-in-Read.ensures.unasked
+
+pub returns-in-Checkpoint-clause-unasked : goal.returns-in-Checkpoint-clause-unasked
+returns-in-Checkpoint-clause-unasked g c = on_err c.ask_quiet-in-Checkpoint.result (λ quiet. quiet c.args.log.now (g.D.Device.spare c.args.device.now)) c.ask_quiet-in-Checkpoint.ensures.unasked

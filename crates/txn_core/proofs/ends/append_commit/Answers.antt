@@ -8,6 +8,8 @@ use Rattle.lane_book.specs.Steps.{HasEntry}
 use Rattle.txn_state.specs.Stages.{Ending, is_commit}
 use Rattle.txn_state.specs.AppendLaws.{IsNextCell}
 use Rattle.txn_state.specs.ReadLaws.{appends_in, makes_events}
+use Rattle.txn_core.proofs.EndedLanes.{ending_recorded}
+use Rattle.txn_core.proofs.Appended.{paid_calling, stored_is_paid, whole_is_paid}
 use Rattle.txn_core.proofs.Calling.{is_calling}
 use Rattle.txn_core.proofs.Facts.{IsRead, is_book, slots_are, can_begin, runs_behind, owes_event}
 use Rattle.txn_core.proofs.Reading.{read_of}
@@ -15,13 +17,13 @@ use Rattle.txn_core.proofs.Exits.{append_answered}
 use Rattle.txn_core.proofs.Paying.{IsPaid}
 use Rattle.txn_core.proofs.QuietFacts.{few_commits, has_entry, has_place}
 use Rattle.txn_core.proofs.Stagings.{unjoined, commit_calls}
-use Rattle.txn_core.proofs.EndedLanes.{next_end, calls_on, commits_on, entry_on, few_on, place_on, may_end, stored_pays, whole_pays}
+use Rattle.txn_core.proofs.EndedLanes.{next_end, commits_on, entry_on, few_on, place_on, may_end}
 use Rattle.txn_core.proofs.EndedStores.{ends_open, end_is_stored}
 use Rattle.txn_core.proofs.EndedWhole.{has_records_room, end_slot, closing_turned, commit_settles}
 use Rattle.txn_core.proofs.ends.append_commit.Goals as goal
 use Rattle.txn_core.proofs.ends.append_commit.Goals.{After-end_cell-cell, In-Whole}
 use Rattle.txn_core.proofs.ExactParts.{append_answered_exactly, append_stored_paid, append_whole_paid, paid_moves}
-use Rattle.txn_core.proofs.ExactJoins.{commit_joins, ending_recorded}
+use Rattle.txn_core.proofs.ExactJoins.{commit_joins}
 
 -- the device's laws
 read : (g : _) (c : After-end_cell-cell g) → IsRead (g.D.Look.words c.args.device.now) (g.D.Device.cells c.args.device.now) (g.D.Device.counts c.args.device.now)
@@ -50,8 +52,8 @@ pub append-requires-clause-book : goal.append-requires-clause-book
 append-requires-clause-book g c = is_book _ _ _ _ _ _ (g.D.Device.counts c.args.device.now) c.requires.world
 
 pub end_stored-requires-clause-lane : goal.end_stored-requires-clause-lane
-end_stored-requires-clause-lane g c = calls_on c.args.book.now c.append.new.book c.args.lane
-    (stored_pays g.E.Deed.meaning c.args.layout c.args.book.now c.append.new.book c.args.log.now c.append.new.log _ _ _ _ _
+end_stored-requires-clause-lane g c = paid_calling c.args.book.now c.append.new.book c.args.lane
+    (stored_is_paid g.E.Deed.meaning c.args.layout c.args.book.now c.append.new.book c.args.log.now c.append.new.log _ _ _ _ _
     (g.D.Device.counts c.args.device.now) (g.D.Device.counts c.append.new.device) c.args.lane _ c.requires.lane _ c.in-Stored.ensures.appends)
     (is_calling _ _ _ _ _ _ (g.D.Device.counts c.args.device.now) c.args.lane (ap makes_events c.requires.stage) c.requires.world) c.append.ensures.book
 
@@ -59,7 +61,7 @@ pub end_stored-requires-clause-end : goal.end_stored-requires-clause-end
 end_stored-requires-clause-end g c =
     let at = goal.at.end_stored-requires-clause-end g c in
     may_end c.args.book.now c.append.new.book c.args.lane
-    (stored_pays g.E.Deed.meaning c.args.layout c.args.book.now c.append.new.book c.args.log.now c.append.new.log _ _ _ _ _
+    (stored_is_paid g.E.Deed.meaning c.args.layout c.args.book.now c.append.new.book c.args.log.now c.append.new.log _ _ _ _ _
     (g.D.Device.counts c.args.device.now) (g.D.Device.counts c.append.new.device) c.args.lane _ c.requires.lane _ c.in-Stored.ensures.appends)
     Doing.Commit c.requires.doing refl
     (ends_open g.E.Deed.meaning c.args.layout c.args.book.now c.append.new.book c.args.log.now c.append.new.log _ _ _ _ _ (g.D.Device.counts c.args.device.now)
@@ -85,7 +87,7 @@ begin_closing-requires-clause-room g c =
 
 -- the lane that has its entry, behind the payment
 joining : (g : _) (c : In-Whole g) → IsPaid c.args.book.now c.append.new.book c.args.lane
-joining g c = whole_pays g.E.Deed.meaning c.args.layout c.args.book.now c.append.new.book c.args.log.now c.append.new.log _ _ _ _ _
+joining g c = whole_is_paid g.E.Deed.meaning c.args.layout c.args.book.now c.append.new.book c.args.log.now c.append.new.log _ _ _ _ _
     (g.D.Device.counts c.args.device.now) (g.D.Device.counts c.append.new.device) c.args.lane _
     c.requires.lane c.in-Whole.ensures.appends
 

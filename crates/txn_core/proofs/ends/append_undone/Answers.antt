@@ -7,11 +7,12 @@ use Rattle.lane_book.proofs.Faces.{lane_read}
 use Rattle.txn_state.specs.Stages.{is_commit}
 use Rattle.txn_state.specs.AppendLaws.{IsNextCell}
 use Rattle.txn_state.specs.ReadLaws.{appends_in, makes_events}
+use Rattle.txn_core.proofs.Appended.{paid_calling, stored_is_paid, whole_is_paid}
 use Rattle.txn_core.proofs.Calling.{is_calling}
 use Rattle.txn_core.proofs.Facts.{IsRead, is_book, slots_are, can_begin, runs_behind, owes_event}
 use Rattle.txn_core.proofs.Reading.{read_of}
 use Rattle.txn_core.proofs.Exits.{append_answered}
-use Rattle.txn_core.proofs.EndedLanes.{next_end, calls_on, may_end, stored_pays, whole_pays}
+use Rattle.txn_core.proofs.EndedLanes.{next_end, may_end}
 use Rattle.txn_core.proofs.EndedStores.{ends_open, end_is_stored}
 use Rattle.txn_core.proofs.EndedWhole.{has_records_room, end_slot, closing_turned, undone_settles}
 use Rattle.txn_core.proofs.ends.append_undone.Goals as goal
@@ -48,8 +49,8 @@ pub append-requires-clause-book : goal.append-requires-clause-book
 append-requires-clause-book g c = is_book _ _ _ _ _ _ (g.D.Device.counts c.args.device.now) c.requires.world
 
 pub end_stored-requires-clause-lane : goal.end_stored-requires-clause-lane
-end_stored-requires-clause-lane g c = calls_on c.args.book.now c.append.new.book c.args.lane
-    (stored_pays g.E.Deed.meaning c.args.layout c.args.book.now c.append.new.book c.args.log.now c.append.new.log _ _ _ _ _
+end_stored-requires-clause-lane g c = paid_calling c.args.book.now c.append.new.book c.args.lane
+    (stored_is_paid g.E.Deed.meaning c.args.layout c.args.book.now c.append.new.book c.args.log.now c.append.new.log _ _ _ _ _
     (g.D.Device.counts c.args.device.now) (g.D.Device.counts c.append.new.device) c.args.lane _ c.requires.lane _ c.in-Stored.ensures.appends)
     (is_calling _ _ _ _ _ _ (g.D.Device.counts c.args.device.now) c.args.lane (ap makes_events c.requires.stage) c.requires.world) c.append.ensures.book
 
@@ -57,7 +58,7 @@ pub end_stored-requires-clause-end : goal.end_stored-requires-clause-end
 end_stored-requires-clause-end g c =
     let at = goal.at.end_stored-requires-clause-end g c in
     may_end c.args.book.now c.append.new.book c.args.lane
-    (stored_pays g.E.Deed.meaning c.args.layout c.args.book.now c.append.new.book c.args.log.now c.append.new.log _ _ _ _ _
+    (stored_is_paid g.E.Deed.meaning c.args.layout c.args.book.now c.append.new.book c.args.log.now c.append.new.log _ _ _ _ _
     (g.D.Device.counts c.args.device.now) (g.D.Device.counts c.append.new.device) c.args.lane _ c.requires.lane _ c.in-Stored.ensures.appends)
     Doing.Abort c.requires.doing refl
     (ends_open g.E.Deed.meaning c.args.layout c.args.book.now c.append.new.book c.args.log.now c.append.new.log _ _ _ _ _ (g.D.Device.counts c.args.device.now)
@@ -82,8 +83,8 @@ begin_closing-requires-clause-room g c =
     c.in-Whole.ensures.appends
 
 pub go_on-requires : goal.go_on-requires
-go_on-requires g c = calls_on c.args.book.now c.append.new.book c.args.lane
-    (whole_pays g.E.Deed.meaning c.args.layout c.args.book.now c.append.new.book c.args.log.now c.append.new.log _ _ _ _ _ (g.D.Device.counts c.args.device.now)
+go_on-requires g c = paid_calling c.args.book.now c.append.new.book c.args.lane
+    (whole_is_paid g.E.Deed.meaning c.args.layout c.args.book.now c.append.new.book c.args.log.now c.append.new.log _ _ _ _ _ (g.D.Device.counts c.args.device.now)
     (g.D.Device.counts c.append.new.device) c.args.lane _ c.requires.lane c.in-Whole.ensures.appends)
     (is_calling _ _ _ _ _ _ (g.D.Device.counts c.args.device.now) c.args.lane (ap makes_events c.requires.stage) c.requires.world) c.append.ensures.book
 

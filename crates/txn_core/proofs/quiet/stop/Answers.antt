@@ -1,7 +1,9 @@
 use Rattle.txn_core.proofs.Facts.{is_book}
 use Rattle.txn_core.proofs.QuietSteps.{stops}
 use Rattle.txn_core.proofs.quiet.stop.Goals as goal
-use Rattle.std.proofs.Common.{refl, None}
+use Rattle.std.proofs.Common.{ap, refl, None}
+use Rattle.lane_book.specs.declared.book.Book.{Book}
+use Rattle.txn_core.proofs.WorldLatches.{stopped_begun}
 use Rattle.lane_book.specs.FacesOf.{lane_at}
 use Rattle.txn_core.proofs.Paying.{goes_stopped}
 use Rattle.lane_book.specs.Lanes.{noted}
@@ -18,3 +20,6 @@ returns-clause-steps g c = stops g.E.Deed.meaning c.args.layout c.args.book.now 
 pub returns-clause-exact : goal.returns-clause-exact
 returns-clause-exact g c = stop_exactly c.args.layout c.args.book.now c.stop.new.self c.args.log.now (g.D.Device.counts c.args.device.now) c.args.lane (noted Stepped.Stopped (lane_at c.args.book.now c.args.lane)) _
     c.stop.ensures.result c.requires.stopped (goes_stopped c.args.book.now c.stop.new.self c.args.lane (noted Stepped.Stopped (lane_at c.args.book.now c.args.lane)) None c.requires.lane c.stop.ensures.is) refl refl
+
+pub returns-clause-begins : goal.returns-clause-begins
+returns-clause-begins g c = stopped_begun c.args.layout c.stop.new.self c.args.log.now (ap (λ (b : Book _). b.stopped) c.stop.ensures.is)

@@ -2,12 +2,13 @@ use Rattle.std.proofs.Common.{ap, inl, refl}
 use Rattle.lane_book.specs.FacesOf.{lane_at}
 use Rattle.txn_state.specs.AppendLaws.{IsNextCell}
 use Rattle.txn_state.specs.ReadLaws.{appends_in, makes_events}
+use Rattle.txn_core.proofs.Appended.{paid_calling, stored_is_paid, whole_is_paid, slot_behind_append, rests_behind_append}
 use Rattle.txn_core.proofs.Facts.{IsRead, few_lanes, is_book, slots_are, can_begin, runs_behind, owes_event}
 use Rattle.txn_core.proofs.Calling.{is_calling}
 use Rattle.txn_core.proofs.Exits.{append_answered}
 use Rattle.txn_core.proofs.Reading.{read_of}
 use Rattle.txn_core.proofs.WritingWords.{next_cell, word_below}
-use Rattle.txn_core.proofs.WritingUpdates.{stored_is_paid, whole_is_paid, paid_is_calling, can_update, update_stored, slot_behind_append, rests_behind_append, update_settled}
+use Rattle.txn_core.proofs.WritingUpdates.{can_update, update_stored, update_settled}
 use Rattle.txn_core.proofs.writes.append_update.Goals as goal
 use Rattle.txn_core.proofs.writes.append_update.Goals.{After-write_cell-cell}
 use Rattle.txn_core.proofs.ExactParts.{append_answered_exactly, append_stored_paid, append_whole_paid, paid_moves}
@@ -19,11 +20,11 @@ reads g c = read_of _ _ (g.D.Device.counts c.args.device.now) (g.met.D.Device.re
 
 -- and the cell that comes next
 next : (g : _) (c : After-write_cell-cell g) → IsNextCell (g.D.Device.cells c.args.device.now) (lane_at c.args.book.now c.args.lane) c.write_cell-cell.result
-next g c = next_cell _ _ _ _ _ _ (g.D.Device.counts c.args.device.now) c.args.lane c.args.a c.args.v c.requires.world c.requires.doing c.write_cell-cell.result c.requires.stage c.write_cell-cell.ensures
+next g c = next_cell _ _ _ _ _ _ (g.D.Device.counts c.args.device.now) c.args.lane c.args.a c.args.v c.requires.lane c.requires.world c.requires.puts c.write_cell-cell.result c.requires.stage c.write_cell-cell.ensures
 
 pub write_cell-cell-requires-clause-word : goal.write_cell-cell-requires-clause-word
 write_cell-cell-requires-clause-word g c =
-    word_below _ _ _ _ _ _ (g.D.Device.counts c.args.device.now) c.args.lane c.args.a c.args.v c.requires.world c.requires.doing c.requires.lane (inl c.requires.stage)
+    word_below _ _ _ _ _ _ (g.D.Device.counts c.args.device.now) c.args.lane c.args.a c.args.v c.requires.lane c.requires.world c.requires.puts (inl c.requires.stage)
 
 pub append-requires-clause-few : goal.append-requires-clause-few
 append-requires-clause-few g c = few_lanes _ _ _ _ _ _ (g.D.Device.counts c.args.device.now) c.requires.world
@@ -46,7 +47,7 @@ pub append-requires-clause-book : goal.append-requires-clause-book
 append-requires-clause-book g c = is_book _ _ _ _ _ _ (g.D.Device.counts c.args.device.now) c.requires.world
 
 pub update_stored-requires-clause-lane : goal.update_stored-requires-clause-lane
-update_stored-requires-clause-lane g c = paid_is_calling c.args.book.now c.append.new.book c.args.lane
+update_stored-requires-clause-lane g c = paid_calling c.args.book.now c.append.new.book c.args.lane
     (stored_is_paid g.E.Deed.meaning c.args.layout c.args.book.now c.append.new.book c.args.log.now c.append.new.log _ _ _ _ _ (g.D.Device.counts c.args.device.now) (g.D.Device.counts c.append.new.device)
     c.args.lane _ c.requires.lane _ c.in-Stored.ensures.appends)
     (is_calling _ _ _ _ _ _ (g.D.Device.counts c.args.device.now) c.args.lane (ap makes_events c.requires.stage) c.requires.world) c.append.ensures.book
@@ -56,7 +57,7 @@ update_stored-requires-clause-update g c =
     let place = (goal.at.update_stored-requires-clause-update g c).After-write_cell-cell in
     can_update g.E.Deed.meaning c.args.layout c.args.book.now c.append.new.book c.args.log.now c.append.new.log _ _ _ _ _ (g.D.Device.counts c.args.device.now) (g.D.Device.counts c.append.new.device) c.args.lane _
     (reads g place) c.requires.lane c.requires.stage (next g place)
-    c.args.a c.args.v c.requires.world c.requires.doing _ c.in-Stored.ensures.appends
+    c.args.a c.args.v c.requires.world c.requires.puts _ c.in-Stored.ensures.appends
 
 pub release_latch-requires-clause-slot : goal.release_latch-requires-clause-slot
 release_latch-requires-clause-slot g c =
@@ -69,7 +70,7 @@ release_latch-requires-clause-rests g c =
     c.requires.lane c.in-Whole.ensures.appends
 
 pub go_on-requires : goal.go_on-requires
-go_on-requires g c = paid_is_calling c.args.book.now c.append.new.book c.args.lane
+go_on-requires g c = paid_calling c.args.book.now c.append.new.book c.args.lane
     (whole_is_paid g.E.Deed.meaning c.args.layout c.args.book.now c.append.new.book c.args.log.now c.append.new.log _ _ _ _ _ (g.D.Device.counts c.args.device.now) (g.D.Device.counts c.append.new.device)
     c.args.lane _ c.requires.lane c.in-Whole.ensures.appends)
     (is_calling _ _ _ _ _ _ (g.D.Device.counts c.args.device.now) c.args.lane (ap makes_events c.requires.stage) c.requires.world) c.append.ensures.book

@@ -6,7 +6,7 @@ use Rattle.txn_core.proofs.Calling.{is_calling}
 use Rattle.txn_core.proofs.Ending.{made_pays, made_stops}
 use Rattle.txn_core.proofs.Reading.{read_of}
 use Rattle.txn_core.specs.Making.{changed_word}
-use Rattle.txn_core.proofs.WritingWords.{word_below, word_inside, word_read}
+use Rattle.txn_core.proofs.WritingWords.{word_below, word_inside, word_read, writes_it}
 use Rattle.txn_core.proofs.WritingStores.{few_stored, paid_is_doing, few_paid, word_stored}
 use Rattle.txn_core.proofs.writes.store_word.Goals as goal
 use Rattle.txn_core.proofs.Exactly.{unblocked_own}
@@ -14,14 +14,14 @@ use Rattle.txn_core.proofs.ExactParts.{make_paid, make_stops, paid_answers}
 
 pub changed-touched-requires : goal.changed-touched-requires
 changed-touched-requires g c = word_inside _ (g.D.Device.cells c.args.device.now) c.args.a (g.met.D.Device.reads c.args.device.now)
-    (word_below _ _ _ _ _ _ (g.D.Device.counts c.args.device.now) c.args.lane c.args.a c.args.v c.requires.world c.requires.doing c.requires.lane (inr c.requires.stage))
+    (word_below _ _ _ _ _ _ (g.D.Device.counts c.args.device.now) c.args.lane c.args.a c.args.v c.requires.lane c.requires.world (writes_it c.args.layout _ c.args.a c.args.v c.requires.doing) (inr c.requires.stage))
 
 pub make-requires-clause-few : goal.make-requires-clause-few
 make-requires-clause-few g c = few_lanes _ _ _ _ _ _ (g.D.Device.counts c.args.device.now) c.requires.world
 
 pub make-requires-clause-address : goal.make-requires-clause-address
 make-requires-clause-address g c =
-    word_below _ _ _ _ _ _ (g.D.Device.counts c.args.device.now) c.args.lane c.args.a c.args.v c.requires.world c.requires.doing c.requires.lane (inr c.requires.stage)
+    word_below _ _ _ _ _ _ (g.D.Device.counts c.args.device.now) c.args.lane c.args.a c.args.v c.requires.lane c.requires.world (writes_it c.args.layout _ c.args.a c.args.v c.requires.doing) (inr c.requires.stage)
 
 pub make-requires-clause-owed : goal.make-requires-clause-owed
 make-requires-clause-owed g c = (owes_event _ _ _ _ _ _ (g.D.Device.counts c.args.device.now) c.args.lane c.requires.lane (ap makes_events c.requires.stage) c.requires.world).0
@@ -56,7 +56,7 @@ returns-in-Made-clause-steps g c =
     (is_calling _ _ _ _ _ _ (g.D.Device.counts c.args.device.now) c.args.lane (ap makes_events c.requires.stage) c.requires.world) c.requires.doing c.make.ensures.book)
     c.written.ensures.is c.written.result c.written.ensures.result c.requires.world c.written.ensures.book c.in-Made.ensures.makes c.written.ensures.step
     (c.changed-touched.ensures ∙ ap (λ n. changed_word n c.args.v c.args.a) (word_read _ (g.D.Device.cells c.args.device.now) c.args.a (g.met.D.Device.reads c.args.device.now)
-    (word_below _ _ _ _ _ _ (g.D.Device.counts c.args.device.now) c.args.lane c.args.a c.args.v c.requires.world c.requires.doing c.requires.lane (inr c.requires.stage))))
+    (word_below _ _ _ _ _ _ (g.D.Device.counts c.args.device.now) c.args.lane c.args.a c.args.v c.requires.lane c.requires.world (writes_it c.args.layout _ c.args.a c.args.v c.requires.doing) (inr c.requires.stage))))
 
 pub returns-in-Stopped-clause-exact : goal.returns-in-Stopped-clause-exact
 returns-in-Stopped-clause-exact g c = make_stops c.args.layout c.args.book.now c.make.new.book c.stop.new.self c.args.log.now _ _ _ (g.D.Device.counts c.args.device.now) (g.D.Device.counts c.make.new.device) _ _ c.args.lane _ c.stop.ensures.result c.requires.lane

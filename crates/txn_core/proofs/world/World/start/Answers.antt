@@ -3,6 +3,7 @@ use Rattle.txn_core.proofs.Phasing.{fresh_phased}
 use Rattle.txn_core.proofs.Reading.{read_of}
 use Rattle.txn_core.proofs.WorldBegun.{kept_begun}
 use Rattle.txn_core.proofs.WorldImages.{fresh_is_new}
+use Rattle.txn_core.proofs.WorldLatches.{fresh_begun}
 use Rattle.txn_core.proofs.world.World.start.Goals as goal
 
 pub invariant_of-result : goal.invariant_of-result
@@ -17,6 +18,7 @@ invariant_of-result g c =
       phased = phased;
       agreed = agreement g.E.Deed.meaning c.in-Ok-start.field-0.layout _ _ _ (g.D.Look.words device) (g.D.Device.cells device) (g.D.Device.spare device) (g.D.Device.counts device)
           (read_of _ _ (g.D.Device.counts device) (g.met.D.Device.reads device) (g.met.D.Device.full device) (g.met.D.Device.within device) (g.met.D.Device.budget_fits device)) phased kept;
+      begins = fresh_begun c.in-Ok-start.field-0.layout c.in-Ok-start.field-0.book c.in-Ok-start.field-0.log c.in-Ok-start.ensures.starts.prepared.fresh.idle;
       none_put = c.in-Ok.ensures.none;
       room = c.in-Ok.ensures.room;
     }

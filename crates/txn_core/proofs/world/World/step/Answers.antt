@@ -16,6 +16,7 @@ invariant_of-self g c = record {
       (g.D.Device.counts c.step.new.device)
       (read_of _ _ (g.D.Device.counts c.step.new.device) (g.met.D.Device.reads c.step.new.device) (g.met.D.Device.full c.step.new.device) (g.met.D.Device.within c.step.new.device)
       (g.met.D.Device.budget_fits c.step.new.device)) (c.step.ensures.steps.phased c.args.self.now.phased) (c.step.ensures.steps.stays _ c.args.self.now.kept);
+  begins = c.step.ensures.begins c.args.self.now.begins;
   none_put = c.args.self.now.none_put;
   room = c.args.self.now.room;
 }
