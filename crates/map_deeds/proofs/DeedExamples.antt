@@ -24,7 +24,7 @@ alone v b other e = grind (arith, nat_tests, e)
 cell_else : (v key : ℕ) → key ≢ 3 → words_of (small v) (36 + key) ≡ 0
 cell_else v key other = grind (arith, nat_tests)
 
-none_else : (t : Bool) (x : ℕ) → x ≡ 0 → None ≡ (if t then value_or_none x else None)
+pub none_else : (t : Bool) (x : ℕ) → x ≡ 0 → None ≡ (if t then value_or_none x else None)
 none_else true x e = ap value_or_none (sym e)
 none_else false x e = refl
 
@@ -57,7 +57,7 @@ deed got = record {
   steps = record { command = command.Put 0 3 7; got = None } ∷ record { command = command.Get 0 3; got = got } ∷ [];
 }
 
-first_only : (s : ℕ) → has_bit 1 s ≡ true → s ≡ 0
+pub first_only : (s : ℕ) → has_bit 1 s ≡ true → s ≡ 0
 first_only zero e = refl
 first_only (suc n) e =
     let great : 1 < 2 ^ suc n = omega (arith, pow_pos n, two-pow-succ n) in

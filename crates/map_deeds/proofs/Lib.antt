@@ -5,4 +5,4 @@ pub mod Carrying
 pub mod Reporting
 pub mod Beginning
 mod Examples
-mod DeedExamples
+pub mod DeedExamples
